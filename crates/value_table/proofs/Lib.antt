@@ -1,0 +1,2 @@
+-- The laws behind the promises; a folder for each function's proof.
+pub mod Number

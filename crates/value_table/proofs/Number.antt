@@ -1,0 +1,39 @@
+-- Laws of numbers in bytes, over the width.
+use mathlib.Core.Path.{_≡_, refl, ap}
+use mathlib.Core.List.{List, [], _∷_, _++_}
+use Prim.Native.Nat.{ℕ, zero, suc, _+_, _*_, _/_, _%_, _^_, _<_, _≤_}
+use native.Mathlib.Nat.{pow-suc}
+use native.Mathlib.Numerals.{add-one}
+use native.Mathlib.Omega.{arith}
+use lib.Dec.{lit<}
+use lib.ListN.{length, take, drop, getD}
+use lib.Seq.{drop-cons}
+use Rattle.value_table.specs.Number.{bytesOf, numberOf, numberAt, Bytes}
+
+pub length-bytesOf : (w n : ℕ) → length (bytesOf w n) ≡ w
+unfolding bytesOf
+length-bytesOf zero n = refl
+length-bytesOf (suc w) n = ap suc (length-bytesOf w (n / 256))
+
+pub numberOf-bytesOf : (w n : ℕ) → n < 256 ^ w → numberOf (bytesOf w n) ≡ n
+unfolding bytesOf numberOf
+numberOf-bytesOf zero n h = omega arith
+numberOf-bytesOf (suc w) n h = omega (arith, numberOf-bytesOf w (n / 256) (omega arith), pow-suc 256 w)
+
+pub numberOf-below : (xs : List ℕ) → Bytes xs → numberOf xs < 256 ^ length xs
+unfolding numberOf
+numberOf-below [] h = lit< tt
+numberOf-below (x ∷ xs) h = omega (arith, h 0, numberOf-below xs (λ p. h (suc p)), pow-suc 256 (length xs))
+
+pub bytesOf-numberOf : (xs : List ℕ) → Bytes xs → bytesOf (length xs) (numberOf xs) ≡ xs
+unfolding bytesOf numberOf
+bytesOf-numberOf [] h = refl
+bytesOf-numberOf (x ∷ xs) h =
+    let low : (x + 256 * numberOf xs) % 256 ≡ x = omega (arith, h 0) in
+    let high : (x + 256 * numberOf xs) / 256 ≡ numberOf xs = omega (arith, h 0) in
+    rw (low, high) (ap (λ ys. x ∷ ys) (bytesOf-numberOf xs (λ p. h (suc p))))
+
+-- a number of one byte more, from its lowest byte
+pub numberAt-suc : (w : ℕ) (b : List ℕ) (p : ℕ) → p < length b → numberAt (suc w) b p ≡ getD b p 0 + 256 * numberAt w b (p + 1)
+unfolding numberAt numberOf
+numberAt-suc w b p h = rw (add-one, drop-cons b p 0) refl

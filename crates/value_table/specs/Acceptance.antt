@@ -1,0 +1,24 @@
+-- What the lower library promises the upper one, and nothing else: call 1 accepts exactly the encodings of valid messages.
+use mathlib.Core.Path.{_≡_}
+use mathlib.Core.Logic.{_↔_}
+use mathlib.Core.List.{List}
+use Prim.Native.Nat.{ℕ, _*_, _≤_}
+use Rattle.value_table.specs.Number.{Bytes}
+use Rattle.value_table.specs.Value.{Values, Valid, encode, size, count, recordSize, maxLength}
+use Rattle.value_table.specs.Outcome.{accepted}
+use Rattle.value_table.specs.Judged.{judged, messages}
+
+-- b is the table of n valid messages ms
+pub record Table (b : List ℕ) (ms : Values) (n : ℕ) : Type 0 where
+  pub bytes : b ≡ encode ms
+  pub valid : Valid ms
+  pub room : recordSize * size ms ≤ maxLength
+  pub counted : n ≡ count ms
+
+-- accepted with n messages exactly when b is the table of its n messages
+abbrev pub Accepts : Type 0
+Accepts = (b : List ℕ) (n : ℕ) → Bytes b → (judged b ≡ accepted n) ↔ Table b (messages b) n
+
+-- a table has no other messages
+abbrev pub Unique : Type 0
+Unique = (b : List ℕ) (ms : Values) (n : ℕ) → Table b ms n → ms ≡ messages b

@@ -1,0 +1,102 @@
+-- 'Value table' of document 01: the record layout, and the values that a table holds.
+use mathlib.Core.Path.{_≡_}
+use mathlib.Core.Bool.{Bool, true, false, _||_}
+use mathlib.Core.List.{List, [], _∷_, _++_}
+use Prim.Native.Nat.{ℕ, suc, _+_, _*_, _/_, _≤_, _<_}
+use lib.ListN.{length, getD}
+use lib.Dec.{eqb}
+use Rattle.value_table.specs.Number.{bytesOf, numberAt}
+
+-- bytes of a value record, the most bytes of a table, and the largest depth
+abbrev pub recordSize : ℕ
+recordSize = 8
+
+abbrev pub maxLength : ℕ
+maxLength = 65536
+
+abbrev pub maxDepth : ℕ
+maxDepth = 32
+
+-- the two kinds that have content, and the last of the scalar kinds, which have none
+abbrev pub recordKind : ℕ
+recordKind = 5
+
+abbrev pub arrayKind : ℕ
+arrayKind = 6
+
+abbrev pub lastScalar : ℕ
+lastScalar = 4
+
+-- how many value records b has, and the fields of record i
+abbrev pub records : List ℕ → ℕ
+records b = length b / recordSize
+
+unfoldable pub kindAt : List ℕ → ℕ → ℕ
+kindAt b i = getD b (recordSize * i) 0
+
+unfoldable pub zeroAt : List ℕ → ℕ → ℕ
+zeroAt b i = getD b (recordSize * i + 1) 0
+
+unfoldable pub keyAt : List ℕ → ℕ → ℕ
+keyAt b i = numberAt 2 b (recordSize * i + 2)
+
+unfoldable pub spanAt : List ℕ → ℕ → ℕ
+spanAt b i = numberAt 4 b (recordSize * i + 4)
+
+unfoldable pub header : ℕ → ℕ → ℕ → List ℕ
+header kind key span = kind ∷ 0 ∷ (bytesOf 2 key ++ bytesOf 4 span)
+
+-- A run of values: messages, the fields of a record, or the elements of an array. The content of a value is such a run.
+pub data Values : Type 0 where
+  none : Values
+  value : (kind key : ℕ) (content next : Values) → Values
+
+-- the value records of a run
+unfoldable pub size : Values → ℕ
+size none = 0
+size (value kind key content next) = 1 + size content + size next
+
+-- the values of a run, without those inside them
+unfoldable pub count : Values → ℕ
+count none = 0
+count (value kind key content next) = 1 + count next
+
+unfoldable pub keys : Values → List ℕ
+keys none = []
+keys (value kind key content next) = key ∷ keys next
+
+-- in preorder: a value, then its fields or elements
+unfoldable pub encode : Values → List ℕ
+encode none = []
+encode (value kind key content next) = header kind key (1 + size content) ++ (encode content ++ encode next)
+
+unfoldable pub member : ℕ → List ℕ → Bool
+member k [] = false
+member k (x ∷ xs) = eqb k x || member k xs
+
+unfoldable pub Distinct : List ℕ → Type 0
+Distinct [] = Unit {0}
+Distinct (x ∷ xs) = (member x xs ≡ false) × Distinct xs
+
+-- the key of a field is 1 to 65,535, any other 0
+abbrev pub KeyFits : Bool → ℕ → Type 0
+KeyFits true key = (1 ≤ key) × (key < 65536)
+KeyFits false key = key ≡ 0
+
+-- What is asked of one value; `field` says whether it is the value of a record's field.
+pub record Proper (field : Bool) (depth kind key : ℕ) (content : Values) : Type 0 where
+  pub kind-low : 1 ≤ kind
+  pub kind-high : kind ≤ arrayKind
+  pub scalar : kind ≤ lastScalar → content ≡ none
+  pub keyed : KeyFits field key
+  pub distinct : kind ≡ recordKind → Distinct (keys content)
+  pub shallow : depth ≤ maxDepth
+
+unfoldable pub ValidAt : Bool → ℕ → Values → Type 0
+ValidAt field depth none = Unit {0}
+ValidAt field depth (value kind key content next) =
+    Proper field depth kind key content × ValidAt (eqb kind recordKind) (suc depth) content × ValidAt field depth next
+
+-- messages have depth 1 and are no fields
+abbrev pub Valid : Values → Type 0
+Valid messages = ValidAt false 1 messages
