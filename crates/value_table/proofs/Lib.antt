@@ -1,2 +1,3 @@
 -- The laws behind the promises; a folder for each function's proof.
 pub mod Number
+pub mod Header
