@@ -1,3 +1,5 @@
 -- The laws behind the promises; a folder for each function's proof.
 pub mod Number
 pub mod Header
+pub mod Tests
+pub mod Keys
