@@ -3,3 +3,4 @@ pub mod Number
 pub mod Header
 pub mod Tests
 pub mod Keys
+pub mod Fault
