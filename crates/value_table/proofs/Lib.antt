@@ -4,3 +4,4 @@ pub mod Header
 pub mod Tests
 pub mod Keys
 pub mod Fault
+pub mod Run
