@@ -5,9 +5,10 @@ use mathlib.Core.List.{List}
 use Prim.Native.Nat.{ℕ, suc, _+_, _≤_, _<_}
 use native.Mathlib.Omega.{arith}
 use lib.Dec.{eqb, leb, ltb}
+use lib.ListN.{length}
 use borrow.Author.Tests.{ltb-false, leb-true, eqb-true, eqb-false, not-false, le-ltb, le-leb, eq-eqb, ne-eqb}
-use Rattle.value_table.specs.Value.{kindAt, zeroAt, keyAt, spanAt, member, KeyFits, lastScalar, arrayKind, maxDepth}
-use Rattle.value_table.specs.Judged.{badKind, badSpan, badKey, repeated, tooDeep, fault}
+use Rattle.value_table.specs.Value.{records, kindAt, zeroAt, keyAt, spanAt, member, KeyFits, lastScalar, arrayKind, maxDepth}
+use Rattle.value_table.specs.Judged.{Open, endOf, inRecord, seen, badKind, badSpan, badKey, repeated, tooDeep, fault}
 use Rattle.value_table.proofs.Tests.{or-parts, and-parts, and-false}
 
 -- record i breaks no rule in a parent that ends at `end`, has had the keys `before`, and holds values at `depth`
@@ -21,6 +22,10 @@ pub record Faultless (b : List ℕ) (i end : ℕ) (field : Bool) (before : List 
   pub keyed : KeyFits field (keyAt b i)
   pub fresh : field ≡ true → member (keyAt b i) before ≡ false
   pub shallow : depth ≤ maxDepth
+
+-- the same inside the open values around record i
+abbrev pub FaultlessIn : List ℕ → ℕ → List Open → Type 0
+FaultlessIn b i around = Faultless b i (endOf (records b) around) (inRecord around) (seen around) (suc (length around))
 
 passed : (t : Bool) (k x : ℕ) → cond t (suc k) x ≡ 0 → (t ≡ false) × (x ≡ 0)
 passed true k x e = absurd (omega arith)

@@ -1,46 +1,53 @@
 -- Records that hold a run of values, and the step from a value to its content and to the values behind it.
 use mathlib.Core.Path.{_≡_, refl, ap, _∙_}
 use mathlib.Core.Bool.{Bool, true, false}
-use mathlib.Core.List.{List, [], _∷_, _++_, append-assoc}
-use Prim.Native.Nat.{ℕ, suc, _+_, _*_, _≤_, _<_}
+use mathlib.Core.List.{List, [], _∷_, _++_, append-assoc, append-nil}
+use Prim.Native.Nat.{ℕ, suc, _+_, _*_, _^_, _≤_, _<_}
 use native.Mathlib.Omega.{arith}
 use lib.Dec.{eqb}
 use lib.ListN.{length, drop, length-append, length-drop}
 use lib.Seq.{drop-drop, drop-at}
 use borrow.Author.Tests.{eq-eqb, eqb-true}
 use Rattle.value_table.specs.Number.{Bytes}
-use Rattle.value_table.specs.Value.{recordKind, maxLength, kindAt, keyAt, spanAt, header, Values, none, value, size, keys, encode, Distinct, KeyFits, ValidAt}
+use Rattle.value_table.specs.Value.{recordSize, recordKind, maxLength, kindAt, keyAt, spanAt, header, Values, none, value, size, keys, encode, Distinct, KeyFits, ValidAt}
 use Rattle.value_table.proofs.Header.{Fields, length-encode, header-read, header-written}
 use Rattle.value_table.proofs.Keys.{distinct-new}
 use Rattle.value_table.proofs.Fault.{Faultless}
 
 -- records i to end of b hold the run vs, valid at this depth behind fields or elements with the keys `before`
 pub record Run (b : List ℕ) (i end : ℕ) (field : Bool) (before : List ℕ) (depth : ℕ) (vs : Values) : Type 0 where
-  pub bytes : drop (8 * i) b ≡ encode vs ++ drop (8 * end) b
+  pub bytes : drop (recordSize * i) b ≡ encode vs ++ drop (recordSize * end) b
   pub ends : i + size vs ≡ end
   pub valid : ValidAt field depth vs
   pub distinct : field ≡ true → Distinct (before ++ keys vs)
 
-size-zero : (vs : Values) → size vs ≡ 0 → vs ≡ none
+pub size-zero : (vs : Values) → size vs ≡ 0 → vs ≡ none
 unfolding size
 size-zero none e = refl
 size-zero (value k y c s) e = absurd (omega arith)
+
+pub run-none : (b : List ℕ) (i end : ℕ) (field : Bool) (before : List ℕ) (depth : ℕ) →
+    i ≡ end → (field ≡ true → Distinct before) → Run b i end field before depth none
+unfolding encode size keys ValidAt
+run-none b i end field before depth e d =
+    record { bytes = rw e refl; ends = omega arith; valid = tt; distinct = λ h. rw append-nil (d h) }
 
 key-below : (field : Bool) (key : ℕ) → KeyFits field key → key < 65536
 key-below true key h = h .1
 key-below false key h = omega arith
 
--- record i is read as the value's own, and the records behind it hold the content c and then the run s
-pub record First (b : List ℕ) (i end : ℕ) (field : Bool) (before after : List ℕ) (depth kind key : ℕ) (c s : Values) : Type 0 where
-  pub kind-is : kindAt b i ≡ kind
-  pub key-is : keyAt b i ≡ key
+-- a run that is not empty: its first value is read at record i, and the records behind hold the content and then the other values
+pub record First (b : List ℕ) (i end : ℕ) (field : Bool) (before after : List ℕ) (depth : ℕ) (vs : Values) : Type 0 where
+  pub content : Values
+  pub next : Values
+  pub is-value : vs ≡ value (kindAt b i) (keyAt b i) content next
   pub faultless : Faultless b i end field before depth
-  pub content : Run b (i + 1) (i + spanAt b i) (eqb (kindAt b i) recordKind) [] (suc depth) c
-  pub next : Run b (i + spanAt b i) end field after depth s
+  pub in-content : Run b (i + 1) (i + spanAt b i) (eqb (kindAt b i) recordKind) [] (suc depth) content
+  pub in-next : Run b (i + spanAt b i) end field after depth next
 
 -- `after` is `before` with the key of record i, which matters in a record only
 module _ (b : List ℕ) (i end : ℕ) (field : Bool) (before after : List ℕ) (depth : ℕ) (grown : field ≡ true → after ≡ before ++ (keyAt b i ∷ [])) where
-  pub run-value : (c s : Values) → Bytes b → 8 * i + 8 ≤ length b → Faultless b i end field before depth →
+  pub run-value : (c s : Values) → Bytes b → recordSize * (i + 1) ≤ length b → Faultless b i end field before depth →
       Run b (i + 1) (i + spanAt b i) (eqb (kindAt b i) recordKind) [] (suc depth) c →
       Run b (i + spanAt b i) end field after depth s → Run b i end field before depth (value (kindAt b i) (keyAt b i) c s)
   unfolding encode size keys ValidAt
@@ -64,22 +71,23 @@ module _ (b : List ℕ) (i end : ℕ) (field : Bool) (before after : List ℕ) (
         distinct = λ h. rw (grown h, append-assoc) at (next .distinct h);
       }
 
-  pub run-first : (kind key : ℕ) (c s : Values) → length b ≤ maxLength →
-      Run b i end field before depth (value kind key c s) → First b i end field before after depth kind key c s
+  pub run-first : (vs : Values) → length b ≤ maxLength → i < end → Run b i end field before depth vs → First b i end field before after depth vs
   unfolding encode size keys ValidAt
-  run-first kind key c s short r =
-      let rest : List ℕ = encode c ++ (encode s ++ drop (8 * end) b) in
-      let e : drop (8 * i) b ≡ header kind key (1 + size c) ++ rest = r .bytes ∙ simp append-assoc in
-      let small : 1 + size c < 4294967296 = omega (arith, length-encode c, simp (length-append, length-drop) at (ap length e)) in
+  run-first none short some r = absurd (omega (arith, r .ends))
+  run-first (value kind key c s) short some r =
+      let last : List ℕ = encode s ++ drop (recordSize * end) b in
+      let rest : List ℕ = encode c ++ last in
+      let e : drop (recordSize * i) b ≡ header kind key (1 + size c) ++ rest = r .bytes ∙ simp append-assoc in
+      let small : 1 + size c < 2 ^ 32 = omega (arith, length-encode c, simp (length-append, length-drop) at (ap length e)) in
       let f : Fields b i kind 0 key (1 + size c) rest = header-read b i kind key (1 + size c) rest (key-below field key (r .valid .0 .keyed)) small e in
-      let p : 8 * (i + spanAt b i) ≡ 8 * (i + 1) + 8 * size c = omega (arith, f .span-is) in
-      let behind : drop (8 * (i + spanAt b i)) b ≡ encode s ++ drop (8 * end) b =
-      rw (p, ← drop-drop, f .rest-is) (drop-at (encode c) (encode s ++ drop (8 * end) b) (8 * size c) (length-encode c)) in
+      let p : recordSize * (i + spanAt b i) ≡ recordSize * (i + 1) + recordSize * size c = omega (arith, f .span-is) in
+      let behind : drop (recordSize * (i + spanAt b i)) b ≡ last = rw (p, ← drop-drop, f .rest-is) (drop-at (encode c) last (recordSize * size c) (length-encode c)) in
       let own : Run b i end field before depth (value (kindAt b i) (keyAt b i) c s) = rw (← (f .kind-is), ← (f .key-is)) at r in
       let proper = own .valid .0 in
       record {
-        kind-is = f .kind-is;
-        key-is = f .key-is;
+        content = c;
+        next = s;
+        is-value = rw (f .kind-is, f .key-is) refl;
         faultless =
             record {
               kind-low = proper .kind-low;
@@ -92,14 +100,14 @@ module _ (b : List ℕ) (i end : ℕ) (field : Bool) (before after : List ℕ) (
               fresh = λ h. distinct-new (keyAt b i) before (keys s) (own .distinct h);
               shallow = proper .shallow;
             };
-        content =
+        in-content =
             record {
               bytes = f .rest-is ∙ rw behind refl;
               ends = omega (arith, f .span-is);
               valid = own .valid .1;
               distinct = λ h. proper .distinct (eqb-true (kindAt b i) recordKind h);
             };
-        next =
+        in-next =
             record {
               bytes = behind;
               ends = omega (arith, f .span-is, r .ends);
