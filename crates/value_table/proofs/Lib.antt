@@ -5,3 +5,4 @@ pub mod Tests
 pub mod Keys
 pub mod Fault
 pub mod Run
+pub mod Decode
