@@ -6,3 +6,6 @@ pub mod Keys
 pub mod Fault
 pub mod Run
 pub mod Decode
+pub mod Nested
+pub mod Rest
+pub mod Walk
