@@ -9,3 +9,4 @@ pub mod Decode
 pub mod Nested
 pub mod Rest
 pub mod Walk
+pub mod Acceptance
