@@ -6,24 +6,16 @@ use mathlib.Core.List.{List, [], append-nil}
 use Prim.Native.Nat.{ℕ, _*_, _%_, _≤_}
 use native.Mathlib.Omega.{arith}
 use lib.ListN.{length, drop, drop-of-length-le}
-use borrow.Author.Tests.{eqb-true, ltb-false, eq-eqb, le-ltb, not-false}
 use Rattle.value_table.specs.Value.{maxLength, recordSize, records, Values, encode, size, count}
 use Rattle.value_table.specs.Outcome.{accepted, refused}
 use Rattle.value_table.specs.Judged.{badLength, walk, judged, messages}
 use Rattle.value_table.specs.Acceptance.{Table, Accepts, Unique}
-use Rattle.value_table.proofs.Tests.{or-parts}
+use Rattle.value_table.proofs.Fault.{length-fits}
 use Rattle.value_table.proofs.Header.{length-encode}
 use Rattle.value_table.proofs.Run.{Run}
 use Rattle.value_table.proofs.Decode.{decode-run}
 use Rattle.value_table.proofs.Rest.{Rest}
-use Rattle.value_table.proofs.Walk.{walked}
-
-length-fits : (n : ℕ) → (badLength n ≡ false) ↔ ((n % recordSize ≡ 0) × (n ≤ maxLength))
-unfolding badLength
-length-fits n = (
-  λ e. let p = or-parts _ _ e in (eqb-true (n % recordSize) 0 (not-false _ (p .0)), ltb-false maxLength n (p .1)),
-  λ h. rw (eq-eqb (n % recordSize) 0 (h .0), le-ltb maxLength n (h .1)) refl,
-)
+use Rattle.value_table.proofs.Walked.{walked}
 
 no-rest : (b : List ℕ) → length b % recordSize ≡ 0 → drop (recordSize * records b) b ≡ []
 no-rest b h = drop-of-length-le b {i = recordSize * records b} (omega arith)

@@ -8,5 +8,8 @@ pub mod Run
 pub mod Decode
 pub mod Nested
 pub mod Rest
-pub mod Walk
+pub mod Walked
+pub mod Siblings
+pub mod Levels
+pub mod Turns
 pub mod Acceptance

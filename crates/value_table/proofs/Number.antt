@@ -1,12 +1,12 @@
 -- Laws of numbers in bytes, over the width.
 use mathlib.Core.Path.{_≡_, refl, ap}
-use mathlib.Core.List.{List, [], _∷_, _++_}
+use mathlib.Core.List.{List, [], _∷_}
 use Prim.Native.Nat.{ℕ, zero, suc, _+_, _*_, _/_, _%_, _^_, _<_, _≤_}
-use native.Mathlib.Nat.{pow-suc}
+use native.Mathlib.Nat.{pow-suc, zero-add, add-zero, suc-add, one-mul, mul-comm, mul-assoc}
 use native.Mathlib.Numerals.{add-one}
 use native.Mathlib.Omega.{arith}
 use lib.Dec.{lit<}
-use lib.ListN.{length, take, drop, getD}
+use lib.ListN.{length, getD}
 use lib.Seq.{drop-cons}
 use Rattle.value_table.specs.Number.{bytesOf, numberOf, numberAt, Bytes}
 
@@ -37,3 +37,16 @@ bytesOf-numberOf (x ∷ xs) h =
 pub numberAt-suc : (w : ℕ) (b : List ℕ) (p : ℕ) → p < length b → numberAt (suc w) b p ≡ getD b p 0 + 256 * numberAt w b (p + 1)
 unfolding numberAt numberOf
 numberAt-suc w b p h = rw (add-one, drop-cons b p 0) refl
+
+pub numberAt-zero : (b : List ℕ) (p : ℕ) → numberAt 0 b p ≡ 0
+unfolding numberAt numberOf
+numberAt-zero b p = refl
+
+-- a number in two parts
+pub numberAt-add : (v w : ℕ) (b : List ℕ) (p : ℕ) → p + v ≤ length b → numberAt (v + w) b p ≡ numberAt v b p + 256 ^ v * numberAt w b (p + v)
+numberAt-add zero w b p h = rw (zero-add, add-zero, numberAt-zero, one-mul, zero-add) refl
+numberAt-add (suc v) w b p h =
+    let e : p + 1 + v ≡ p + suc v = omega arith in
+    let t = rw e at (numberAt-add v w b (p + 1) (omega arith)) in
+    let q : 256 ^ suc v * numberAt w b (p + suc v) ≡ 256 * (256 ^ v * numberAt w b (p + suc v)) = rw (pow-suc, mul-comm (256 ^ v) 256, mul-assoc) refl in
+    rw suc-add (omega (arith, t, q, numberAt-suc (v + w) b p (omega arith), numberAt-suc v b p (omega arith)))

@@ -2,7 +2,7 @@
 -- decides, and at one record the smallest number.
 use mathlib.Core.Bool.{Bool, true, false, cond, not, _&&_, _||_}
 use mathlib.Core.List.{List, [], _∷_, _++_}
-use Prim.Native.Nat.{ℕ, zero, suc, _+_, _*_, _%_}
+use Prim.Native.Nat.{ℕ, zero, suc, _+_, _%_}
 use lib.ListN.{length}
 use lib.Dec.{eqb, leb, ltb}
 use Rattle.value_table.specs.Value.{recordSize, maxLength, maxDepth, recordKind, arrayKind, lastScalar, records, kindAt, zeroAt, keyAt, spanAt, member, Values, none, value}
@@ -83,14 +83,16 @@ abbrev pub messagesIn : List Open → ℕ
 messagesIn [] = 1
 messagesIn (o ∷ os) = 0
 
+-- the first record with a fault decides: fault f at record i, or else what the records after it give
+abbrev pub decide : ℕ → ℕ → Outcome → Outcome
+decide zero i later = later
+decide (suc f) i later = refused (suc f) i
+
 -- The last k records of b, from record i on, after `messages` messages.
 unfoldable pub walk : List ℕ → ℕ → ℕ → List Open → ℕ → Outcome
 walk b zero i around messages = accepted messages
 walk b (suc k) i around messages =
-    elim (faultIn b i (close i around)) [
-      | zero ↦ walk b k (i + 1) (enter b i (close i around)) (messages + messagesIn (close i around))
-      | suc f ↦ refused (suc f) i
-    ]
+    decide (faultIn b i (close i around)) i (walk b k (i + 1) (enter b i (close i around)) (messages + messagesIn (close i around)))
 
 unfoldable pub judged : List ℕ → Outcome
 judged b = cond (badLength (length b)) (refused 1 0) (walk b (records b) 0 [] 0)

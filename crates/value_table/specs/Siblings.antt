@@ -1,9 +1,12 @@
 -- The earlier siblings of a record, as the code finds them: from the first one on by spans.
 use mathlib.Core.Path.{_≡_}
-use mathlib.Core.Bool.{Bool, true, false}
+use mathlib.Core.Bool.{Bool, true, false, cond}
 use mathlib.Core.List.{List, [], _∷_}
-use Prim.Native.Nat.{ℕ, _+_, _≤_, _<_}
-use Rattle.value_table.specs.Value.{keyAt, spanAt}
+use Prim.Native.Nat.{ℕ, zero, suc, _+_, _≤_, _<_}
+use lib.Dec.{eqb}
+use lib.ListN.{getD}
+use Rattle.value_table.specs.Value.{keyAt, spanAt, recordKind}
+use Rattle.value_table.specs.Judged.{fault}
 
 -- from record p on, spans lead to record i by way of siblings with these keys
 pub data Hops (b : List ℕ) (i : ℕ) : ℕ → List ℕ → Type 0 where
@@ -11,6 +14,33 @@ pub data Hops (b : List ℕ) (i : ℕ) : ℕ → List ℕ → Type 0 where
   hop : {p : ℕ} {ks : List ℕ} → p < i → 1 ≤ spanAt b p → Hops b i (p + spanAt b p) ks → Hops b i p (keyAt b p ∷ ks)
 
 -- `first` is the first field of a record that has had these keys before record i, or 0 outside records
-abbrev pub Before : List ℕ → ℕ → ℕ → Bool → List ℕ → Type 0
-Before b i first true ks = (1 ≤ first) × Hops b i first ks
-Before b i first false ks = first ≡ 0
+pub data Before (b : List ℕ) (i first : ℕ) : Bool → List ℕ → Type 0 where
+  field : {ks : List ℕ} → 1 ≤ first → Hops b i first ks → Before b i first true ks
+  other : {ks : List ℕ} → first ≡ 0 → Before b i first false ks
+
+pub record Siblings (b : List ℕ) (i first : ℕ) : Type 0 where
+  pub keys : List ℕ
+  pub hops : Hops b i first keys
+
+pub record Parent (b : List ℕ) (i first : ℕ) : Type 0 where
+  pub isField : Bool
+  pub keys : List ℕ
+  pub before : Before b i first isField keys
+
+-- x is the fault of record i at this depth, whose parent ends at `end`
+abbrev pub FaultIs : List ℕ → ℕ → ℕ → ℕ → ℕ → ℕ → Type 0
+FaultIs b i end first depth x = (isField : Bool) (ks : List ℕ) → Before b i first isField ks → x ≡ fault b i end isField ks depth
+
+-- what the innermost of some levels holds, or what stands outside them
+abbrev pub innermostOf : List ℕ → ℕ → ℕ → ℕ
+innermostOf levels zero outside = outside
+innermostOf levels (suc depth) outside = getD levels depth 0
+
+-- the first field of a value of this kind at record i, or 0 where it is no record
+abbrev pub firstOf : ℕ → ℕ → ℕ
+firstOf kind i = cond (eqb kind recordKind) (i + 1) 0
+
+-- a record inside no open value begins a message
+abbrev pub messagesAt : ℕ → ℕ
+messagesAt zero = 1
+messagesAt (suc depth) = 0

@@ -1,4 +1,12 @@
 // The lower library: judges value tables.
+mod faults;
+pub mod little_endian;
+mod record;
+mod walk;
+
+ghost use mathlib.Core.Path.{_≡_};
+ghost use Rattle.value_table.specs.Outcome.{numberOfRefusal, outcomeOf, outcomeOfAnswer};
+ghost use Rattle.value_table.specs.Judged.{judged};
 
 // Why a table is refused.
 pub enum Refusal {
@@ -16,10 +24,51 @@ pub enum Judged {
     Refused(Refusal, usize),
 }
 
-// An answer as document 01 counts it out: refusal number, place, count.
+// An answer as three numbers: refusal number, place, count.
 #[repr(C)]
 pub struct Answer {
     pub number: u64,
     pub place: u64,
     pub count: u64,
+}
+
+// Call 1: judges a table.
+pub fn judge(table: &[u8]) -> Judged
+    ensures { λ r. ⌜ outcomeOf r ≡ judged (now (table .entry)) ⌝ }
+{
+    if walk::bad_length(table.len()) {
+        return Judged::Refused(Refusal::Length, 0);
+    }
+    walk::walk_table(table)
+}
+
+fn refusal_number(why: Refusal) -> u64
+    ensures { λ r. ⌜ r ≡ numberOfRefusal why ⌝ }
+{
+    match why {
+        Refusal::Length => 1,
+        Refusal::Kind => 3,
+        Refusal::Span => 4,
+        Refusal::Key => 5,
+        Refusal::Repeat => 6,
+        Refusal::Depth => 7,
+    }
+}
+
+// A judgement as three numbers.
+pub fn answer_of(verdict: Judged) -> Answer
+    ensures { λ r. ⌜ outcomeOfAnswer r ≡ outcomeOf verdict ⌝ }
+{
+    match verdict {
+        Judged::Accepted(messages) => Answer {
+            number: 0,
+            place: 0,
+            count: messages as u64,
+        },
+        Judged::Refused(why, place) => Answer {
+            number: refusal_number(why),
+            place: place as u64,
+            count: 0,
+        },
+    }
 }

@@ -7,8 +7,8 @@ use native.Mathlib.Omega.{arith}
 use lib.ListN.{length}
 use Rattle.value_table.specs.Number.{Bytes}
 use Rattle.value_table.specs.Value.{maxLength, records}
-use Rattle.value_table.specs.Outcome.{Outcome, accepted, refused}
-use Rattle.value_table.specs.Judged.{Open, faultIn, close, enter, messagesIn, walk}
+use Rattle.value_table.specs.Outcome.{Outcome, accepted}
+use Rattle.value_table.specs.Judged.{Open, faultIn, close, enter, messagesIn, decide, walk}
 use Rattle.value_table.proofs.Header.{keyAt-below}
 use Rattle.value_table.proofs.Fault.{FaultlessIn, faultless, faultless-zero}
 use Rattle.value_table.proofs.Nested.{Nested, nested-close, nested-enter}
@@ -18,7 +18,7 @@ module _ (b : List ℕ) (bytes : Bytes b) (short : length b ≤ maxLength) where
   -- one record, with the outcome o of the walk behind it
   step : (i c m : ℕ) (around : List Open) (o : Outcome) → Nested (records b) (i + 1) around → i < records b →
       (Nested (records b) (i + 1) (enter b i around) → (o ≡ accepted m) ↔ Rest b (i + 1) (enter b i around) (c + messagesIn around) m) →
-      (f : ℕ) → faultIn b i around ≡ f → (elim f [ zero ↦ o | suc g ↦ refused (suc g) i ] ≡ accepted m) ↔ Rest b i around c m
+      (f : ℕ) → faultIn b i around ≡ f → (decide f i o ≡ accepted m) ↔ Rest b i around c m
   unfolding faultIn
   step i c m around o h some ih zero e =
       let f : FaultlessIn b i around = faultless b i _ _ _ _ (keyAt-below b i bytes (omega arith)) e in

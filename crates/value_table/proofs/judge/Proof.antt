@@ -1,0 +1,24 @@
+-- `judge` meets its contract.
+use mathlib.Core.Path.{sym, _∙_}
+use borrow.Author.Needs.{needs}
+use Rattle.value_table.specs.Judged.{judged}
+use Rattle.value_table.proofs.Fault.{length-fits}
+use Rattle.value_table.proofs.judge.Statement.{statement}
+use Rattle.value_table.proofs.judge.Tie as tie
+
+bad-length-requires : tie.Need-bad-length-requires
+bad-length-requires c κs = search needs
+
+returns : tie.Need-returns
+unfolding judged
+returns c = simp (sym (c .before .bad-length .ensures) ∙ c .if1 .taken)
+
+walk-table-requires : tie.Need-walk-table-requires
+walk-table-requires c κs = length-fits _ .0 (sym (c .before .bad-length .ensures) ∙ c .if1 .left)
+
+returns-2 : tie.Need-returns-2
+unfolding judged
+returns-2 c = simp (sym (c .before .before .bad-length .ensures) ∙ c .before .if1 .left, c .walk-table .ensures)
+
+pub judge-spec : {M : Type 1} → statement M
+judge-spec = tie.close (tie.spec bad-length-requires returns walk-table-requires returns-2)

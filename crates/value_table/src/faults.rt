@@ -1,0 +1,115 @@
+// The faults of one value record, 3 to 7.
+use crate::Refusal;
+use crate::record;
+use crate::record::key_at;
+use crate::record::kind_at;
+use crate::record::span_at;
+use crate::record::zero_at;
+ghost use mathlib.Core.Path.{_≡_};
+ghost use mathlib.Core.Bool.{Bool, true, false};
+ghost use mathlib.Core.List.{List};
+ghost use Prim.Native.Nat.{ℕ, _+_, _*_, _≤_, _<_};
+ghost use lib.ListN.{length};
+ghost use Rattle.value_table.specs.Value.{recordSize, maxLength, keyAt, member};
+ghost use Rattle.value_table.specs.Outcome.{numberOfFault};
+ghost use Rattle.value_table.specs.Judged.{badKind, badSpan, badKey, repeated};
+ghost use Rattle.value_table.specs.Siblings.{Hops, Siblings, Before, Parent, FaultIs};
+
+const MAX_DEPTH: usize = 32;
+
+// What is wrong with one record.
+pub enum Fault {
+    Nothing,
+    Found(Refusal),
+}
+
+fn bad_kind(table: &[u8], i: usize) -> bool
+    requires { ⌜ recordSize * i + recordSize ≤ length (now table) ⌝ }
+    ensures { λ r. ⌜ r ≡ badKind (now (table .entry)) i ⌝ }
+{
+    let kind = kind_at(table, i);
+    if kind < 1 {
+        return true;
+    }
+    if record::ARRAY < kind {
+        return true;
+    }
+    zero_at(table, i) != 0
+}
+
+fn bad_span(table: &[u8], i: usize, end: usize) -> bool
+    requires { ⌜ (recordSize * i + recordSize ≤ length (now table)) × (length (now table) ≤ maxLength) ⌝ }
+    ensures { λ r. ⌜ r ≡ badSpan (now (table .entry)) i end ⌝ }
+{
+    let span = span_at(table, i);
+    if span == 0 {
+        return true;
+    }
+    if end < i + span {
+        return true;
+    }
+    if record::LAST_SCALAR < kind_at(table, i) {
+        return false;
+    }
+    1 < span
+}
+
+fn bad_key(table: &[u8], i: usize, field: bool) -> bool
+    requires { ⌜ recordSize * i + recordSize ≤ length (now table) ⌝ }
+    ensures { λ r. ⌜ r ≡ badKey (now (table .entry)) i field ⌝ }
+{
+    if field {
+        key_at(table, i) == 0
+    } else {
+        key_at(table, i) != 0
+    }
+}
+
+// Whether the key of record i stands in an earlier field, the first of which is `first`.
+fn key_before(table: &[u8], i: usize, first: usize) -> bool
+    requires { ⌜ (recordSize * i + recordSize ≤ length (now table)) × Siblings (now table) i first ⌝ }
+    ensures { λ r. ⌜ ((ks : List ℕ) → Hops (now (table .entry)) i first ks → r ≡ member (keyAt (now (table .entry)) i) ks) ⌝ }
+{
+    let key = key_at(table, i);
+    let mut p = first;
+    while p < i {
+        if key_at(table, p) == key {
+            return true;
+        }
+        p += span_at(table, p);
+    }
+    false
+}
+
+fn repeats(table: &[u8], i: usize, first: usize) -> bool
+    requires { ⌜ (recordSize * i + recordSize ≤ length (now table)) × Parent (now table) i first ⌝ }
+    ensures { λ r. ⌜ ((field : Bool) (ks : List ℕ) → Before (now (table .entry)) i first field ks → r ≡ repeated (now (table .entry)) i field ks) ⌝ }
+{
+    if first == 0 {
+        return false;
+    }
+    key_before(table, i, first)
+}
+
+// The fault of record i, whose parent ends at `end` and, if it is a record, has its first field at `first`, else 0.
+pub fn fault_at(table: &[u8], i: usize, end: usize, first: usize, depth: usize) -> Fault
+    requires { ⌜ (recordSize * i + recordSize ≤ length (now table)) × (length (now table) ≤ maxLength) × Parent (now table) i first ⌝ }
+    ensures { λ r. ⌜ FaultIs (now (table .entry)) i end first depth (numberOfFault r) ⌝ }
+{
+    if bad_kind(table, i) {
+        return Fault::Found(Refusal::Kind);
+    }
+    if bad_span(table, i, end) {
+        return Fault::Found(Refusal::Span);
+    }
+    if bad_key(table, i, 0 < first) {
+        return Fault::Found(Refusal::Key);
+    }
+    if repeats(table, i, first) {
+        return Fault::Found(Refusal::Repeat);
+    }
+    if MAX_DEPTH < depth {
+        return Fault::Found(Refusal::Depth);
+    }
+    Fault::Nothing
+}

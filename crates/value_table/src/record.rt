@@ -1,0 +1,43 @@
+// The fields of a value record.
+use crate::little_endian::number16;
+use crate::little_endian::number32;
+ghost use mathlib.Core.Path.{_≡_};
+ghost use Prim.Native.Nat.{_+_, _*_, _≤_, _<_};
+ghost use lib.ListN.{length};
+ghost use Rattle.value_table.specs.Value.{recordSize, kindAt, zeroAt, keyAt, spanAt};
+
+pub const SIZE: usize = 8;
+
+pub const RECORD: u8 = 5;
+
+pub const ARRAY: u8 = 6;
+
+pub const LAST_SCALAR: u8 = 4;
+
+pub fn kind_at(table: &[u8], i: usize) -> u8
+    requires { ⌜ recordSize * i + recordSize ≤ length (now table) ⌝ }
+    ensures { λ r. ⌜ r ≡ kindAt (now (table .entry)) i ⌝ }
+{
+    table[SIZE * i]
+}
+
+pub fn zero_at(table: &[u8], i: usize) -> u8
+    requires { ⌜ recordSize * i + recordSize ≤ length (now table) ⌝ }
+    ensures { λ r. ⌜ r ≡ zeroAt (now (table .entry)) i ⌝ }
+{
+    table[SIZE * i + 1]
+}
+
+pub fn key_at(table: &[u8], i: usize) -> usize
+    requires { ⌜ recordSize * i + recordSize ≤ length (now table) ⌝ }
+    ensures { λ r. ⌜ r ≡ keyAt (now (table .entry)) i ⌝ }
+{
+    number16(table, SIZE * i + 2)
+}
+
+pub fn span_at(table: &[u8], i: usize) -> usize
+    requires { ⌜ recordSize * i + recordSize ≤ length (now table) ⌝ }
+    ensures { λ r. ⌜ (r ≡ spanAt (now (table .entry)) i) × (r < 4294967296) ⌝ }
+{
+    number32(table, SIZE * i + 4)
+}

@@ -1,0 +1,104 @@
+// The walk over the records of a table.
+use crate::Judged;
+use crate::Refusal;
+use crate::faults::Fault;
+use crate::faults::fault_at;
+use crate::record;
+use crate::record::kind_at;
+use crate::record::span_at;
+ghost use mathlib.Core.Path.{_≡_};
+ghost use mathlib.Core.List.{[]};
+ghost use Prim.Native.Nat.{_+_, _*_, _%_, _≤_};
+ghost use lib.ListN.{length};
+ghost use Rattle.value_table.specs.Value.{recordSize, maxLength, maxDepth, records, kindAt};
+ghost use Rattle.value_table.specs.Outcome.{outcomeOf};
+ghost use Rattle.value_table.specs.Judged.{badLength, walk};
+ghost use Rattle.value_table.specs.Siblings.{innermostOf, firstOf, messagesAt};
+
+const MAX_LENGTH: usize = 65536;
+
+// The open values around the next record: the end of each, the first field of each that is a record (else 0), and how many
+// there are.
+struct Walk {
+    ends: [usize; 32],
+    fields: [usize; 32],
+    depth: usize,
+}
+
+pub fn bad_length(n: usize) -> bool
+    ensures { λ r. ⌜ r ≡ badLength n ⌝ }
+{
+    if n % record::SIZE != 0 {
+        return true;
+    }
+    MAX_LENGTH < n
+}
+
+// What the innermost of `depth` levels holds, or `outside` where there is none.
+fn innermost(levels: &[usize; 32], depth: usize, outside: usize) -> usize
+    requires { ⌜ depth ≤ maxDepth ⌝ }
+    ensures { λ r. ⌜ r ≡ innermostOf (now (levels .entry)) depth outside ⌝ }
+{
+    if depth == 0 {
+        outside
+    } else {
+        levels[depth - 1]
+    }
+}
+
+// The first field of the value that record i opens, or 0 where it is no record.
+fn first_of(table: &[u8], i: usize) -> usize
+    requires { ⌜ (recordSize * i + recordSize ≤ length (now table)) × (length (now table) ≤ maxLength) ⌝ }
+    ensures { λ r. ⌜ r ≡ firstOf (kindAt (now (table .entry)) i) i ⌝ }
+{
+    if kind_at(table, i) == record::RECORD {
+        i + 1
+    } else {
+        0
+    }
+}
+
+// How many messages begin at a record inside `depth` open values.
+fn messages_at(depth: usize) -> usize
+    ensures { λ r. ⌜ r ≡ messagesAt depth ⌝ }
+{
+    if depth == 0 { 1 } else { 0 }
+}
+
+// Judges the records of a table of an allowed length.
+pub fn walk_table(table: &[u8]) -> Judged
+    requires { ⌜ (length (now table) % recordSize ≡ 0) × (length (now table) ≤ maxLength) ⌝ }
+    ensures { λ r. ⌜ outcomeOf r ≡ walk (now (table .entry)) (records (now (table .entry))) 0 [] 0 ⌝ }
+{
+    let n = table.len() / record::SIZE;
+    let mut walk = Walk {
+        ends: [0; 32],
+        fields: [0; 32],
+        depth: 0,
+    };
+    let mut messages = 0;
+    let mut i = 0;
+    while i < n {
+        let depth = walk.depth;
+        let end = innermost(&walk.ends, depth, n);
+        if end == i {
+            walk.depth = depth - 1;
+            continue;
+        }
+        let first = innermost(&walk.fields, depth, 0);
+        if let Fault::Found(why) = fault_at(table, i, end, first, depth + 1) {
+            return Judged::Refused(why, i);
+        }
+        messages += messages_at(depth);
+        let span = span_at(table, i);
+        if span == 1 {
+            i += 1;
+            continue;
+        }
+        walk.ends[depth] = i + span;
+        walk.fields[depth] = first_of(table, i);
+        walk.depth = depth + 1;
+        i += 1;
+    }
+    Judged::Accepted(messages)
+}
