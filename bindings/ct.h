@@ -1,0 +1,41 @@
+/* Counting types for line messages: the C interface. Link libct.a, which `rt staticlib ct` writes (x86-64 Linux). */
+#ifndef CT_H
+#define CT_H
+
+#include <stddef.h>
+#include <stdint.h>
+
+#ifdef __cplusplus
+extern "C" {
+#endif
+
+/* Why a call refuses its input; CT_ACCEPTED where it does not. */
+#define CT_ACCEPTED 0
+#define CT_LENGTH 1 /* a length that is no multiple of 8, or above 65,536 */
+#define CT_KIND 3   /* kind not 1 to 6, or byte 1 not zero */
+#define CT_SPAN 4   /* span 0; beyond the end of the parent or of the table; over 1 for kinds 1 to 4 */
+#define CT_KEY 5    /* key 0 in a field, or not 0 elsewhere */
+#define CT_REPEAT 6 /* a key seen earlier in the same record */
+#define CT_DEPTH 7  /* depth 33 */
+
+/* The refusal number, the place and the count. On acceptance number and place are 0, on a refusal the count is 0. */
+struct ct_answer {
+    uint64_t number;
+    uint64_t place;
+    uint64_t count;
+};
+
+/* Judges a value table of `length` bytes.
+ *
+ * Accepted, the count is the number of messages. Refused, the place is the value record with the fault, counted from 0, or 0
+ * for a length. The length comes first, then records from 0 upward: the first with a fault decides, and of its faults the
+ * smallest number. The answer depends on the bytes alone; nothing is written and nothing is kept.
+ *
+ * `table` points to `length` bytes that nobody writes during the call. It is not null, even for length 0. */
+struct ct_answer ct_judge_table(const uint8_t *table, size_t length);
+
+#ifdef __cplusplus
+}
+#endif
+
+#endif

@@ -1,0 +1,17 @@
+-- `ct_judge_table` meets its contract: the three numbers are those of the judgement, which is the one that the table has.
+use mathlib.Core.Path.{_∙_}
+use borrow.Author.Needs.{needs}
+use Rattle.ct.proofs.ct_judge_table.Statement.{statement}
+use Rattle.ct.proofs.ct_judge_table.Tie as tie
+
+judge-requires : tie.Need-judge-requires
+judge-requires c κs = search needs
+
+answer-of-requires : tie.Need-answer-of-requires
+answer-of-requires c κs = search needs
+
+returns : tie.Need-returns
+returns c = c .answer-of .ensures ∙ c .before .judge .ensures
+
+pub ct-judge-table-spec : {M : Type 1} → statement M
+ct-judge-table-spec = tie.close (tie.spec judge-requires answer-of-requires returns)
