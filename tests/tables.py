@@ -1,0 +1,197 @@
+"""Document 01's trials of call 1, written without the crates: builds each table, judges it by recursive descent, prints a line.
+
+crates/trials/stdout was made by: python3 tests/tables.py > crates/trials/stdout
+"""
+import struct
+
+NULL, BOOLEAN, NUMBER, STRING, RECORD, ARRAY = range(1, 7)
+
+
+class Refused(Exception):
+    pass
+
+
+def judge(table):
+    """Refusal number, place and count."""
+    if len(table) % 8 or len(table) > 65536:
+        return 1, 0, 0
+    records = list(struct.iter_unpack("<BBHI", table))
+    try:
+        return 0, 0, run(records, 0, len(records), 1, False)
+    except Refused as refusal:
+        return *refusal.args, 0
+
+
+def run(records, place, end, depth, fields):
+    """How many values stand from a place to the end of their parent, or of the table."""
+    seen, count = set(), 0
+    while place < end:
+        kind, zero, key, span = records[place]
+        faults = {
+            3: kind not in range(1, 7) or zero != 0,
+            4: span == 0 or place + span > end or (kind <= STRING and span > 1),
+            5: (key == 0) if fields else (key != 0),
+            6: fields and key in seen,
+            7: depth > 32,
+        }
+        for number, found in faults.items():
+            if found:
+                raise Refused(number, place)
+        run(records, place + 1, place + span, depth + 1, kind == RECORD)
+        seen.add(key)
+        count += 1
+        place += span
+    return count
+
+
+def bytes_of(records):
+    """A record is kind, key, span, and byte 1 if it is not zero."""
+    return b"".join(struct.pack("<BBHI", r[0], (*r, 0)[3], r[1], r[2]) for r in records)
+
+
+def value(kind, *content, key=0):
+    """The records of a value, its span counted."""
+    inner = [r for v in content for r in v]
+    return [(kind, key, 1 + len(inner)), *inner]
+
+
+def null(key=0):
+    return value(NULL, key=key)
+
+
+def record(*content, key=0):
+    return value(RECORD, *content, key=key)
+
+
+def array(*content, key=0):
+    return value(ARRAY, *content, key=key)
+
+
+def messages(*values):
+    return [r for v in values for r in v]
+
+
+def nested(depth, inner):
+    """Arrays down to a depth at which the given record stands; they end where it does."""
+    return [(ARRAY, 0, depth - level) for level in range(depth - 1)] + [inner]
+
+
+def lengths(records, *numbers):
+    return [(f"length-{n}", bytes_of(records)[:n]) for n in numbers]
+
+
+def each(name, records, places, fault):
+    return [(name, bytes_of([*records[:i], fault, *records[i + 1 :]])) for i in places]
+
+
+THREE = messages(null(), value(BOOLEAN), value(NUMBER))
+AFTER = messages(value(STRING), null(), value(BOOLEAN))
+FIELDS = record(null(1), value(BOOLEAN, key=2), value(NUMBER, key=3)) + AFTER
+ELEMENTS = array(null(), value(BOOLEAN), value(NUMBER)) + AFTER
+EVERY = value(NULL) + value(BOOLEAN) + value(NUMBER) + value(STRING) + value(RECORD) + value(ARRAY)
+EMPTY_ARRAY, EMPTY_RECORD, ONE_NULL = (ARRAY, 0, 1), (RECORD, 0, 1), (NULL, 0, 1)
+
+
+def wide(last_key):
+    keys = [*range(1, 8191), last_key]
+    return record(*(null(key) for key in keys))
+
+
+def accepted():
+    number = value(NUMBER)
+    nine = messages(
+        record(value(NUMBER, key=1), array(number, number, key=2)),
+        record(null(1)),
+        record(array(key=2)),
+    )
+    yield "empty", []
+    yield "one-null", null()
+    yield "nine-records", nine
+    yield "every-kind", EVERY
+    yield "keys-in-any-order", record(null(65535), null(1), null(256))
+    yield "same-key-inside", record(record(null(1), key=1), null(2))
+    yield "same-key-around", record(record(null(2), key=1), null(2))
+    yield "same-key-beside", record(record(null(1), key=1), record(null(1), key=2))
+    yield "record-in-array-in-record", record(array(record(null(1)), key=1))
+    yield "span-to-table-end", array(null(), null())
+    yield "span-to-parent-end", array(array(null())) + null()
+
+
+def repeats():
+    yield "two-fields", record(null(1), value(NUMBER, key=1))
+    yield "repeat-middle", record(null(1), null(1), null(2))
+    yield "repeat-last", record(null(1), null(2), null(1))
+    yield "repeat-after-array", record(array(null(), null(), key=1), null(1))
+    yield "repeat-after-record", record(record(null(2), key=1), null(1))
+    yield "repeat-inside", record(record(null(2), null(2), key=1))
+    yield "repeat-next-message", record(null(1)) + record(null(1), null(1))
+
+
+def depths():
+    for name, last in ("arrays-", EMPTY_ARRAY), ("record-at-", EMPTY_RECORD), ("null-at-", ONE_NULL):
+        yield name + "32", nested(32, last)
+        yield name + "33", nested(33, last)
+    yield "arrays-32-between", null() + nested(32, EMPTY_ARRAY) + null()
+    yield "arrays-33-between", null() + nested(33, EMPTY_ARRAY) + null()
+
+
+def two_faults():
+    yield "kind-and-key", [(7, 1, 1)]
+    yield "kind-and-repeat", record(null(1), [(0, 1, 1)])
+    yield "span-and-key", [(NULL, 1, 2)]
+    yield "span-and-repeat", record(null(1), [(NULL, 1, 0)])
+    yield "kind-and-depth", nested(33, (0, 0, 1))
+    yield "span-and-depth", nested(33, (ARRAY, 0, 2))
+    yield "key-and-depth", nested(33, (ARRAY, 1, 1))
+
+
+def first_record():
+    bad_kind = [(0, 0, 1)]
+    yield "span-before-kind", [(NULL, 0, 2)] + bad_kind
+    yield "key-before-kind", null(1) + bad_kind
+    yield "repeat-before-kind", record(null(1), null(1)) + bad_kind
+    yield "depth-before-kind", null() + nested(33, EMPTY_ARRAY) + bad_kind
+
+
+def tables(trials):
+    return [(name, bytes_of(records)) for name, records in trials]
+
+
+def trials():
+    """Names and tables, in the order of crates/trials."""
+    yield from tables(accepted())
+    yield from lengths(THREE, 1, 7, 8, 9, 23)
+    yield "all-zero", bytes(8)
+    yield from each("kind-0", THREE, range(3), (0, 0, 1))
+    yield from each("kind-7", THREE, range(3), (7, 0, 1))
+    yield from each("kind-255", FIELDS, range(1, 4), (255, 9, 1))
+    yield from each("byte-1-is-1", THREE, range(3), (NULL, 0, 1, 1))
+    yield from each("byte-1-is-255", ELEMENTS, range(1, 4), (ARRAY, 0, 1, 255))
+    yield "null-span-2-alone", bytes_of([(NULL, 0, 2)])
+    yield from each("null-span-0", THREE, range(3), (NULL, 0, 0))
+    yield from each("array-span-0", THREE, range(3), (ARRAY, 0, 0))
+    yield from each("null-span-2", THREE, range(3), (NULL, 0, 2))
+    yield from each("string-span-2", ELEMENTS, range(1, 4), (STRING, 0, 2))
+    yield from each("span-past-table", THREE, range(3), (ARRAY, 0, 4))
+    yield from each("span-past-array", ELEMENTS, range(1, 4), (ARRAY, 0, 4))
+    yield from each("span-past-record", FIELDS, range(1, 4), (RECORD, 9, 4))
+    yield from each("span-largest", THREE, range(3), (ARRAY, 0, 2**32 - 1))
+    yield from each("span-largest-inside", ELEMENTS, range(1, 4), (RECORD, 0, 2**32 - 1))
+    yield from each("field-key-0", FIELDS, range(1, 4), (NULL, 0, 1))
+    yield from each("message-key-7", THREE, range(3), (NULL, 7, 1))
+    yield from each("message-key-256", THREE, range(3), (RECORD, 256, 1))
+    yield from each("element-key-7", ELEMENTS, range(1, 4), (NULL, 7, 1))
+    yield "key-in-array-in-record", bytes_of(record(array(null(1), key=1)))
+    yield "no-key-in-record-in-array", bytes_of(array(record(null())))
+    yield from tables(repeats())
+    yield from tables(depths())
+    yield from tables(two_faults())
+    yield "length-before-kind", bytes(9)
+    yield from tables(first_record())
+    yield from lengths([ONE_NULL] * 8193, 65535, 65536, 65537, 65544)
+    yield "wide", bytes_of(wide(8191))
+    yield "wide-repeat", bytes_of(wide(1))
+
+
+for name, table in trials():
+    print(name, *judge(table))
