@@ -1,0 +1,2 @@
+-- The laws behind the statements.
+pub mod Order

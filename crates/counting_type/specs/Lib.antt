@@ -1,0 +1,3 @@
+-- The statements of the upper library.
+pub mod Order
+pub mod Trie

@@ -1,0 +1,1 @@
+// The upper library: infers, judges and merges counting types.
