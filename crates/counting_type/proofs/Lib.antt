@@ -1,2 +1,3 @@
 -- The laws behind the statements.
 pub mod Order
+pub mod Trie
