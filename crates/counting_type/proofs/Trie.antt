@@ -4,3 +4,5 @@ pub mod Lookup
 pub mod Sorted
 pub mod Canonical
 pub mod Profile
+pub mod Growth
+pub mod Prefix
