@@ -1,3 +1,4 @@
 -- The statements of the upper library.
 pub mod Order
 pub mod Trie
+pub mod Reduce
