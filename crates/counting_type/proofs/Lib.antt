@@ -1,3 +1,4 @@
 -- The laws behind the statements.
 pub mod Order
 pub mod Trie
+pub mod Label

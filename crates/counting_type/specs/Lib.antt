@@ -1,4 +1,10 @@
--- The statements of the upper library.
+-- The statements of the upper library: generic tries, then labels, values and bytes over them.
 pub mod Order
 pub mod Trie
 pub mod Reduce
+pub mod Label
+pub mod Raw
+pub mod Place
+pub mod Encoding
+pub mod Published
+pub mod Meaning
