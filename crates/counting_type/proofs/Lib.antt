@@ -2,3 +2,5 @@
 pub mod Order
 pub mod Trie
 pub mod Label
+pub mod Tagged
+pub mod Encoding

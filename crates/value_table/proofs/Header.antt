@@ -52,18 +52,18 @@ module _ (w : ℕ) (b : List ℕ) (p : ℕ) (bytes : Bytes b) (fits : p + w ≤ 
   part-bytes : Bytes (take w (drop p b))
   part-bytes = bytes-take w (drop p b) (λ q. rw getD-drop (bytes (p + q)))
 
-  numberAt-below : numberAt w b p < 256 ^ w
+  pub numberAt-below : numberAt w b p < 256 ^ w
   unfolding numberAt
   numberAt-below = rw part-length at (numberOf-below (take w (drop p b)) part-bytes)
 
-  number-written : (q : ℕ) → q ≡ p + w → drop p b ≡ bytesOf w (numberAt w b p) ++ drop q b
+  pub number-written : (q : ℕ) → q ≡ p + w → drop p b ≡ bytesOf w (numberAt w b p) ++ drop q b
   unfolding numberAt
   number-written q e =
       let written : bytesOf w (numberAt w b p) ≡ take w (drop p b) =
       rw part-length at (bytesOf-numberOf (take w (drop p b)) part-bytes) in
       rw (e, written, ← drop-drop) (sym (take-append-drop w (drop p b)))
 
-byte-written : (b : List ℕ) (p q : ℕ) → p < length b → q ≡ suc p → drop p b ≡ getD b p 0 ∷ drop q b
+pub byte-written : (b : List ℕ) (p q : ℕ) → p < length b → q ≡ suc p → drop p b ≡ getD b p 0 ∷ drop q b
 byte-written b p q h e = rw e (drop-cons b p 0 h)
 
 module _ (b : List ℕ) (i : ℕ) (bytes : Bytes b) (fits : recordSize * (i + 1) ≤ length b) where

@@ -1,0 +1,3 @@
+-- Types as bytes: the record layout, and reading back what was written.
+pub mod Header
+pub mod Decode

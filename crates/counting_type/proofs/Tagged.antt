@@ -1,0 +1,2 @@
+-- Which tries are types: what profiles and merges keep.
+pub mod Parts
