@@ -1,6 +1,7 @@
 -- The laws behind the statements.
 pub mod Order
 pub mod Trie
+pub mod KeyList
 pub mod Label
 pub mod Tagged
 pub mod Encoding

@@ -12,7 +12,7 @@ use Rattle.counting_type.specs.Label.{Equivalence, Counting, CountingTyp
 use Rattle.counting_type.specs.Encoding.{typeSize, typeSpan, encode, decode, typeOf, Tagged, Fitting}
 use Rattle.counting_type.proofs.Trie.Canonical.{canonical}
 use Rattle.counting_type.proofs.Label.{counting-laws}
-use Rattle.counting_type.proofs.Tagged.Parts.{holdsFields, tagged-children, tagged-next, tagged-label}
+use Rattle.counting_type.proofs.Tagged.Parts.{holdsFields, tagged-parts, shape-label}
 use Rattle.counting_type.proofs.Encoding.Header.{Fields, length-encode, header-read}
 
 module _ (eq : Equivalence) where
@@ -24,6 +24,7 @@ module _ (eq : Equivalence) where
   decode-run b zero i end field (node l a c s) t fit h e n = absurd (omega arith)
   decode-run b (suc k) i end field nil t fit h e n = rw (le-ltb i end (omega arith), decode) refl
   decode-run b (suc k) i end field (node l a c s) t fit h e n =
+      let r = tagged-parts eq field l a c s t in
       let last : List ℕ = encode s ++ drop (typeSize * end) b in
       let rest : List ℕ = encode c ++ last in
       let f : Fields b i (l .kind) 0 (l .key) (1 + size c) a rest =
@@ -33,12 +34,12 @@ module _ (eq : Equivalence) where
       rw (
         lt-ltb i end (omega arith),
         decode,
-        decode-run b k (i + 1) (i + typeSpan b i) (holdsFields field l) c (tagged-children eq l a c s field t) (fit .3) (omega arith) (f .rest-is ∙ rw behind refl) (omega (arith, f .span-is)),
-        decode-run b k (i + typeSpan b i) end field s (tagged-next eq l a c s field t) (fit .4) (omega arith) behind (omega (arith, f .span-is)),
+        decode-run b k (i + 1) (i + typeSpan b i) (holdsFields field l) c (r .1) (fit .3) (omega arith) (f .rest-is ∙ rw behind refl) (omega (arith, f .span-is)),
+        decode-run b k (i + typeSpan b i) end field s (r .2) (fit .4) (omega arith) behind (omega (arith, f .span-is)),
         f .kind-is,
         f .key-is,
         f .count-is,
-        ← tagged-label eq l a c s field t,
+        ← shape-label eq field l c (r .0),
       )
       refl
 
