@@ -5,3 +5,4 @@ pub mod KeyList
 pub mod Label
 pub mod Tagged
 pub mod Encoding
+pub mod Published

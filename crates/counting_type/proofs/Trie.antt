@@ -6,4 +6,3 @@ pub mod Canonical
 pub mod Profile
 pub mod Growth
 pub mod Prefix
-pub mod Addends

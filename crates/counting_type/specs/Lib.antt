@@ -1,7 +1,6 @@
 -- The statements of the upper library: generic tries, then labels, values and bytes over them.
 pub mod Order
 pub mod Trie
-pub mod Reduce
 pub mod Label
 pub mod Raw
 pub mod Place

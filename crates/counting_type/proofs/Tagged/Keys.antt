@@ -6,20 +6,10 @@ use Prim.Native.Nat.{ℕ, compare, Ordering, Ordering·lt as less, Ordering·eq 
 use lib.Dec.{isLe, isEq}
 use Rattle.value_table.specs.Value.{member}
 use Rattle.counting_type.specs.Trie.{nil, node, reduceStep, reduceNode, reduce}
-use Rattle.counting_type.specs.Order.{then, comparePair, compareList, compareOn}
 use Rattle.counting_type.specs.Label.{Equivalence, fieldLabel, compareLabel, Counting, CountingType}
 use Rattle.counting_type.specs.Raw.{insertKey}
 use Rattle.counting_type.specs.Encoding.{siblingKeys, Tagged}
-use Rattle.counting_type.proofs.Label.{label-order}
-
-compare-fields : (k j : ℕ) → compareLabel (fieldLabel k) (fieldLabel j) ≡ compare k j
-unfolding compareOn comparePair compareList then
-compare-fields k j = go (compare k j)
-  where
-    go : (o : Ordering) → then o same ≡ o
-    go less = refl
-    go same = refl
-    go greater = refl
+use Rattle.counting_type.proofs.Label.{label-order, compare-fields}
 
 module _ (eq : Equivalence) where
   -- fields with the same keys merge into fields with these keys

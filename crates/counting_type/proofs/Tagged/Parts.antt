@@ -1,5 +1,5 @@
 -- The parts of a type at its first node, whether an addend or a field.
-use mathlib.Core.Path.{_≡_, refl, ap}
+use mathlib.Core.Path.{_≡_, refl}
 use mathlib.Core.Bool.{Bool, true, false, cond}
 use mathlib.Core.List.{List, []}
 use Prim.Native.Nat.{ℕ}
@@ -8,6 +8,7 @@ use Rattle.value_table.specs.Value.{recordKind}
 use Rattle.counting_type.specs.Trie.{node}
 use Rattle.counting_type.specs.Label.{Equivalence, byKind, byLabel, Label, fieldKind, listed, labelOf, fieldLabel, CountingType}
 use Rattle.counting_type.specs.Encoding.{siblingKeys, AddendShape, Tagged}
+use Rattle.counting_type.proofs.Label.{kind-eq, keys-eq}
 
 -- whether the children of a node with label l are fields
 abbrev pub holdsFields : Bool → Label → Bool
@@ -51,8 +52,8 @@ parts-tagged eq true l a c s h = h
 parts-tagged eq false l a c s h = h
 
 pub shape-keys : (eq : Equivalence) (field : Bool) (l : Label) (c : CountingType) → Shape eq field l c → l .keys ≡ listed eq (l .kind) (siblingKeys c)
-shape-keys eq true l c h = rw (ap (λ (m : Label). m .kind) h, listed-field eq (siblingKeys c)) (ap (λ (m : Label). m .keys) h)
-shape-keys eq false l c h = ap (λ (m : Label). m .keys) (h .tagged)
+shape-keys eq true l c h = rw (kind-eq h, listed-field eq (siblingKeys c)) (keys-eq h)
+shape-keys eq false l c h = keys-eq (h .tagged)
 
 pub shape-label : (eq : Equivalence) (field : Bool) (l : Label) (c : CountingType) → Shape eq field l c → l ≡ labelOf eq (l .kind) (l .key) (siblingKeys c)
 shape-label eq field l c h = λ i. record { kind = l .kind; key = l .key; keys = shape-keys eq field l c h i }
