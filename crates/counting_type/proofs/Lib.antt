@@ -6,3 +6,4 @@ pub mod Label
 pub mod Tagged
 pub mod Encoding
 pub mod Published
+pub mod Values

@@ -1,0 +1,8 @@
+-- The laws of the type of some values.
+pub mod Every
+pub mod Tally
+pub mod Labels
+pub mod Raw
+pub mod Contents
+pub mod Having
+pub mod Counted
