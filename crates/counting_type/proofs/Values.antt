@@ -6,3 +6,4 @@ pub mod Raw
 pub mod Contents
 pub mod Having
 pub mod Counted
+pub mod Totals
