@@ -7,3 +7,4 @@ pub mod Contents
 pub mod Having
 pub mod Counted
 pub mod Totals
+pub mod KeyList
