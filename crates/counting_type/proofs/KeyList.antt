@@ -12,7 +12,7 @@ or-left-comm true true c = refl
 or-left-comm true false c = refl
 or-left-comm false b c = refl
 
-member-insertKey : (k x : ℕ) (xs : List ℕ) → member k (insertKey x xs) ≡ (eqb k x || member k xs)
+pub member-insertKey : (k x : ℕ) (xs : List ℕ) → member k (insertKey x xs) ≡ (eqb k x || member k xs)
 unfolding member insertKey
 member-insertKey k x [] = refl
 member-insertKey k x (y ∷ ys) = go (leb x y) (ap (λ t. eqb k y || t) (member-insertKey k x ys) ∙ or-left-comm (eqb k y) (eqb k x) (member k ys))

@@ -8,3 +8,5 @@ pub mod Having
 pub mod Counted
 pub mod Totals
 pub mod KeyList
+pub mod Others
+pub mod Sound

@@ -1,5 +1,5 @@
 -- How many values have a place, counted on the values themselves with the path operators of document 000 (Definition 3.3).
-use mathlib.Core.Bool.{Bool, true, false, cond, _&&_}
+use mathlib.Core.Bool.{Bool, cond, _&&_}
 use mathlib.Core.List.{List, [], _∷_, flatMap}
 use mathlib.Core.Logic.{_↔_}
 use mathlib.Core.Option.{Option, none as absent, some}

@@ -41,7 +41,7 @@ module _ (P : Value → Type 0) where
   every-flatMap f h [] m = tt
   every-flatMap f h (v ∷ M) m = every-append (f v) (flatMap f M) (h v (m .0)) (every-flatMap f h M (m .1))
 
-  every-select : (test : Value → Bool) (M : List Value) → Every P M → Every P (select test M)
+  pub every-select : (test : Value → Bool) (M : List Value) → Every P M → Every P (select test M)
   unfolding select
   every-select test [] m = tt
   every-select test (v ∷ M) m = go (test v) (every-select test M (m .1))

@@ -12,6 +12,7 @@ use Rattle.value_table.proofs.Tests.{or-parts}
 use Rattle.counting_type.specs.Label.{byLabel, Label, listed, labelOf}
 use Rattle.counting_type.specs.Raw.{insertKey, ascending}
 use Rattle.counting_type.specs.Place.{LabelsApart}
+use Rattle.counting_type.proofs.KeyList.{member-insertKey, member-ascending}
 
 -- x is below every key of xs
 abbrev Below : ℕ → List ℕ → Type 0
@@ -21,28 +22,9 @@ abbrev Ascends : List ℕ → Type 0
 Ascends [] = Unit {0}
 Ascends (x ∷ xs) = Below x xs × Ascends xs
 
-or-left-comm : (a b c : Bool) → (a || (b || c)) ≡ (b || (a || c))
-or-left-comm true true c = refl
-or-left-comm true false c = refl
-or-left-comm false b c = refl
-
 or-cases : {X : Type 0} (a b : Bool) → (a || b) ≡ true → (a ≡ true → X) → (b ≡ true → X) → X
 or-cases true b h f g = f refl
 or-cases false b h f g = g h
-
-member-insert : (j k : ℕ) (xs : List ℕ) → member j (insertKey k xs) ≡ (eqb j k || member j xs)
-unfolding member insertKey
-member-insert j k [] = refl
-member-insert j k (x ∷ xs) = go (leb k x) (member-insert j k xs)
-  where
-    go : (b : Bool) → member j (insertKey k xs) ≡ (eqb j k || member j xs) → member j (cond b (k ∷ x ∷ xs) (x ∷ insertKey k xs)) ≡ (eqb j k || (eqb j x || member j xs))
-    go true i = refl
-    go false i = rw i (or-left-comm (eqb j x) (eqb j k) (member j xs))
-
-member-ascending : (k : ℕ) (xs : List ℕ) → member k (ascending xs) ≡ member k xs
-unfolding member ascending
-member-ascending k [] = refl
-member-ascending k (x ∷ xs) = member-insert k x (ascending xs) ∙ ap (λ b. eqb k x || b) (member-ascending k xs)
 
 insert-ascends : (k : ℕ) (xs : List ℕ) → member k xs ≡ false → Ascends xs → Ascends (insertKey k xs)
 unfolding member insertKey
@@ -54,7 +36,7 @@ insert-ascends k (x ∷ xs) h u = go (leb k x) refl (insert-ascends k xs (new .1
 
     go : (b : Bool) → leb k x ≡ b → Ascends (insertKey k xs) → Ascends (cond b (k ∷ x ∷ xs) (x ∷ insertKey k xs))
     go true e i = (λ j z. or-cases (eqb j x) (member j xs) z (λ y. omega (arith, eqb-true j x y, leb-true k x e, eqb-false k x (new .0))) (λ y. omega (arith, u .0 j y, leb-true k x e)), u)
-    go false e i = (λ j z. or-cases (eqb j k) (member j xs) (sym (member-insert j k xs) ∙ z) (λ y. omega (arith, eqb-true j k y, leb-false k x e)) (u .0 j), i)
+    go false e i = (λ j z. or-cases (eqb j k) (member j xs) (sym (member-insertKey j k xs) ∙ z) (λ y. omega (arith, eqb-true j k y, leb-false k x e)) (u .0 j), i)
 
 ascending-ascends : (xs : List ℕ) → Distinct xs → Ascends (ascending xs)
 unfolding ascending Distinct

@@ -2,23 +2,12 @@
 use mathlib.Core.Path.{_≡_, refl, sym, _∙_, ap}
 use mathlib.Core.Bool.{Bool, true, false, true≢false}
 use mathlib.Core.List.{List, _∷_}
-use Prim.Native.Nat.{ℕ, compare, Ordering, Ordering·lt as lt, Ordering·eq as eq, Ordering·gt as gt}
+use Prim.Native.Nat.{ℕ, Ordering, Ordering·lt as lt, Ordering·eq as eq, Ordering·gt as gt}
 use lib.Dec.{isEq}
-use Rattle.counting_type.specs.Order.{then, comparePair, compareList, compareOn}
 use Rattle.counting_type.specs.Trie.{node, atEnd, whenEqual, _⊞_ as joinOption, lookupNode, lookup}
-use Rattle.counting_type.specs.Label.{Label, fieldLabel, compareLabel, Counting, CountingType}
+use Rattle.counting_type.specs.Label.{Label, compareLabel, Counting, CountingType}
 use Rattle.counting_type.specs.Place.{sameLabel}
 use Rattle.counting_type.proofs.Label.{label-order}
-
-then-end : (o : Ordering) → then o eq ≡ o
-unfolding then
-then-end lt = refl
-then-end eq = refl
-then-end gt = refl
-
-pub compare-fields : (j k : ℕ) → compareLabel (fieldLabel j) (fieldLabel k) ≡ compare j k
-unfolding compareOn comparePair compareList then
-compare-fields j k = then-end (compare j k)
 
 pub same-refl : (l : Label) → sameLabel l l ≡ true
 same-refl l = ap isEq (label-order .compare-refl l)

@@ -11,10 +11,10 @@ use Rattle.counting_type.specs.Trie.{nil, node, append, atEnd, whenEqual
 use Rattle.counting_type.specs.Label.{Equivalence, Label, fieldLabel, compareLabel, Counting, CountingType}
 use Rattle.counting_type.specs.Raw.{classOf, raw}
 use Rattle.counting_type.specs.Place.{Value, valuesOf, valuesWith, select, sameLabel, ofClass}
-use Rattle.counting_type.proofs.Label.{counting-laws}
+use Rattle.counting_type.proofs.Label.{compare-fields, counting-laws}
 use Rattle.counting_type.proofs.Trie.Join.{⊞-none}
 use Rattle.counting_type.proofs.Trie.Lookup.{lookup-append}
-use Rattle.counting_type.proofs.Values.Labels.{compare-fields, other-label, labels-differ, lookup-other}
+use Rattle.counting_type.proofs.Values.Labels.{other-label, labels-differ, lookup-other}
 use Rattle.counting_type.proofs.Values.Tally.{_⊞_, tally, tally-suc, tally-zero}
 
 module _ (e : Equivalence) where

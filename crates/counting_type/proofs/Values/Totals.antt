@@ -14,7 +14,7 @@ use Rattle.counting_type.proofs.Label.{label-order, counting-laws}
 use Rattle.counting_type.proofs.Trie.Growth.{total-add}
 use Rattle.counting_type.proofs.Trie.Profile.{reduce-add}
 
--- insert a field with count `a` whose union c is added by g
+-- the node l a c is inserted, and g adds its children c
 module _ (l : Label) (a : ℕ) (c : CountingType) (g : CountingType → CountingType) (field : l .kind ≡ fieldKind → a ≡ total Counting c)
     (adds : (d : CountingType) → total Counting (g d) ≡ total Counting c + total Counting d)
     (keeps : (d : CountingType) → FieldTotals d → FieldTotals (g d)) where
