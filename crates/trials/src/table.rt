@@ -4,7 +4,7 @@ ghost use Prim.Native.Nat.{_≤_};
 
 pub const MAX_RECORDS: usize = 8192;
 
-// One record more than a table may have.
+// The numbers of one record more than a table may have.
 const NUMBERS: usize = 24579;
 
 // The records of a run: null messages, null fields with their places for keys, or arrays each around the next.
@@ -20,6 +20,7 @@ fn store(table: &mut [u8], p: usize, number: usize) {
     }
 }
 
+// Kinds and keys have two bytes here, spans four.
 fn put_number(table: &mut [u8], at: usize, number: usize) {
     if NUMBERS <= at {
         return;

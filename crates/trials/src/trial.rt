@@ -19,7 +19,7 @@ fn report(name: &[u8], table: &[u8]) {
     io::write_all(1, b"\n");
 }
 
-// Reports on the front of a buffer.
+// Reports on the front of a buffer; a length beyond it gives no line.
 fn report_front(name: &[u8], buffer: &[u8], length: usize) {
     if length <= buffer.len() {
         report(name, &buffer[0..length]);
