@@ -1,10 +1,13 @@
 -- The orders that labels are made of: numbers, pairs, lists, and what a key tells apart.
 use mathlib.Core.Path.{_≡_, refl, sym, _∙_, ap}
 use mathlib.Core.List.{List, [], _∷_}
-use Prim.Native.Nat.{ℕ, zero, suc, compare, compare·zero-zero, compare·zero-suc, compare·suc-zero, compare·suc-suc, Ordering, Ordering·lt as lt, Ordering·eq as eq, Ordering·gt as gt}
+use Prim.Native.Nat.{ℕ, zero, suc, _<_, compare, compare·zero-zero, compare·zero-suc, compare·suc-zero, compare·suc-suc, Ordering, Ordering·lt as lt, Ordering·eq as eq, Ordering·gt as gt}
+use native.Mathlib.Omega.{arith}
+use lib.Dec.{isLe, isEq}
+use borrow.Author.Tests.{leb-true, leb-false, eqb-false}
 use Rattle.counting_type.specs.Order.{flip, IsOrder, then, comparePair, compareList, compareOn}
 
-number-refl : (n : ℕ) → compare n n ≡ eq
+pub number-refl : (n : ℕ) → compare n n ≡ eq
 number-refl zero = compare·zero-zero
 number-refl (suc n) = compare·suc-suc n n ∙ number-refl n
 
@@ -38,6 +41,17 @@ number-order =
       compare-flip = number-flip;
       compare-trans = λ {x} {y} {z}. number-trans x y z;
     }
+
+pub compare-less : (m n : ℕ) → compare m n ≡ lt → m < n
+compare-less m n h = omega (arith, leb-true m n (ap isLe h), eqb-false m n (ap isEq h))
+
+pub less-compare : (m n : ℕ) → m < n → compare m n ≡ lt
+less-compare m n h = go (compare m n) refl
+  where
+    go : (o : Ordering) → compare m n ≡ o → o ≡ lt
+    go lt e = refl
+    go eq e = absurd (omega (arith, number-eq m n e))
+    go gt e = absurd (omega (arith, leb-false m n (ap isLe e)))
 
 then-eq : (o u : Ordering) → then o u ≡ eq → (o ≡ eq) × (u ≡ eq)
 unfolding then
@@ -138,3 +152,6 @@ module _ {A : Type 0} {compareA : A → A → Ordering} (O : IsOrder compareA) w
         compare-flip = λ x y. compare-flip (key x) (key y);
         compare-trans = compare-trans;
       }
+
+pub more-compare : (m n : ℕ) → n < m → compare m n ≡ gt
+more-compare m n h = number-flip n m ∙ ap flip (less-compare n m h)

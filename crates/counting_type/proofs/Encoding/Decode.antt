@@ -1,11 +1,11 @@
 -- Reading by the spans gives back the type that was written.
 use mathlib.Core.Path.{_≡_, refl, sym, _∙_, ap}
 use mathlib.Core.Bool.{Bool}
-use mathlib.Core.List.{List, _++_, append-assoc, append-nil}
+use mathlib.Core.List.{List, _++_, append-nil}
 use Prim.Native.Nat.{ℕ, zero, suc, _+_, _*_, _/_, _≤_}
 use native.Mathlib.Omega.{arith}
 use lib.ListN.{length, drop}
-use lib.Seq.{drop-drop, drop-at, drop-length}
+use lib.Seq.{drop-length}
 use borrow.Author.Tests.{lt-ltb, le-ltb}
 use Rattle.counting_type.specs.Trie.{nil, node, size, SameMap, Sorted}
 use Rattle.counting_type.specs.Label.{Equivalence, Counting, CountingType}
@@ -13,7 +13,8 @@ use Rattle.counting_type.specs.Encoding.{typeSize, typeSpan, encode, dec
 use Rattle.counting_type.proofs.Trie.Canonical.{canonical}
 use Rattle.counting_type.proofs.Label.{counting-laws}
 use Rattle.counting_type.proofs.Tagged.Parts.{holdsFields, tagged-parts, shape-label}
-use Rattle.counting_type.proofs.Encoding.Header.{Fields, length-encode, header-read}
+use Rattle.counting_type.proofs.Encoding.Header.{length-encode}
+use Rattle.counting_type.proofs.Encoding.Node.{node-read}
 
 module _ (eq : Equivalence) where
   -- records i to end hold f
@@ -25,17 +26,12 @@ module _ (eq : Equivalence) where
   decode-run b (suc k) i end field nil t fit h e n = rw (le-ltb i end (omega arith), decode) refl
   decode-run b (suc k) i end field (node l a c s) t fit h e n =
       let r = tagged-parts eq field l a c s t in
-      let last : List ℕ = encode s ++ drop (typeSize * end) b in
-      let rest : List ℕ = encode c ++ last in
-      let f : Fields b i (l .kind) 0 (l .key) (1 + size c) a rest =
-      header-read b i l (1 + size c) a rest (fit .0) (fit .1) (fit .2) (e ∙ simp append-assoc) in
-      let p : typeSize * (i + typeSpan b i) ≡ typeSize * (i + 1) + typeSize * size c = omega (arith, f .span-is) in
-      let behind : drop (typeSize * (i + typeSpan b i)) b ≡ last = rw (p, ← drop-drop, f .rest-is) (drop-at (encode c) last (typeSize * size c) (length-encode c)) in
+      let f = node-read b i end l a c s fit e in
       rw (
         lt-ltb i end (omega arith),
         decode,
-        decode-run b k (i + 1) (i + typeSpan b i) (holdsFields field l) c (r .1) (fit .3) (omega arith) (f .rest-is ∙ rw behind refl) (omega (arith, f .span-is)),
-        decode-run b k (i + typeSpan b i) end field s (r .2) (fit .4) (omega arith) behind (omega (arith, f .span-is)),
+        decode-run b k (i + 1) (i + typeSpan b i) (holdsFields field l) c (r .1) (fit .3) (omega arith) (f .in-children) (omega (arith, f .span-is)),
+        decode-run b k (i + typeSpan b i) end field s (r .2) (fit .4) (omega arith) (f .in-next) (omega (arith, f .span-is)),
         f .kind-is,
         f .key-is,
         f .count-is,

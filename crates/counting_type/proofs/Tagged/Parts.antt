@@ -20,7 +20,7 @@ abbrev pub Shape : Equivalence → Bool → Label → CountingType → Type 0
 Shape eq true l c = l ≡ fieldLabel (l .key)
 Shape eq false l c = AddendShape eq l c
 
-listed-field : (eq : Equivalence) (ks : List ℕ) → listed eq fieldKind ks ≡ []
+pub listed-field : (eq : Equivalence) (ks : List ℕ) → listed eq fieldKind ks ≡ []
 unfolding listed
 listed-field byKind ks = refl
 listed-field byLabel ks = refl

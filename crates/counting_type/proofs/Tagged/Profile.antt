@@ -17,7 +17,7 @@ use Rattle.counting_type.proofs.Tagged.Keys.{keys-insert}
 use Rattle.counting_type.proofs.Tagged.Reduce.{tagged-reduce}
 
 -- a run's profile is that of its first value, merged with that of the others
-profile-addend : (field : Bool) (key : ℕ) (class : Label) (inside next : CountingType) →
+pub profile-addend : (field : Bool) (key : ℕ) (class : Label) (inside next : CountingType) →
     profile Counting (addend field key class inside next) ≡ reduce Counting (addend field key class (profile Counting inside) nil) (profile Counting next)
 unfolding append add insert
 profile-addend true key class inside next = sym (reduce-profile counting-laws (addend true key class inside nil) next)
@@ -25,9 +25,9 @@ profile-addend false key class inside next = sym (reduce-profile counting-laws (
 
 module _ (eq : Equivalence) where
   -- what the profile f of the run vs is
-  record Inferred (field : Bool) (vs : Values) (f : CountingType) : Type 0 where
-    is-tagged : Tagged eq field f
-    has-keys : field ≡ true → Distinct (keys vs) → siblingKeys f ≡ ascending (keys vs)
+  pub record Inferred (field : Bool) (vs : Values) (f : CountingType) : Type 0 where
+    pub is-tagged : Tagged eq field f
+    pub has-keys : field ≡ true → Distinct (keys vs) → siblingKeys f ≡ ascending (keys vs)
 
   shape-class : (field : Bool) (depth kind key : ℕ) (content : Values) (f : CountingType) → Proper field depth kind key content →
       (content ≡ none → f ≡ nil) → Inferred (eqb kind recordKind) content f → AddendShape eq (classOf eq kind content) f
@@ -45,12 +45,18 @@ module _ (eq : Equivalence) where
   tagged-addend true key kind content f h i = (refl, (h, i, tt), tt)
   tagged-addend false key kind content f h i = (h, i, tt)
 
+  -- the first value of a run, with the profile f of its content
+  pub tagged-first : (field : Bool) (depth kind key : ℕ) (content : Values) (f : CountingType) → Proper field depth kind key content →
+      (content ≡ none → f ≡ nil) → Inferred (eqb kind recordKind) content f → Tagged eq field (addend field key (classOf eq kind content) f nil)
+  tagged-first field depth kind key content f p empty i =
+      tagged-addend field key kind content f (shape-class field depth kind key content f p empty i) (i .is-tagged)
+
   keys-addend : (field : Bool) (key : ℕ) (class : Label) (c g : CountingType) → field ≡ true → Tagged eq field g → member key (siblingKeys g) ≡ false →
       siblingKeys (reduce Counting (addend field key class c nil) g) ≡ insertKey key (siblingKeys g)
   keys-addend true key class c g t p h = keys-insert eq key (node class 1 c nil) g p h
   keys-addend false key class c g t p h = cc
 
-  inferred : (field : Bool) (depth : ℕ) (vs : Values) → ValidAt field depth vs → Inferred field vs (profile Counting (raw eq field vs))
+  pub inferred : (field : Bool) (depth : ℕ) (vs : Values) → ValidAt field depth vs → Inferred field vs (profile Counting (raw eq field vs))
   unfolding raw ValidAt Distinct add keys ascending siblingKeys
   inferred field depth none h = record { is-tagged = tt; has-keys = λ t d. refl }
   inferred field depth (value kind key content next) h =
@@ -59,9 +65,9 @@ module _ (eq : Equivalence) where
       let i = inferred (eqb kind recordKind) (suc depth) content (h .1) in
       let j = inferred field depth next (h .2) in
       let class = classOf eq kind content in
-      let shape = shape-class field depth kind key content c (h .0) (λ e. rw e refl) i in
+      let first = tagged-first field depth kind key content c (h .0) (λ e. rw e refl) i in
       rw (profile-addend field key class (raw eq (eqb kind recordKind) content) (raw eq field next)) (record {
-        is-tagged = tagged-reduce eq field (addend field key class c nil) g (tagged-addend field key kind content c shape (i .is-tagged)) (j .is-tagged);
+        is-tagged = tagged-reduce eq field (addend field key class c nil) g first (j .is-tagged);
         has-keys = λ t d.
             let e = j .has-keys t (d .1) in
             keys-addend field key class c g t (j .is-tagged) (ap (member key) e ∙ member-ascending key (keys next) ∙ d .0) ∙ ap (insertKey key) e;
