@@ -1,3 +1,5 @@
 -- Types as bytes: the record layout, and reading back what was written.
 pub mod Header
+pub mod Node
 pub mod Decode
+pub mod Bytes

@@ -7,7 +7,7 @@ use Rattle.counting_type.proofs.Trie.Lookup.{lookup-add, lookup-append,
 use Rattle.counting_type.proofs.Trie.Sorted.{sorted-add, sorted-profile, sorted-reduce}
 use Rattle.counting_type.proofs.Trie.Canonical.{canonical}
 
-append-assoc : {L P : Type 0} (r s t : Forest L P) → append (append r s) t ≡ append r (append s t)
+pub append-assoc : {L P : Type 0} (r s t : Forest L P) → append (append r s) t ≡ append r (append s t)
 unfolding append
 append-assoc nil s t = refl
 append-assoc (node l a c r) s t = ap (node l a c) (append-assoc r s t)

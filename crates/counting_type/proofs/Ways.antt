@@ -1,0 +1,13 @@
+-- Every way of bringing messages together ends as the profile of all the messages says.
+pub mod Weights
+pub mod Parts
+pub mod Join
+pub mod Whole
+pub mod Pull
+pub mod Calls
+pub mod Written
+pub mod Ends
+pub mod Occurrences
+pub mod Same
+pub mod Alike
+pub mod Every
