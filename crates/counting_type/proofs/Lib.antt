@@ -1,4 +1,4 @@
--- The laws behind the statements.
+-- The laws behind the statements; a folder for each function's proof.
 pub mod Order
 pub mod Trie
 pub mod KeyList
@@ -7,3 +7,8 @@ pub mod Tagged
 pub mod Encoding
 pub mod Published
 pub mod Values
+pub mod WellFormed
+pub mod Chain
+pub mod OnePass
+pub mod Equivalence
+pub mod Ways

@@ -7,3 +7,8 @@ pub mod Place
 pub mod Encoding
 pub mod Published
 pub mod Meaning
+pub mod WellFormed
+pub mod Checker
+pub mod Answers
+pub mod Outcomes
+pub mod Ways

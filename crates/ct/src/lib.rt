@@ -3,6 +3,7 @@ use value_table::Answer;
 ghost use mathlib.Core.Path.{_≡_};
 ghost use Rattle.value_table.specs.Outcome.{outcomeOfAnswer};
 ghost use Rattle.value_table.specs.Judged.{judged};
+ghost use Rattle.counting_type.specs.Answers.{judgedType};
 
 // Call 1: judges a table.
 #[no_mangle]
@@ -10,4 +11,12 @@ pub extern "C" fn ct_judge_table(table: &[u8]) -> Answer
     ensures { λ r. ⌜ outcomeOfAnswer r ≡ judged (now (table .entry)) ⌝ }
 {
     value_table::answer_of(value_table::judge(table))
+}
+
+// Call 4: judges a type under an equivalence.
+#[no_mangle]
+pub extern "C" fn ct_judge_type(bytes: &[u8], equivalence: u64) -> Answer
+    ensures { λ r. ⌜ outcomeOfAnswer r ≡ judgedType (now (bytes .entry)) equivalence ⌝ }
+{
+    counting_type::answer_of(counting_type::judge_type(bytes, equivalence))
 }

@@ -25,3 +25,11 @@ pub fn number32(s: &[u8], p: usize) -> usize
 {
     number16(s, p) + number16(s, p + 2) * 65536
 }
+
+// The number in eight bytes from p.
+pub fn number64(s: &[u8], p: usize) -> usize
+    requires { ⌜ p + 8 ≤ length (now s) ⌝ }
+    ensures { λ r. ⌜ r ≡ numberAt 8 (now (s .entry)) p ⌝ }
+{
+    number32(s, p) + number32(s, p + 4) * 4294967296
+}

@@ -1,0 +1,285 @@
+// Well-formedness of a type, in one pass over its records.
+use crate::type_record;
+use crate::type_record::count_at;
+use crate::type_record::key_at;
+use crate::type_record::kind_at;
+use crate::type_record::span_at;
+use crate::type_record::zero_at;
+ghost use mathlib.Core.Path.{_≡_};
+ghost use mathlib.Core.Bool.{false, _&&_, _||_};
+ghost use Prim.Native.Nat.{ℕ, _+_, _-_, _≤_, _<_, compare};
+ghost use lib.ListN.{length};
+ghost use lib.Dec.{eqb, leb, ltb};
+ghost use Rattle.value_table.specs.Value.{maxDepth, arrayKind, lastScalar};
+ghost use Rattle.counting_type.specs.Order.{compareList};
+ghost use Rattle.counting_type.specs.Label.{compareLabel};
+ghost use Rattle.counting_type.specs.Encoding.{typeKind, typeSpan, typeCount};
+ghost use Rattle.counting_type.specs.WellFormed.{maxTotal, badTypeLength, wellFormed, isLt, placedRecord, fieldRecord, typeRecord, fieldCount};
+ghost use Rattle.counting_type.specs.Checker.{InTable, RunOf, under, checkedOf, isSome, hasTotal, addends, fields, fits, keysIn, labelAt, ordered, addendRight, checkRun, FieldsInside, AddendInside};
+
+const MAX_TOTAL: usize = 1000000000000000;
+
+const MAX_DEPTH: usize = 32;
+
+// The total of a union, or that something in it is wrong.
+pub enum Checked {
+    Total(usize),
+    Faulty,
+}
+
+// Byte 1 is zero, and the record with its content ends by `end`.
+fn placed(b: &[u8], p: usize, end: usize) -> bool
+    requires { ⌜ InTable (now b) p ⌝ }
+    ensures { λ r. ⌜ r ≡ placedRecord (now (b .entry)) p end ⌝ }
+{
+    if zero_at(b, p) != 0 {
+        return false;
+    }
+    let span = span_at(b, p);
+    if span < 1 {
+        return false;
+    }
+    p + span <= end
+}
+
+fn kind_fits(b: &[u8], p: usize) -> bool
+    requires { ⌜ InTable (now b) p ⌝ }
+    ensures { λ r. ⌜ r ≡ (leb 1 (typeKind (now (b .entry)) p) && leb (typeKind (now (b .entry)) p) arrayKind) ⌝ }
+{
+    let kind = kind_at(b, p);
+    if kind < 1 {
+        return false;
+    }
+    kind <= type_record::ARRAY
+}
+
+// A scalar has span 1.
+fn scalar_fits(b: &[u8], p: usize) -> bool
+    requires { ⌜ InTable (now b) p ⌝ }
+    ensures { λ r. ⌜ r ≡ (ltb lastScalar (typeKind (now (b .entry)) p) || eqb (typeSpan (now (b .entry)) p) 1) ⌝ }
+{
+    if type_record::LAST_SCALAR < kind_at(b, p) {
+        return true;
+    }
+    span_at(b, p) == 1
+}
+
+// The record of an addend, with `left` levels of depth left.
+fn addend_record(b: &[u8], p: usize, end: usize, left: usize) -> bool
+    requires { ⌜ InTable (now b) p × (left ≤ maxDepth) ⌝ }
+    ensures { λ r. ⌜ r ≡ typeRecord (now (b .entry)) p end false (maxDepth + 1 - left) ⌝ }
+{
+    if !placed(b, p, end) {
+        return false;
+    }
+    if !kind_fits(b, p) {
+        return false;
+    }
+    if key_at(b, p) != 0 {
+        return false;
+    }
+    if left == 0 {
+        return false;
+    }
+    scalar_fits(b, p)
+}
+
+fn field_record(b: &[u8], p: usize, end: usize) -> bool
+    requires { ⌜ InTable (now b) p ⌝ }
+    ensures { λ r. ⌜ r ≡ (placedRecord (now (b .entry)) p end && fieldRecord (now (b .entry)) p) ⌝ }
+{
+    if !placed(b, p, end) {
+        return false;
+    }
+    if kind_at(b, p) != type_record::FIELD {
+        return false;
+    }
+    if key_at(b, p) < 1 {
+        return false;
+    }
+    2 <= span_at(b, p)
+}
+
+// The addend's count is at least 1 and keeps the union's total within the limit.
+fn count_fits(b: &[u8], p: usize, total: usize) -> bool
+    requires { ⌜ InTable (now b) p × (total ≤ maxTotal) ⌝ }
+    ensures { λ r. ⌜ r ≡ (leb 1 (typeCount (now (b .entry)) p) && leb (total + typeCount (now (b .entry)) p) maxTotal) ⌝ }
+{
+    let count = count_at(b, p);
+    if count < 1 {
+        return false;
+    }
+    count <= MAX_TOTAL - total
+}
+
+// A field's count against its record's.
+fn count_agrees(count: usize, of_record: usize, label: bool) -> bool
+    ensures { λ r. ⌜ r ≡ fieldCount (under label) count «of_record» ⌝ }
+{
+    if label {
+        count == of_record
+    } else {
+        count <= of_record
+    }
+}
+
+// Whether the key list of the record at x comes before that of the record at y: the first key that differs settles it.
+fn keys_precede(b: &[u8], x: usize, y: usize) -> bool
+    requires { ⌜ FieldsInside (now b) x × FieldsInside (now b) y ⌝ }
+    ensures { λ r. ⌜ r ≡ isLt (compareList compare (keysIn (now (b .entry)) x) (keysIn (now (b .entry)) y)) ⌝ }
+{
+    let x_end = x + span_at(b, x);
+    let y_end = y + span_at(b, y);
+    let mut i = x + 1;
+    let mut j = y + 1;
+    let precedes = loop {
+        if j == y_end {
+            break false;
+        }
+        if i == x_end {
+            break true;
+        }
+        let k = key_at(b, i);
+        let m = key_at(b, j);
+        if k != m {
+            break k < m;
+        }
+        i += span_at(b, i);
+        j += span_at(b, j);
+    };
+    precedes
+}
+
+// Whether the addend at x comes before the addend at y, by class.
+fn addend_precedes(b: &[u8], x: usize, y: usize, label: bool) -> bool
+    requires { ⌜ AddendInside (now b) x × AddendInside (now b) y ⌝ }
+    ensures { λ r. ⌜ r ≡ isLt (compareLabel (labelAt (under label) (now (b .entry)) x) (labelAt (under label) (now (b .entry)) y)) ⌝ }
+{
+    let kind = kind_at(b, x);
+    let other = kind_at(b, y);
+    if kind != other {
+        return kind < other;
+    }
+    if !label {
+        return false;
+    }
+    if kind != type_record::RECORD {
+        return false;
+    }
+    keys_precede(b, x, y)
+}
+
+// The same where x is the addend before y, or y itself where there is none.
+fn in_order(b: &[u8], x: usize, y: usize, label: bool) -> bool
+    requires { ⌜ AddendInside (now b) x × AddendInside (now b) y ⌝ }
+    ensures { λ r. ⌜ r ≡ ordered (under label) (now (b .entry)) x y ⌝ }
+{
+    if x == y {
+        return true;
+    }
+    addend_precedes(b, x, y, label)
+}
+
+// The record of a field, its key above the last one and its count against its record's.
+fn field_fits(b: &[u8], p: usize, end: usize, last: usize, of_record: usize, label: bool) -> bool
+    requires { ⌜ InTable (now b) p ⌝ }
+    ensures { λ r. ⌜ ((depth : ℕ) → r ≡ fits (under label) (now (b .entry)) p end (fields depth «of_record» last)) ⌝ }
+{
+    if !field_record(b, p, end) {
+        return false;
+    }
+    if key_at(b, p) <= last {
+        return false;
+    }
+    count_agrees(count_at(b, p), of_record, label)
+}
+
+// The total of the union in records i to end, where `left` levels of depth are left.
+pub fn check_union(b: &[u8], i: usize, end: usize, left: usize, label: bool) -> Checked
+    requires { ⌜ RunOf (now b) i end × (left ≤ maxDepth) ⌝ }
+    ensures { λ r. ⌜ checkedOf r ≡ checkRun (under label) (now (b .entry)) i end (addends (maxDepth + 1 - left) i 0) ⌝ }
+{
+    let mut p = i;
+    let mut last = i;
+    let mut total = 0;
+    while p < end {
+        if !check_addend(b, p, end, left, label) {
+            return Checked::Faulty;
+        }
+        if !count_fits(b, p, total) {
+            return Checked::Faulty;
+        }
+        if !in_order(b, last, p, label) {
+            return Checked::Faulty;
+        }
+        total += count_at(b, p);
+        last = p;
+        p += span_at(b, p);
+    }
+    Checked::Total(total)
+}
+
+// An addend by itself: its record, and the union or the fields inside it.
+fn check_addend(b: &[u8], p: usize, end: usize, left: usize, label: bool) -> bool
+    requires { ⌜ RunOf (now b) p end × (p < end) × (left ≤ maxDepth) ⌝ }
+    ensures { λ r. ⌜ r ≡ addendRight (under label) (now (b .entry)) p end (maxDepth + 1 - left) ⌝ }
+{
+    if !addend_record(b, p, end, left) {
+        return false;
+    }
+    let kind = kind_at(b, p);
+    let inner_end = p + span_at(b, p);
+    if kind == type_record::RECORD {
+        return check_fields(b, p + 1, inner_end, left, count_at(b, p), label);
+    }
+    if kind < type_record::RECORD {
+        return true;
+    }
+    match check_union(b, p + 1, inner_end, left - 1, label) {
+        Checked::Total(_) => true,
+        Checked::Faulty => false,
+    }
+}
+
+// The fields of a record with this count, in records i to end.
+fn check_fields(b: &[u8], i: usize, end: usize, left: usize, of_record: usize, label: bool) -> bool
+    requires { ⌜ RunOf (now b) i end × (1 ≤ left) × (left ≤ maxDepth) ⌝ }
+    ensures { λ r. ⌜ r ≡ isSome (checkRun (under label) (now (b .entry)) i end (fields (maxDepth + 1 - left) «of_record» 0)) ⌝ }
+{
+    let mut p = i;
+    let mut last = 0;
+    while p < end {
+        if !field_fits(b, p, end, last, of_record, label) {
+            return false;
+        }
+        let inner_end = p + span_at(b, p);
+        if !check_field(b, p, inner_end, left - 1, label) {
+            return false;
+        }
+        last = key_at(b, p);
+        p = inner_end;
+    }
+    true
+}
+
+// The union of the field at p, and that its total is the field's count.
+fn check_field(b: &[u8], p: usize, end: usize, left: usize, label: bool) -> bool
+    requires { ⌜ RunOf (now b) (p + 1) end × (left < maxDepth) ⌝ }
+    ensures { λ r. ⌜ r ≡ hasTotal (typeCount (now (b .entry)) p) (checkRun (under label) (now (b .entry)) (p + 1) end (addends (maxDepth + 1 - left) (p + 1) 0)) ⌝ }
+{
+    match check_union(b, p + 1, end, left, label) {
+        Checked::Total(total) => total == count_at(b, p),
+        Checked::Faulty => false,
+    }
+}
+
+// Whether the bytes of an allowed length are a well-formed type.
+pub fn well_formed(bytes: &[u8], label: bool) -> bool
+    requires { ⌜ badTypeLength (length (now bytes)) ≡ false ⌝ }
+    ensures { λ r. ⌜ r ≡ wellFormed (under label) (now (bytes .entry)) ⌝ }
+{
+    match check_union(bytes, 0, bytes.len() / type_record::SIZE, MAX_DEPTH, label) {
+        Checked::Total(_) => true,
+        Checked::Faulty => false,
+    }
+}
