@@ -28,12 +28,12 @@ numberOfRefusal Key = 5
 numberOfRefusal Repeat = 6
 numberOfRefusal Depth = 7
 
--- call 1's answer
 -- what is wrong with one record, 0 for nothing
 abbrev pub numberOfFault : Fault → ℕ
 numberOfFault Nothing = 0
 numberOfFault (Found why) = numberOfRefusal why
 
+-- call 1's answer
 abbrev pub outcomeOf : Judged → Outcome
 outcomeOf (Accepted messages) = accepted messages
 outcomeOf (Refused why place) = refused (numberOfRefusal why) place
