@@ -12,3 +12,4 @@ pub mod Chain
 pub mod OnePass
 pub mod Equivalence
 pub mod Ways
+pub mod Trials

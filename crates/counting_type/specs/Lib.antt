@@ -12,3 +12,4 @@ pub mod Checker
 pub mod Answers
 pub mod Outcomes
 pub mod Ways
+pub mod Trials
