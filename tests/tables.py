@@ -1,6 +1,6 @@
 """Document 01's trials of call 1, written without the crates: builds each table, judges it by recursive descent, prints a line.
 
-crates/trials/stdout was made by: python3 tests/tables.py > crates/trials/stdout
+crates/trials/stdout was made by: (python3 tests/tables.py; python3 tests/types.py) > crates/trials/stdout
 """
 import struct
 
@@ -104,7 +104,6 @@ def accepted():
         record(null(1)),
         record(array(key=2)),
     )
-    yield "empty", []
     yield "one-null", null()
     yield "nine-records", nine
     yield "every-kind", EVERY
@@ -131,8 +130,22 @@ def depths():
     for name, last in ("arrays-", EMPTY_ARRAY), ("record-at-", EMPTY_RECORD), ("null-at-", ONE_NULL):
         yield name + "32", nested(32, last)
         yield name + "33", nested(33, last)
+    yield "kind-and-depth", nested(33, (0, 0, 1))
+    yield "span-and-depth", nested(33, (ARRAY, 0, 2))
+    yield "key-and-depth", nested(33, (ARRAY, 1, 1))
+
+
+def between():
     yield "arrays-32-between", null() + nested(32, EMPTY_ARRAY) + null()
     yield "arrays-33-between", null() + nested(33, EMPTY_ARRAY) + null()
+    yield "depth-before-kind", null() + nested(33, EMPTY_ARRAY) + [(0, 0, 1)]
+
+
+def single_faults():
+    yield "all-zero", [(0, 0, 0)]
+    yield "null-span-2-alone", [(NULL, 0, 2)]
+    yield "key-in-array-in-record", record(array(null(1), key=1))
+    yield "no-key-in-record-in-array", array(record(null()))
 
 
 def two_faults():
@@ -140,54 +153,49 @@ def two_faults():
     yield "kind-and-repeat", record(null(1), [(0, 1, 1)])
     yield "span-and-key", [(NULL, 1, 2)]
     yield "span-and-repeat", record(null(1), [(NULL, 1, 0)])
-    yield "kind-and-depth", nested(33, (0, 0, 1))
-    yield "span-and-depth", nested(33, (ARRAY, 0, 2))
-    yield "key-and-depth", nested(33, (ARRAY, 1, 1))
-
-
-def first_record():
     bad_kind = [(0, 0, 1)]
     yield "span-before-kind", [(NULL, 0, 2)] + bad_kind
     yield "key-before-kind", null(1) + bad_kind
     yield "repeat-before-kind", record(null(1), null(1)) + bad_kind
-    yield "depth-before-kind", null() + nested(33, EMPTY_ARRAY) + bad_kind
 
 
 def tables(trials):
     return [(name, bytes_of(records)) for name, records in trials]
 
 
-def trials():
-    """Names and tables, in the order of crates/trials."""
-    yield from tables(accepted())
-    yield from lengths(THREE, 1, 7, 8, 9, 23)
-    yield "all-zero", bytes(8)
+def replaced():
     yield from each("kind-0", THREE, range(3), (0, 0, 1))
     yield from each("kind-7", THREE, range(3), (7, 0, 1))
-    yield from each("kind-255", FIELDS, range(1, 4), (255, 9, 1))
     yield from each("byte-1-is-1", THREE, range(3), (NULL, 0, 1, 1))
-    yield from each("byte-1-is-255", ELEMENTS, range(1, 4), (ARRAY, 0, 1, 255))
-    yield "null-span-2-alone", bytes_of([(NULL, 0, 2)])
     yield from each("null-span-0", THREE, range(3), (NULL, 0, 0))
     yield from each("array-span-0", THREE, range(3), (ARRAY, 0, 0))
     yield from each("null-span-2", THREE, range(3), (NULL, 0, 2))
-    yield from each("string-span-2", ELEMENTS, range(1, 4), (STRING, 0, 2))
     yield from each("span-past-table", THREE, range(3), (ARRAY, 0, 4))
-    yield from each("span-past-array", ELEMENTS, range(1, 4), (ARRAY, 0, 4))
-    yield from each("span-past-record", FIELDS, range(1, 4), (RECORD, 9, 4))
     yield from each("span-largest", THREE, range(3), (ARRAY, 0, 2**32 - 1))
-    yield from each("span-largest-inside", ELEMENTS, range(1, 4), (RECORD, 0, 2**32 - 1))
-    yield from each("field-key-0", FIELDS, range(1, 4), (NULL, 0, 1))
     yield from each("message-key-7", THREE, range(3), (NULL, 7, 1))
     yield from each("message-key-256", THREE, range(3), (RECORD, 256, 1))
+    yield from each("kind-255", FIELDS, range(1, 4), (255, 9, 1))
+    yield from each("span-past-record", FIELDS, range(1, 4), (RECORD, 9, 4))
+    yield from each("field-key-0", FIELDS, range(1, 4), (NULL, 0, 1))
+    yield from each("byte-1-is-255", ELEMENTS, range(1, 4), (ARRAY, 0, 1, 255))
+    yield from each("string-span-2", ELEMENTS, range(1, 4), (STRING, 0, 2))
+    yield from each("span-past-array", ELEMENTS, range(1, 4), (ARRAY, 0, 4))
+    yield from each("span-largest-inside", ELEMENTS, range(1, 4), (RECORD, 0, 2**32 - 1))
     yield from each("element-key-7", ELEMENTS, range(1, 4), (NULL, 7, 1))
-    yield "key-in-array-in-record", bytes_of(record(array(null(1), key=1)))
-    yield "no-key-in-record-in-array", bytes_of(array(record(null())))
-    yield from tables(repeats())
-    yield from tables(depths())
-    yield from tables(two_faults())
+
+
+def trials():
+    """Names and tables, in the order of crates/trials."""
+    yield "empty", b""
+    yield from lengths(THREE, 1, 7, 8, 9, 23)
     yield "length-before-kind", bytes(9)
-    yield from tables(first_record())
+    yield from tables(accepted())
+    yield from tables(single_faults())
+    yield from tables(repeats())
+    yield from tables(two_faults())
+    yield from replaced()
+    yield from tables(between())
+    yield from tables(depths())
     yield from lengths([ONE_NULL] * 8193, 65535, 65536, 65537, 65544)
     yield "wide", bytes_of(wide(8191))
     yield "wide-repeat", bytes_of(wide(1))

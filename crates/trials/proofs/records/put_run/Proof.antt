@@ -3,14 +3,14 @@ use Prim.Native.Nat.{_-_}
 use mathlib.Core.Path.{_≡_}
 use borrow.Author.Needs.{needs}
 use lib.ListN.{length}
-use Rattle.trials.proofs.table.put_run.Statement.{statement}
-use Rattle.trials.proofs.table.put_run.Tie as tie
+use Rattle.trials.proofs.records.put_run.Statement.{statement}
+use Rattle.trials.proofs.records.put_run.Tie as tie
 
 abbrev Inv-loop : tie.InvT-loop
-Inv-loop table₀ run first end i₀ table i = length table ≡ length table₀
+Inv-loop bytes₀ layout run first end i₀ bytes i = length bytes ≡ length bytes₀
 
 abbrev μ-loop : tie.MeasureT-loop
-μ-loop table₀ run first end i₀ table i = end - i
+μ-loop bytes₀ layout run first end i₀ bytes i = end - i
 
 loop-holds : tie.Need-loop-holds Inv-loop μ-loop
 loop-holds c = search needs
