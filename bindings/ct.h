@@ -11,12 +11,18 @@ extern "C" {
 
 /* Why a call refuses its input; CT_ACCEPTED where it does not. */
 #define CT_ACCEPTED 0
-#define CT_LENGTH 1 /* a length that is no multiple of 8, or above 65,536 */
-#define CT_KIND 3   /* kind not 1 to 6, or byte 1 not zero */
-#define CT_SPAN 4   /* span 0; beyond the end of the parent or of the table; over 1 for kinds 1 to 4 */
-#define CT_KEY 5    /* key 0 in a field, or not 0 elsewhere */
-#define CT_REPEAT 6 /* a key seen earlier in the same record */
-#define CT_DEPTH 7  /* depth 33 */
+#define CT_LENGTH 1      /* a length that is no multiple of its record size (8 in a table, 16 in a type), or above 65,536 */
+#define CT_EQUIVALENCE 2 /* an equivalence that is neither 0 nor 1 */
+#define CT_KIND 3        /* kind not 1 to 6, or byte 1 not zero */
+#define CT_SPAN 4        /* span 0; beyond the end of the parent or of the table; over 1 for kinds 1 to 4 */
+#define CT_KEY 5         /* key 0 in a field, or not 0 elsewhere */
+#define CT_REPEAT 6      /* a key seen earlier in the same record */
+#define CT_DEPTH 7       /* depth 33 */
+#define CT_FIRST_TYPE 8  /* the first or only type is not well formed */
+
+/* The equivalences: the class of a record is its kind alone, or its kind with its keys. */
+#define CT_BY_KIND 0
+#define CT_BY_LABEL 1
 
 /* The refusal number, the place and the count. On acceptance number and place are 0, on a refusal the count is 0. */
 struct ct_answer {
@@ -33,6 +39,15 @@ struct ct_answer {
  *
  * `table` points to `length` bytes that nobody writes during the call. It is not null, even for length 0. */
 struct ct_answer ct_judge_table(const uint8_t *table, size_t length);
+
+/* Judges a type of `length` bytes under an equivalence, CT_BY_KIND or CT_BY_LABEL.
+ *
+ * Accepted, the count is the number of type records, fields included. Refused, the place is 0. The length comes first, then the
+ * equivalence, then the records. An empty type is well formed; a type with zeros behind it, as a whole arena has, is not. The
+ * answer depends on the bytes and the equivalence alone; nothing is written and nothing is kept.
+ *
+ * `bytes` points to `length` bytes that nobody writes during the call. It is not null, even for length 0. */
+struct ct_answer ct_judge_type(const uint8_t *bytes, size_t length, uint64_t equivalence);
 
 #ifdef __cplusplus
 }
