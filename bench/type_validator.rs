@@ -1,0 +1,135 @@
+//! Call 4 of document 01 in plain Rust: what the proved judge of types is measured against.
+
+use std::cmp::Ordering;
+
+const RECORD: u8 = 5;
+const ARRAY: u8 = 6;
+const FIELD: u8 = 7;
+const SIZE: usize = 16;
+const MAX_DEPTH: usize = 32;
+const MAX_TOTAL: u64 = 1_000_000_000_000_000;
+
+#[derive(Clone, Copy, PartialEq)]
+enum Equivalence {
+    Kind,
+    Label,
+}
+
+struct Header {
+    kind: u8,
+    zero: u8,
+    key: u16,
+    span: usize,
+    count: u64,
+}
+
+fn header(run: &[u8]) -> Header {
+    let b: &[u8; SIZE] = run[..SIZE].try_into().unwrap();
+    Header {
+        kind: b[0],
+        zero: b[1],
+        key: u16::from_le_bytes([b[2], b[3]]),
+        span: u32::from_le_bytes([b[4], b[5], b[6], b[7]]) as usize,
+        count: u64::from_le_bytes([b[8], b[9], b[10], b[11], b[12], b[13], b[14], b[15]]),
+    }
+}
+
+/// The first record of a run, what stands inside it, and the rest of the run.
+fn split(run: &[u8]) -> Option<(Header, &[u8], &[u8])> {
+    let first = header(run);
+    let end = SIZE * first.span;
+    if first.zero != 0 || first.span == 0 || end > run.len() || first.count == 0 {
+        return None;
+    }
+    Some((first, &run[SIZE..end], &run[end..]))
+}
+
+/// The keys of fields that have been checked.
+fn keys(mut fields: &[u8]) -> impl Iterator<Item = u16> + '_ {
+    std::iter::from_fn(move || {
+        if fields.is_empty() {
+            return None;
+        }
+        let Header { key, span, .. } = header(fields);
+        fields = &fields[SIZE * span..];
+        Some(key)
+    })
+}
+
+/// The total of a union, if it is well formed.
+fn union_total(mut run: &[u8], depth: usize, equivalence: Equivalence) -> Option<u64> {
+    let mut total = 0;
+    let mut last: Option<(u8, &[u8])> = None;
+    while !run.is_empty() {
+        let (addend, inner, rest) = split(run)?;
+        if addend.key != 0 || depth > MAX_DEPTH {
+            return None;
+        }
+        match addend.kind {
+            1..=4 if inner.is_empty() => {}
+            RECORD => fields(inner, addend.count, depth, equivalence)?,
+            ARRAY => {
+                union_total(inner, depth + 1, equivalence)?;
+            }
+            _ => return None,
+        }
+        if let Some((kind, content)) = last {
+            let ascends = match kind.cmp(&addend.kind) {
+                Ordering::Less => true,
+                Ordering::Equal => {
+                    kind == RECORD
+                        && equivalence == Equivalence::Label
+                        && keys(content).lt(keys(inner))
+                }
+                Ordering::Greater => false,
+            };
+            if !ascends {
+                return None;
+            }
+        }
+        if addend.count > MAX_TOTAL - total {
+            return None;
+        }
+        total += addend.count;
+        last = Some((addend.kind, inner));
+        run = rest;
+    }
+    Some(total)
+}
+
+/// The fields of a record with this count.
+fn fields(mut run: &[u8], of_record: u64, depth: usize, equivalence: Equivalence) -> Option<()> {
+    let mut last = 0;
+    while !run.is_empty() {
+        let (field, inner, rest) = split(run)?;
+        if field.kind != FIELD || field.key <= last || inner.is_empty() {
+            return None;
+        }
+        let agrees = match equivalence {
+            Equivalence::Kind => field.count <= of_record,
+            Equivalence::Label => field.count == of_record,
+        };
+        if !agrees || union_total(inner, depth + 1, equivalence)? != field.count {
+            return None;
+        }
+        last = field.key;
+        run = rest;
+    }
+    Some(())
+}
+
+/// The number of type records, or a refusal number.
+pub fn validate(bytes: &[u8], equivalence: u64) -> Result<usize, u64> {
+    if bytes.len() % SIZE != 0 || bytes.len() > 65536 {
+        return Err(1);
+    }
+    let equivalence = match equivalence {
+        0 => Equivalence::Kind,
+        1 => Equivalence::Label,
+        _ => return Err(2),
+    };
+    match union_total(bytes, 1, equivalence) {
+        Some(_) => Ok(bytes.len() / SIZE),
+        None => Err(8),
+    }
+}
