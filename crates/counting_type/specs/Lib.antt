@@ -9,6 +9,7 @@ pub mod Published
 pub mod Meaning
 pub mod WellFormed
 pub mod Checker
+pub mod Merging
 pub mod Answers
 pub mod Outcomes
 pub mod Ways

@@ -1,5 +1,6 @@
 // The upper library: infers, judges and merges counting types.
 mod checker;
+mod store;
 mod type_record;
 
 use checker::well_formed;

@@ -1,0 +1,2 @@
+-- The merge on bytes.
+pub mod Sets
