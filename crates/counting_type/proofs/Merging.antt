@@ -1,2 +1,5 @@
 -- The merge on bytes.
 pub mod Sets
+pub mod Addend
+pub mod Part
+pub mod Labels

@@ -6,3 +6,4 @@ pub mod Canonical
 pub mod Profile
 pub mod Growth
 pub mod Prefix
+pub mod Sizes

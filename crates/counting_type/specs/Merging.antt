@@ -1,8 +1,107 @@
--- The merge of two types on their bytes, as the code goes about it.
-use mathlib.Core.List.{List, []}
-use Prim.Native.Nat.{ℕ}
-use Rattle.counting_type.specs.Encoding.{header}
+-- The merge of two types on their bytes, as the code goes about it: what a run of records is, its first addend, and what is stored.
+use mathlib.Core.Path.{_≡_}
+use mathlib.Core.Bool.{Bool, true, false, cond, not, _&&_, _||_}
+use mathlib.Core.List.{List, [], _++_}
+use Prim.Native.Nat.{ℕ, _+_, _*_, _-_, _≤_, Ordering, Ordering·lt as lt, Ordering·eq as eq, Ordering·gt as gt}
+use lib.Dec.{eqb, ltb}
+use lib.ListN.{length, take, drop}
+use lib.Seq.{sets}
+use Rattle.value_table.specs.Value.{maxDepth, recordKind}
+use Rattle.counting_type.specs.declared.addend.Level.{Level}
+use Rattle.counting_type.specs.declared.addend.Order.{Order}
+use Rattle.counting_type.specs.declared.addend.Order.the-variants.{Less, Same, More}
+use Rattle.counting_type.specs.Trie.{size, reduce, largestBelow, largestTotal}
+use Rattle.counting_type.specs.Label.{Equivalence, byKind, byLabel, Counting, CountingType}
+use Rattle.counting_type.specs.Place.{FieldTotals}
+use Rattle.counting_type.specs.Encoding.{typeSize, typeKind, typeKey, typeSpan, typeCount, header, encode, typeOf, Tagged, Fitting}
+use Rattle.counting_type.specs.WellFormed.{maxTotal, Shallow}
+
+-- the code's flag for label equivalence, and its comparisons
+abbrev pub under : Bool → Equivalence
+under false = byKind
+under true = byLabel
+
+abbrev pub orderingOf : Order → Ordering
+orderingOf Less = lt
+orderingOf Same = eq
+orderingOf More = gt
 
 -- the bytes of a type record
 abbrev pub headerOf : ℕ → ℕ → ℕ → ℕ → List ℕ
 headerOf kind key span count = header (record { kind = kind; key = key; keys = [] }) span count
+
+-- The first addend or field of a run x with what stands inside it, what stands inside it, and what follows it.
+unfoldable pub front : List ℕ → List ℕ
+front x = take (typeSize * typeSpan x 0) x
+
+unfoldable pub body : List ℕ → List ℕ
+body x = take (typeSize * typeSpan x 0 - typeSize) (drop typeSize x)
+
+unfoldable pub rest : List ℕ → List ℕ
+rest x = drop (typeSize * typeSpan x 0) x
+
+-- x has a whole first addend or field
+pub record Headed (x : List ℕ) : Type 0 where
+  pub some : 1 ≤ typeSpan x 0
+  pub whole : typeSize * typeSpan x 0 ≤ length x
+
+-- x is the bytes of a union, or (field ≡ true) of a run of fields
+pub record Coded (e : Equivalence) (field : Bool) (x : List ℕ) : Type 0 where
+  pub trie : CountingType
+  pub bytes : x ≡ encode trie
+  pub tagged : Tagged e field trie
+  pub fitting : Fitting trie
+
+-- the depth of a run's addends, or of the record that has the fields
+abbrev pub depthOf : Level → ℕ
+depthOf level = maxDepth + 1 - (level .left + cond (level .field) 1 0)
+
+-- x is the bytes of a run of a well-formed type
+pub record Part (level : Level) (x : List ℕ) : Type 0 where
+  pub coded : Coded (under (level .label)) (level .field) x
+  pub shallow : Shallow (level .field) (depthOf level) (typeOf (under (level .label)) x)
+  pub left-low : level .left ≤ maxDepth
+  pub limit : largestTotal Counting (typeOf (under (level .label)) x) ≤ maxTotal
+  pub totals : FieldTotals (typeOf (under (level .label)) x)
+
+-- what stands inside a record of this kind: the depth falls at an addend
+abbrev pub insideOf : Level → ℕ → Level
+insideOf level kind =
+    record { left = level .left - cond (level .field) 0 1; field = not (level .field) && eqb kind recordKind; label = level .label }
+
+-- some union, or some union inside, totals above the limit
+unfoldable pub exceeds : CountingType → Bool
+exceeds f = ltb maxTotal (largestTotal Counting f)
+
+unfoldable pub exceedsBelow : CountingType → Bool
+exceedsBelow f = ltb maxTotal (largestBelow Counting f)
+
+-- the merge of two runs, and its bytes
+unfoldable pub both : Equivalence → List ℕ → List ℕ → CountingType
+both e x y = reduce Counting (typeOf e x) (typeOf e y)
+
+unfoldable pub mergedBytes : Equivalence → List ℕ → List ℕ → List ℕ
+mergedBytes e x y = encode (both e x y)
+
+-- the merge of their first addends, which have one label
+unfoldable pub joinedBytes : Equivalence → List ℕ → List ℕ → List ℕ
+joinedBytes e x y =
+    headerOf (typeKind x 0) (typeKey x 0) (1 + size (both e (body x) (body y))) (typeCount x 0 + typeCount y 0) ++ mergedBytes e (body x) (body y)
+
+-- the merge of a and b is stored from byte k on, but for the tail t of a, which comes next
+pub record Ran (e : Equivalence) (a b out₀ : List ℕ) (k₀ : ℕ) (over₀ : Bool) (t out : List ℕ) (k : ℕ) (over : Bool) : Type 0 where
+  pub bytes : sets out k t ≡ sets out₀ k₀ (mergedBytes e a b)
+  pub upto : k + length t ≡ k₀ + length (mergedBytes e a b)
+  pub seen : over ≡ (over₀ || exceedsBelow (both e a b))
+
+-- the merge of a and b, of n bytes, is stored from byte k on
+pub record Stored (e : Equivalence) (a b out₀ : List ℕ) (k : ℕ) (out : List ℕ) (n : ℕ) (over : Bool) : Type 0 where
+  pub bytes : out ≡ sets out₀ k (mergedBytes e a b)
+  pub counted : n ≡ length (mergedBytes e a b)
+  pub seen : over ≡ exceeds (both e a b)
+
+-- the same of the first addends of x and y
+pub record Joined (e : Equivalence) (x y out₀ : List ℕ) (k : ℕ) (out : List ℕ) (n : ℕ) (over : Bool) : Type 0 where
+  pub bytes : out ≡ sets out₀ k (joinedBytes e x y)
+  pub counted : n ≡ length (joinedBytes e x y)
+  pub seen : over ≡ exceeds (both e (body x) (body y))

@@ -1,4 +1,5 @@
 // The upper library: infers, judges and merges counting types.
+mod addend;
 mod checker;
 mod store;
 mod type_record;

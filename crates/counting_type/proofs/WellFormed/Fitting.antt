@@ -23,7 +23,7 @@ module _ (e : Equivalence) where
   key-below true depth l c h p = p .1
   key-below false depth l c h p = omega (arith, key-eq (h .tagged))
 
-  count-within : (field : Bool) (l : Label) (a : ℕ) (c s : CountingType) → Shape e field l c → (l .kind ≡ fieldKind → a ≡ total Counting c) →
+  pub count-within : (field : Bool) (l : Label) (a : ℕ) (c s : CountingType) → Shape e field l c → (l .kind ≡ fieldKind → a ≡ total Counting c) →
       largestTotal Counting (node l a c s) ≤ maxTotal → a ≤ maxTotal
   unfolding total largestBelow largestTotal
   count-within true l a c s h t m = omega (arith, t (kind-eq h))

@@ -1,0 +1,152 @@
+-- What is known of the first addend or field of a run that is not empty, on its bytes.
+use mathlib.Core.Path.{_≡_, refl, sym, ap, _∙_}
+use mathlib.Core.Bool.{Bool, true, false, not, _&&_}
+use mathlib.Core.List.{List, [], _++_, append-assoc, append-nil}
+use Prim.Native.Nat.{ℕ, _+_, _*_, _-_, _<_}
+use native.Mathlib.Omega.{arith}
+use lib.Dec.{eqb}
+use lib.ListN.{length, take, drop, length-append, length-drop}
+use lib.Seq.{take-at, drop-at, drop-length, take-all}
+use Rattle.value_table.specs.Value.{recordKind}
+use Rattle.counting_type.specs.Trie.{nil, node, size}
+use Rattle.counting_type.specs.Label.{Equivalence, Label, labelOf, CountingType}
+use Rattle.counting_type.specs.Encoding.{typeSize, typeKind, typeKey, typeSpan, typeCount, header, encode, siblingKeys, decode, typeOf, Fitting}
+use Rattle.counting_type.specs.Checker.{keysIn, labelAt}
+use Rattle.counting_type.specs.Merging.{headerOf, front, body, rest, Headed, Coded}
+use Rattle.counting_type.proofs.Tagged.Parts.{holdsFields, Shape, Parts, tagged-parts, shape-label}
+use Rattle.counting_type.proofs.Encoding.Header.{length-encode}
+use Rattle.counting_type.proofs.Encoding.Node.{NodeAt, node-read}
+use Rattle.counting_type.proofs.Encoding.Decode.{decode-run, decode-encode}
+use Rattle.counting_type.proofs.OnePass.Keys.{keys-decode}
+use Rattle.counting_type.proofs.Merging.Sets.{length-headerOf}
+
+-- the header of a label, and that of its kind and key
+header-parts : (l : Label) (span count : ℕ) → header l span count ≡ headerOf (l .kind) (l .key) span count
+unfolding header
+header-parts l span count = refl
+
+-- whether fields stand inside, by the kind
+pub fields-by-kind : (field : Bool) (l : Label) → holdsFields field l ≡ (not field && eqb (l .kind) recordKind)
+fields-by-kind true l = refl
+fields-by-kind false l = refl
+
+pub type-empty : (e : Equivalence) → typeOf e [] ≡ nil
+unfolding typeOf decode
+type-empty e = refl
+
+pub coded-type : {e : Equivalence} {field : Bool} {x : List ℕ} (k : Coded e field x) → typeOf e x ≡ k .trie
+coded-type {e} {field} k = ap (typeOf e) (k .bytes) ∙ decode-encode e field (k .trie) (k .tagged) (k .fitting)
+
+pub coded-length : {e : Equivalence} {field : Bool} {x : List ℕ} (k : Coded e field x) → length x ≡ typeSize * size (typeOf e x)
+coded-length k = rw (coded-type k) (ap length (k .bytes) ∙ length-encode (k .trie))
+
+-- the first addend or field of x
+pub record Addend (e : Equivalence) (field : Bool) (x : List ℕ) : Type 0 where
+  pub is-type : typeOf e x ≡ node (labelAt e x 0) (typeCount x 0) (typeOf e (body x)) (typeOf e (rest x))
+  pub is-label : labelAt e x 0 ≡ labelOf e (typeKind x 0) (typeKey x 0) (siblingKeys (typeOf e (body x)))
+  pub is-shape : Shape e field (labelAt e x 0) (typeOf e (body x))
+  pub is-body : encode (typeOf e (body x)) ≡ body x
+  pub is-front : front x ≡ headerOf (typeKind x 0) (typeKey x 0) (1 + size (typeOf e (body x))) (typeCount x 0) ++ body x
+  pub is-span : typeSize * typeSpan x 0 ≡ typeSize + length (body x)
+  pub is-length : typeSize * typeSpan x 0 + length (rest x) ≡ length x
+  pub in-body : Coded e (not field && eqb (typeKind x 0) recordKind) (body x)
+  pub in-rest : Coded e field (rest x)
+
+module _ {e : Equivalence} {field : Bool} {x : List ℕ} (l : Label) (a : ℕ) (c s : CountingType) (k : Coded e field x) (z : k .trie ≡ node l a c s) where
+  fits : Fitting (node l a c s)
+  fits = rw z at (k .fitting)
+
+  parts : Parts e field l c s
+  parts = tagged-parts e field l a c s (rw z at (k .tagged))
+
+  bytes : x ≡ encode (node l a c s)
+  bytes = k .bytes ∙ ap encode z
+
+  node-at : NodeAt x 0 (1 + (size c + size s)) l a c s
+  unfolding size
+  node-at =
+      let n : length x ≡ typeSize * (1 + (size c + size s)) = ap length bytes ∙ length-encode (node l a c s) in
+      node-read x 0 (1 + (size c + size s)) l a c s fits (bytes ∙ rw (← n, drop-length) (sym (append-nil (encode (node l a c s)))))
+
+  label-is : labelAt e x 0 ≡ l
+  unfolding labelAt Fitting
+  label-is =
+      let n = node-at in
+      let keys : keysIn x 0 ≡ siblingKeys c =
+      keys-decode e x (typeSpan x 0 - 1) 1 (0 + typeSpan x 0)
+      ∙ ap siblingKeys (decode-run e x (typeSpan x 0 - 1) 1 (0 + typeSpan x 0) _ c (parts .1) (fits .3) (omega (arith, n .span-is)) (n .in-children) (omega (arith, n .span-is))) in
+      rw (keys, n .kind-is, n .key-is) (sym (shape-label e field l c (parts .0)))
+
+  -- the parts of x
+  record Split : Type 0 where
+    pub is-body : body x ≡ encode c
+    pub is-rest : rest x ≡ encode s
+    pub is-front : front x ≡ headerOf (l .kind) (l .key) (1 + size c) a ++ encode c
+    pub is-length : length x ≡ typeSize * (1 + (size c + size s))
+
+  split : Split
+  unfolding encode front body rest size
+  split =
+      let n = node-at .span-is in
+      let H : List ℕ = headerOf (l .kind) (l .key) (1 + size c) a in
+      let d : length H ≡ typeSize = length-headerOf (l .kind) (l .key) (1 + size c) a in
+      let w : x ≡ H ++ (encode c ++ encode s) = bytes ∙ ap (λ u. u ++ (encode c ++ encode s)) (header-parts l (1 + size c) a) in
+      let v : x ≡ (H ++ encode c) ++ encode s = w ∙ sym (append-assoc H (encode c) (encode s)) in
+      let p : length (H ++ encode c) ≡ typeSize * typeSpan x 0 = simp length-append (omega (arith, length-encode c)) in
+      let q : typeSize * typeSpan x 0 - typeSize ≡ typeSize * size c = omega arith in
+      record {
+        is-body =
+            rw q (ap (λ u. take (typeSize * size c) (drop typeSize u)) w
+            ∙ ap (take (typeSize * size c)) (drop-at H (encode c ++ encode s) typeSize d) ∙ take-at (encode c) (encode s) (typeSize * size c) (length-encode c));
+        is-rest = ap (drop (typeSize * typeSpan x 0)) v ∙ drop-at (H ++ encode c) (encode s) (typeSize * typeSpan x 0) p;
+        is-front = ap (take (typeSize * typeSpan x 0)) v ∙ take-at (H ++ encode c) (encode s) (typeSize * typeSpan x 0) p;
+        is-length = ap length bytes ∙ length-encode (node l a c s);
+      }
+
+  node-addend : Addend e field x
+  unfolding Fitting
+  node-addend =
+      let n = node-at in
+      let m = split in
+      let g : (not field && eqb (typeKind x 0) recordKind) ≡ holdsFields field l = rw (n .kind-is) (sym (fields-by-kind field l)) in
+      let u : Coded e (holdsFields field l) (body x) = record { trie = c; bytes = m .is-body; tagged = parts .1; fitting = fits .3 } in
+      let v : Coded e field (rest x) = record { trie = s; bytes = m .is-rest; tagged = parts .2; fitting = fits .4 } in
+      let i : typeOf e (body x) ≡ c = coded-type u in
+      let j : typeOf e (rest x) ≡ s = coded-type v in
+      let w : typeOf e x ≡ node l a c s = coded-type k ∙ z in
+      let o : labelAt e x 0 ≡ l = label-is in
+      record {
+        is-type = cc (n .count-is);
+        is-label = rw (o, n .kind-is, n .key-is, i) (shape-label e field l c (parts .0));
+        is-shape = rw (o, i) (parts .0);
+        is-body = rw i (sym (m .is-body));
+        is-front = rw (n .kind-is, n .key-is, n .count-is, i, m .is-body) (m .is-front);
+        is-span = rw (m .is-body) (omega (arith, length-encode c, n .span-is));
+        is-length = rw (m .is-rest) (omega (arith, length-encode s, n .span-is, m .is-length));
+        in-body = rw g u;
+        in-rest = v;
+      }
+
+pub addend : {e : Equivalence} {field : Bool} {x : List ℕ} → Coded e field x → 0 < length x → Addend e field x
+unfolding encode
+addend {e} {field} {x} k h = go (k .trie) refl
+  where
+    go : (f : CountingType) → k .trie ≡ f → Addend e field x
+    go nil z = absurd (omega (arith, ap length (k .bytes ∙ ap encode z)))
+    go (node l a c s) z = node-addend l a c s k z
+
+pub headed : {e : Equivalence} {field : Bool} {x : List ℕ} → Addend e field x → Headed x
+headed h = record { some = omega arith; whole = omega arith }
+
+-- the parts as the code takes them
+pub front-is : (x : List ℕ) (n : ℕ) → n ≡ typeSize * typeSpan x 0 → take n x ≡ front x
+unfolding front
+front-is x n h = rw h refl
+
+pub body-is : (x : List ℕ) (n : ℕ) → n ≡ typeSize * typeSpan x 0 → take (n - typeSize) (drop typeSize x) ≡ body x
+unfolding body
+body-is x n h = rw h refl
+
+pub rest-is : (x : List ℕ) (n : ℕ) → n ≡ typeSize * typeSpan x 0 → take (length x - n) (drop n x) ≡ rest x
+unfolding rest
+rest-is x n h = rw (← h) (take-all (length x - n) (drop n x) (omega (arith, length-drop n x)))

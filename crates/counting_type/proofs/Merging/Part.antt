@@ -1,0 +1,119 @@
+-- The first addend or field of a run of a well-formed type: its count, what stands inside it and what follows are within the limits.
+use mathlib.Core.Path.{_≡_, refl}
+use mathlib.Core.Bool.{Bool, true, false, cond, not, _&&_}
+use mathlib.Core.List.{List, [], _∷_}
+use Prim.Native.Nat.{ℕ, _+_, _-_, _≤_, _<_}
+use native.Mathlib.Nat.{zero-add}
+use native.Mathlib.Omega.{arith}
+use lib.Dec.{eqb}
+use lib.ListN.{length}
+use borrow.Author.Tests.{le-ltb, eq-eqb}
+use Rattle.value_table.specs.Value.{maxDepth, recordKind}
+use Rattle.counting_type.specs.declared.addend.Level.{Level}
+use Rattle.counting_type.specs.Trie.{nil, node, total, largestBelow, largestTotal}
+use Rattle.counting_type.specs.Label.{Equivalence, Label, fieldKind, Counting, CountingType}
+use Rattle.counting_type.specs.Place.{FieldTotals}
+use Rattle.counting_type.specs.Encoding.{typeKind, typeCount, typeOf, Tagged}
+use Rattle.counting_type.specs.WellFormed.{maxTotal, depthInside, Shallow}
+use Rattle.counting_type.specs.Checker.{labelAt}
+use Rattle.counting_type.specs.Merging.{under, body, rest, Coded, depthOf, Part, insideOf, exceeds}
+use Rattle.counting_type.proofs.Label.{kind-eq}
+use Rattle.counting_type.proofs.Tagged.Parts.{holdsFields}
+use Rattle.counting_type.proofs.WellFormed.Nodes.{Placed, depthUnder, shallow-parts}
+use Rattle.counting_type.proofs.WellFormed.Fitting.{weight-addend, count-within}
+use Rattle.counting_type.proofs.Merging.Addend.{Addend, addend, coded-type, type-empty}
+
+-- an addend has a level left
+level-left : (field : Bool) (left : ℕ) (l : Label) → Placed field (maxDepth + 1 - (left + cond field 1 0)) l → cond field 0 1 ≤ left
+level-left true left l h = omega arith
+level-left false left l h = omega arith
+
+shallow-inside : (field : Bool) (left : ℕ) (l : Label) (c : CountingType) → left ≤ maxDepth → cond field 0 1 ≤ left →
+    Shallow (holdsFields field l) (depthUnder field l (maxDepth + 1 - (left + cond field 1 0))) c →
+    Shallow (not field && eqb (l .kind) recordKind) (maxDepth + 1 - (left - cond field 0 1 + cond (not field && eqb (l .kind) recordKind) 1 0)) c
+shallow-inside true left l c low some h =
+    let e : maxDepth + 1 - (left + 1) + 1 ≡ maxDepth + 1 - (left - 0 + 0) = omega arith in
+    rw e at h
+shallow-inside false left l c low some h = go (eqb (l .kind) recordKind) h
+  where
+    go : (t : Bool) → Shallow t (depthInside t (maxDepth + 1 - (left + 0))) c → Shallow t (maxDepth + 1 - (left - 1 + cond t 1 0)) c
+    go true h = let e : maxDepth + 1 - (left + 0) ≡ maxDepth + 1 - (left - 1 + 1) = omega arith in rw e at h
+    go false h = let e : maxDepth + 1 - (left + 0) + 1 ≡ maxDepth + 1 - (left - 1 + 0) = omega arith in rw e at h
+
+pub record Head (level : Level) (x : List ℕ) : Type 0 where
+  pub first : Addend (under (level .label)) (level .field) x
+  pub level-left : cond (level .field) 0 1 ≤ level .left
+  pub count-low : typeCount x 0 ≤ maxTotal
+  pub in-body : Part (insideOf level (typeKind x 0)) (body x)
+  pub in-rest : Part level (rest x)
+  pub light : exceeds (typeOf (under (level .label)) (body x)) ≡ false
+
+pub head : {level : Level} {x : List ℕ} → Part level x → 0 < length x → Head level x
+unfolding labelAt largestTotal largestBelow total exceeds
+head {level} {x} p h =
+    let e : Equivalence = under (level .label) in
+    let l : Label = labelAt e x 0 in
+    let c : CountingType = typeOf e (body x) in
+    let s : CountingType = typeOf e (rest x) in
+    let a = addend (p .coded) h in
+    let shallow : Shallow (level .field) (depthOf level) (node l (typeCount x 0) c s) = rw (a .is-type) at (p .shallow) in
+    let q = shallow-parts (level .field) (depthOf level) l (typeCount x 0) c s shallow in
+    let limit : largestTotal Counting (node l (typeCount x 0) c s) ≤ maxTotal = rw (a .is-type) at (p .limit) in
+    let totals : FieldTotals (node l (typeCount x 0) c s) = rw (a .is-type) at (p .totals) in
+    let some = level-left (level .field) (level .left) l (q .0) in
+    let low : largestTotal Counting c ≤ maxTotal = omega (arith, limit) in
+    record {
+      first = a;
+      level-left = some;
+      count-low = count-within e (level .field) l (typeCount x 0) c s (a .is-shape) (totals .0) limit;
+      in-body =
+          record {
+            coded = a .in-body;
+            shallow = shallow-inside (level .field) (level .left) l c (p .left-low) some (q .1);
+            left-low = omega (arith, p .left-low);
+            limit = low;
+            totals = totals .1;
+          };
+      in-rest = record { coded = a .in-rest; shallow = q .2; left-low = p .left-low; limit = omega (arith, limit); totals = totals .2 };
+      light = le-ltb maxTotal _ low;
+    }
+
+-- The total of a union, addend by addend; fields weigh nothing.
+module _ {e : Equivalence} {x : List ℕ} where
+  total-next : Addend e false x → total Counting (typeOf e x) ≡ typeCount x 0 + total Counting (typeOf e (rest x))
+  unfolding total
+  total-next a = rw (a .is-type, weight-addend (labelAt e x 0) (typeCount x 0) (a .is-shape .kind-high)) refl
+
+  pub total-fields : Coded e true x → total Counting (typeOf e x) ≡ 0
+  unfolding total
+  total-fields k = rw (coded-type k) (go (k .trie) (k .tagged))
+    where
+      go : (f : CountingType) → Tagged e true f → total Counting f ≡ 0
+      go nil t = refl
+      go (node l a c s) t = rw (eq-eqb (l .kind) fieldKind (kind-eq (t .0)), zero-add) (go s (t .2))
+
+total-none : (e : Equivalence) (x : List ℕ) → length x ≡ 0 → total Counting (typeOf e x) ≡ 0
+unfolding total
+total-none e [] h = rw (type-empty e) refl
+total-none e (b ∷ x) h = absurd (omega arith)
+
+pub total-low : {level : Level} {x : List ℕ} → Part level x → total Counting (typeOf (under (level .label)) x) ≤ maxTotal
+unfolding largestTotal
+total-low p = omega (arith, p .limit)
+
+-- The sum so far and the total of what is left, x, give the total of a.
+pub record Adding (level : Level) (a x : List ℕ) (sum : ℕ) : Type 0 where
+  pub left : Part level x
+  pub same : sum + total Counting (typeOf (under (level .label)) x) ≡ total Counting (typeOf (under (level .label)) a)
+
+pub adding-start : (a : List ℕ) (level : Level) → level .field ≡ false → Part level a → Adding level a a 0
+adding-start a level f p = record { left = p; same = zero-add _ }
+
+module _ {level : Level} {a x : List ℕ} {sum : ℕ} (w : Adding level a x sum) where
+  pub adding-next : {n : ℕ} {r : List ℕ} → level .field ≡ false → 0 < length x → n ≡ typeCount x 0 → r ≡ rest x → Adding level a r (sum + n)
+  adding-next f h e z =
+      let g = head (w .left) h in
+      rw z (record { left = g .in-rest; same = omega (arith, w .same, total-next (rw f at (g .first))) })
+
+  pub adding-done : length x ≡ 0 → sum ≡ total Counting (typeOf (under (level .label)) a)
+  adding-done h = omega (arith, w .same, total-none (under (level .label)) x h)

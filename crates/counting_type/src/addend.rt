@@ -1,0 +1,159 @@
+// The first addend or field of a run of type records, its label against another's, and the total of a union.
+use crate::type_record;
+use crate::type_record::count_at;
+use crate::type_record::key_at;
+use crate::type_record::kind_at;
+use crate::type_record::span_at;
+ghost use mathlib.Core.Path.{_≡_};
+ghost use mathlib.Core.Bool.{true, cond};
+ghost use Prim.Native.Nat.{_≤_, _<_, compare};
+ghost use lib.ListN.{length};
+ghost use Rattle.counting_type.specs.Trie.{total};
+ghost use Rattle.counting_type.specs.Order.{compareList};
+ghost use Rattle.counting_type.specs.Label.{byLabel, compareLabel, Counting};
+ghost use Rattle.counting_type.specs.Encoding.{siblingKeys, typeOf};
+ghost use Rattle.counting_type.specs.Checker.{labelAt};
+ghost use Rattle.counting_type.specs.Merging.{under, orderingOf, front, body, rest, Headed, Coded, Part, insideOf};
+
+// How one label stands to another.
+pub enum Order {
+    Less,
+    Same,
+    More,
+}
+
+// What a run of records is: the levels of addends left, whether it is a run of fields, and whether labels list keys.
+pub struct Level {
+    pub left: usize,
+    pub field: bool,
+    pub label: bool,
+}
+
+// What stands inside a record of this kind.
+pub fn inside(level: Level, kind: u8) -> Level
+    requires { ⌜ cond (level .field) 0 1 ≤ level .left ⌝ }
+    ensures { λ r. ⌜ r ≡ insideOf level kind ⌝ }
+{
+    if level.field {
+        return Level {
+            left: level.left,
+            field: false,
+            label: level.label,
+        };
+    }
+    Level {
+        left: level.left - 1,
+        field: kind == type_record::RECORD,
+        label: level.label,
+    }
+}
+
+// The first addend or field of x, with what stands inside it.
+pub fn front_of<'a>(x: &'a [u8]) -> &'a [u8]
+    requires { ⌜ Headed (now x) ⌝ }
+    ensures { λ r. ⌜ now r ≡ front (now (x .entry)) ⌝ }
+{
+    let n = type_record::SIZE * span_at(x, 0);
+    &x[..n]
+}
+
+// What stands inside the first addend or field of x.
+pub fn body_of<'a>(x: &'a [u8]) -> &'a [u8]
+    requires { ⌜ Headed (now x) ⌝ }
+    ensures { λ r. ⌜ now r ≡ body (now (x .entry)) ⌝ }
+{
+    let n = type_record::SIZE * span_at(x, 0);
+    &x[type_record::SIZE..n]
+}
+
+// What follows the first addend or field of x.
+pub fn rest_of<'a>(x: &'a [u8]) -> &'a [u8]
+    requires { ⌜ Headed (now x) ⌝ }
+    ensures { λ r. ⌜ now r ≡ rest (now (x .entry)) ⌝ }
+{
+    let n = type_record::SIZE * span_at(x, 0);
+    &x[n..]
+}
+
+// The total of a union; fields have none.
+pub fn total_of(a: &[u8], level: Level) -> usize
+    requires { ⌜ Part level (now a) ⌝ }
+    ensures { λ r. ⌜ r ≡ total Counting (typeOf (under (level .label)) (now (a .entry))) ⌝ }
+{
+    if level.field {
+        return 0;
+    }
+    let mut x = a;
+    let mut sum = 0;
+    while x.len() > 0 {
+        sum += count_at(x, 0);
+        let r = rest_of(x);
+        x = r;
+    }
+    sum
+}
+
+// How one key list stands to another: the first key that differs settles it, and a list that begins the other comes first.
+fn compare_keys(first: &[u8], second: &[u8]) -> Order
+    requires { ⌜ Coded byLabel true (now first) ⌝ }
+    requires { ⌜ Coded byLabel true (now second) ⌝ }
+    ensures { λ r. ⌜ orderingOf r ≡ compareList compare (siblingKeys (typeOf byLabel (now (first .entry)))) (siblingKeys (typeOf byLabel (now (second .entry)))) ⌝ }
+{
+    let mut x = first;
+    let mut y = second;
+    let order = loop {
+        if x.len() == 0 {
+            if y.len() == 0 {
+                break Order::Same;
+            }
+            break Order::Less;
+        }
+        if y.len() == 0 {
+            break Order::More;
+        }
+        let key = key_at(x, 0);
+        let other = key_at(y, 0);
+        if key < other {
+            break Order::Less;
+        }
+        if other < key {
+            break Order::More;
+        }
+        let u = rest_of(x);
+        let v = rest_of(y);
+        x = u;
+        y = v;
+    };
+    order
+}
+
+// How the first label of x stands to that of y: by kind, then by key, then, for records under label, by key list.
+pub fn compare_labels(x: &[u8], y: &[u8], level: Level) -> Order
+    requires { ⌜ Part level (now x) × (0 < length (now x)) ⌝ }
+    requires { ⌜ Part level (now y) × (0 < length (now y)) ⌝ }
+    ensures { λ r. ⌜ orderingOf r ≡ compareLabel (labelAt (under (level .label)) (now (x .entry)) 0) (labelAt (under (level .label)) (now (y .entry)) 0) ⌝ }
+{
+    let kind = kind_at(x, 0);
+    let other = kind_at(y, 0);
+    if kind < other {
+        return Order::Less;
+    }
+    if other < kind {
+        return Order::More;
+    }
+    let key = key_at(x, 0);
+    let other_key = key_at(y, 0);
+    if key < other_key {
+        return Order::Less;
+    }
+    if other_key < key {
+        return Order::More;
+    }
+    if !level.label {
+        return Order::Same;
+    }
+    if kind != type_record::RECORD {
+        return Order::Same;
+    }
+    compare_keys(body_of(x), body_of(y))
+}
