@@ -10,7 +10,7 @@ pub mod Values
 pub mod WellFormed
 pub mod Chain
 pub mod OnePass
-pub mod Merging
+pub mod Merge
 pub mod Equivalence
 pub mod Ways
 pub mod Trials

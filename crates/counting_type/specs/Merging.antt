@@ -1,6 +1,6 @@
 -- The merge of two types on their bytes, as the code goes about it: what a run of records is, its first addend, and what is stored.
 use mathlib.Core.Path.{_≡_}
-use mathlib.Core.Bool.{Bool, true, false, cond, not, _&&_, _||_}
+use mathlib.Core.Bool.{Bool, cond, not, _&&_, _||_}
 use mathlib.Core.List.{List, [], _++_}
 use Prim.Native.Nat.{ℕ, _+_, _*_, _-_, _≤_, Ordering, Ordering·lt as lt, Ordering·eq as eq, Ordering·gt as gt}
 use lib.Dec.{eqb, ltb}
@@ -11,16 +11,13 @@ use Rattle.counting_type.specs.declared.addend.Level.{Level}
 use Rattle.counting_type.specs.declared.addend.Order.{Order}
 use Rattle.counting_type.specs.declared.addend.Order.the-variants.{Less, Same, More}
 use Rattle.counting_type.specs.Trie.{size, reduce, largestBelow, largestTotal}
-use Rattle.counting_type.specs.Label.{Equivalence, byKind, byLabel, Counting, CountingType}
+use Rattle.counting_type.specs.Label.{Equivalence, Counting, CountingType}
 use Rattle.counting_type.specs.Place.{FieldTotals}
 use Rattle.counting_type.specs.Encoding.{typeSize, typeKind, typeKey, typeSpan, typeCount, header, encode, typeOf, Tagged, Fitting}
 use Rattle.counting_type.specs.WellFormed.{maxTotal, Shallow}
+use Rattle.counting_type.specs.Checker.{under}
 
--- the code's flag for label equivalence, and its comparisons
-abbrev pub under : Bool → Equivalence
-under false = byKind
-under true = byLabel
-
+-- the code's comparisons
 abbrev pub orderingOf : Order → Ordering
 orderingOf Less = lt
 orderingOf Same = eq
@@ -100,8 +97,14 @@ pub record Stored (e : Equivalence) (a b out₀ : List ℕ) (k : ℕ) (out : Lis
   pub counted : n ≡ length (mergedBytes e a b)
   pub seen : over ≡ exceeds (both e a b)
 
--- the same of the first addends of x and y
-pub record Joined (e : Equivalence) (x y out₀ : List ℕ) (k : ℕ) (out : List ℕ) (n : ℕ) (over : Bool) : Type 0 where
-  pub bytes : out ≡ sets out₀ k (joinedBytes e x y)
-  pub counted : n ≡ length (joinedBytes e x y)
-  pub seen : over ≡ exceeds (both e (body x) (body y))
+-- the same of the first addends of x and y, up to byte k
+pub record Joined (e : Equivalence) (x y out₀ : List ℕ) (k₀ : ℕ) (over₀ : Bool) (out : List ℕ) (k : ℕ) (over : Bool) : Type 0 where
+  pub bytes : out ≡ sets out₀ k₀ (joinedBytes e x y)
+  pub upto : k ≡ k₀ + length (joinedBytes e x y)
+  pub seen : over ≡ (over₀ || exceeds (both e (body x) (body y)))
+
+-- the first addend of x is stored as it is, up to byte k, and r is left
+pub record Kept (x out₀ : List ℕ) (k₀ : ℕ) (r out : List ℕ) (k : ℕ) : Type 0 where
+  pub bytes : out ≡ sets out₀ k₀ (front x)
+  pub upto : k ≡ k₀ + length (front x)
+  pub left : r ≡ rest x

@@ -12,8 +12,8 @@ ghost use Rattle.counting_type.specs.Trie.{total};
 ghost use Rattle.counting_type.specs.Order.{compareList};
 ghost use Rattle.counting_type.specs.Label.{byLabel, compareLabel, Counting};
 ghost use Rattle.counting_type.specs.Encoding.{siblingKeys, typeOf};
-ghost use Rattle.counting_type.specs.Checker.{labelAt};
-ghost use Rattle.counting_type.specs.Merging.{under, orderingOf, front, body, rest, Headed, Coded, Part, insideOf};
+ghost use Rattle.counting_type.specs.Checker.{under, labelAt};
+ghost use Rattle.counting_type.specs.Merging.{orderingOf, front, body, rest, Headed, Coded, Part, insideOf};
 
 // How one label stands to another.
 pub enum Order {

@@ -1,6 +1,7 @@
 // The upper library: infers, judges and merges counting types.
 mod addend;
 mod checker;
+mod merging;
 mod store;
 mod type_record;
 

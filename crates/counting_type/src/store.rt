@@ -8,6 +8,7 @@ ghost use Rattle.value_table.specs.Number.{bytesOf};
 ghost use Rattle.counting_type.specs.Encoding.{typeSize};
 ghost use Rattle.counting_type.specs.Merging.{headerOf};
 
+// The lowest byte of v.
 fn low(v: usize) -> u8
     ensures { λ r. ⌜ r ≡ v % 256 ⌝ }
 {

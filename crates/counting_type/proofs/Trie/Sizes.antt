@@ -1,6 +1,6 @@
 -- The merge of two tries: its total, its size, and the merge with the empty trie.
 use mathlib.Core.Path.{_≡_, refl, ap}
-use Prim.Native.Nat.{ℕ, _+_, _≤_, Ordering, Ordering·lt as lt, Ordering·eq as eq, Ordering·gt as gt}
+use Prim.Native.Nat.{_+_, _≤_, Ordering, Ordering·lt as lt, Ordering·eq as eq, Ordering·gt as gt}
 use native.Mathlib.Omega.{arith}
 use Rattle.counting_type.specs.Trie.{nil, node, TrieOps, TrieLaws, size, Trie, reduceStep, reduceNode, reduce, total}
 

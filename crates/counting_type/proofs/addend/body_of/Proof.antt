@@ -2,7 +2,7 @@
 use mathlib.Core.Path.{ap}
 use Prim.Native.Nat.{_*_}
 use Rattle.counting_type.specs.Encoding.{typeSize}
-use Rattle.counting_type.proofs.Merging.Addend.{body-is}
+use Rattle.counting_type.proofs.TypeMerge.Addend.{body-is}
 use borrow.Author.Needs.{needs}
 use Rattle.counting_type.proofs.addend.body_of.Statement.{statement}
 use Rattle.counting_type.proofs.addend.body_of.Tie as tie

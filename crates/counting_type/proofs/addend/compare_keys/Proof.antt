@@ -1,9 +1,9 @@
 -- `compare_keys` meets its contract. The loop's invariant: the key lists compare as what is left of them.
-use mathlib.Core.Path.{refl, ap, sym, _∙_}
+use mathlib.Core.Path.{refl, ap}
 use Prim.Native.Nat.{_+_}
 use lib.ListN.{length}
-use Rattle.counting_type.proofs.Merging.Addend.{headed}
-use Rattle.counting_type.proofs.Merging.Labels.{Comparing, comparing-left, comparing-right, comparing-done, comparing-first, comparing-second, comparing-less, comparing-more, comparing-next}
+use Rattle.counting_type.proofs.TypeMerge.Addend.{headed}
+use Rattle.counting_type.proofs.TypeMerge.Labels.{Comparing, comparing-left, comparing-right, comparing-done, comparing-first, comparing-second, comparing-less, comparing-more, comparing-next}
 use native.Mathlib.Omega.{arith}
 use Rattle.counting_type.proofs.addend.compare_keys.Statement.{statement}
 use Rattle.counting_type.proofs.addend.compare_keys.Tie as tie
@@ -36,7 +36,9 @@ loop-less c =
     omega (arith, ap length (c .before .rest-of .ensures), ap length (c .rest-of2 .ensures))
 
 loop-again : tie.Need-loop-again Inv-loop μ-loop
-loop-again c = comparing-next (c .before .before .before .before .before .before .before .before .loop .inv) (omega arith) (omega arith) (omega arith) (c .before .rest-of .ensures) (c .rest-of2 .ensures)
+loop-again c =
+    let w = c .before .before .before .before .before .before .before .before .loop .inv in
+    comparing-next w (omega arith) (omega arith) (omega arith) (c .before .rest-of .ensures) (c .rest-of2 .ensures)
 
 returns : tie.Need-returns Inv-loop μ-loop
 returns c = comparing-done (c .before .before .loop .inv) (c .before .if1 .taken) (c .if2 .taken)

@@ -1,8 +1,8 @@
 -- `compare_labels` meets its contract.
 use borrow.Author.Tests.{not-true, not-false}
-use Rattle.counting_type.specs.Merging.{under}
-use Rattle.counting_type.proofs.Merging.Addend.{addend, headed}
-use Rattle.counting_type.proofs.Merging.Labels.{kind-less, kind-more, key-less, key-more, plain-labels, no-lists, record-body, record-labels}
+use Rattle.counting_type.specs.Checker.{under}
+use Rattle.counting_type.proofs.TypeMerge.Addend.{addend, headed}
+use Rattle.counting_type.proofs.TypeMerge.Labels.{kind-less, kind-more, key-less, key-more, plain-labels, no-lists, record-body, record-labels}
 use native.Mathlib.Omega.{arith}
 use Rattle.counting_type.proofs.addend.compare_labels.Statement.{statement}
 use Rattle.counting_type.proofs.addend.compare_labels.Tie as tie
@@ -82,8 +82,9 @@ compare-keys-requires c κs =
 returns-7 : tie.Need-returns-7
 returns-7 c =
     let s = c .before .before .before .before .before .before .before .before .before .before .before .before .before .before .before .before in
-    record-labels (s .args .level .label) (not-false (s .args .level .label) (c .before .before .before .before .if5 .left)) (addend (s .pre .0 .0 .coded) (s .pre .0 .1)) (addend (s .pre .1 .0 .coded) (s .pre .1 .1)) (omega arith) (omega arith) (omega arith)
-    (c .before .before .body-of .ensures) (c .before .body-of2 .ensures) (c .compare-keys .ensures)
+    let h = not-false (s .args .level .label) (c .before .before .before .before .if5 .left) in
+    record-labels (s .args .level .label) h (addend (s .pre .0 .0 .coded) (s .pre .0 .1)) (addend (s .pre .1 .0 .coded) (s .pre .1 .1))
+    (omega arith) (omega arith) (omega arith) (c .before .before .body-of .ensures) (c .before .body-of2 .ensures) (c .compare-keys .ensures)
 
 pub compare-labels-spec : {M : Type 1} → statement M
 compare-labels-spec =

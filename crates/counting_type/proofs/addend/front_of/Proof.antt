@@ -3,7 +3,7 @@ use mathlib.Core.Path.{sym, ap}
 use Prim.Native.Nat.{_*_}
 use lib.Seq.{length-take-le}
 use Rattle.counting_type.specs.Encoding.{typeSize}
-use Rattle.counting_type.proofs.Merging.Addend.{front-is}
+use Rattle.counting_type.proofs.TypeMerge.Addend.{front-is}
 use borrow.Author.Needs.{needs}
 use native.Mathlib.Omega.{arith}
 use Rattle.counting_type.proofs.addend.front_of.Statement.{statement}

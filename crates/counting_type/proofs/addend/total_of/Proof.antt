@@ -4,8 +4,8 @@ use mathlib.Core.Bool.{false}
 use lib.ListN.{length}
 use Rattle.counting_type.specs.declared.addend.Level.{Level}
 use Rattle.counting_type.specs.Merging.{Part}
-use Rattle.counting_type.proofs.Merging.Addend.{headed}
-use Rattle.counting_type.proofs.Merging.Part.{head, total-fields, total-low, Adding, adding-start, adding-next, adding-done}
+use Rattle.counting_type.proofs.TypeMerge.Addend.{headed}
+use Rattle.counting_type.proofs.TypeMerge.Part.{head, total-fields, total-low, Adding, adding-start, adding-next, adding-done}
 use native.Mathlib.Omega.{arith}
 use Rattle.counting_type.proofs.addend.total_of.Statement.{statement}
 use Rattle.counting_type.proofs.addend.total_of.Tie as tie
@@ -24,35 +24,41 @@ loop-holds c = adding-start _
 
 count-at-requires : tie.Need-count-at-requires Inv-loop μ-loop
 count-at-requires c κs =
-    let w = c .before .loop .inv (c .before .before .before .before .args .level) (c .before .before .if1 .left) (c .before .before .before .before .pre) in
+    let s = c .before .before .before .before in
+    let w = c .before .loop .inv (s .args .level) (c .before .before .if1 .left) (s .pre) in
     let h = head (w .left) (c .loop-test .taken) .first in
     omega arith
 
 add-sum : tie.Need-add-sum Inv-loop μ-loop
 add-sum c =
-    let w = c .before .before .loop .inv (c .before .before .before .before .before .args .level) (c .before .before .before .if1 .left) (c .before .before .before .before .before .pre) in
+    let s = c .before .before .before .before .before in
+    let w = c .before .before .loop .inv (s .args .level) (c .before .before .before .if1 .left) (s .pre) in
     let h = head (w .left) (c .before .loop-test .taken) in
     let v = adding-next w (c .before .before .before .if1 .left) (c .before .loop-test .taken) (c .count-at .ensures) refl in
     omega (arith, v .same, total-low (c .before .before .before .before .before .pre))
 
 rest-of-requires : tie.Need-rest-of-requires Inv-loop μ-loop
 rest-of-requires c κs =
-    let w = c .before .before .loop .inv (c .before .before .before .before .before .args .level) (c .before .before .before .if1 .left) (c .before .before .before .before .before .pre) in
+    let s = c .before .before .before .before .before in
+    let w = c .before .before .loop .inv (s .args .level) (c .before .before .before .if1 .left) (s .pre) in
     headed (head (w .left) (c .before .loop-test .taken) .first)
 
 loop-less : tie.Need-loop-less Inv-loop μ-loop
 loop-less c =
-    let w = c .before .before .before .loop .inv (c .before .before .before .before .before .before .args .level) (c .before .before .before .before .if1 .left) (c .before .before .before .before .before .before .pre) in
+    let s = c .before .before .before .before .before .before in
+    let w = c .before .before .before .loop .inv (s .args .level) (c .before .before .before .before .if1 .left) (s .pre) in
     let h = head (w .left) (c .before .before .loop-test .taken) .first in
     omega (arith, ap length (c .rest-of .ensures))
 
 loop-again : tie.Need-loop-again Inv-loop μ-loop
 loop-again c =
-    λ level f p. adding-next (c .before .before .before .loop .inv level f p) f (c .before .before .loop-test .taken) (c .before .count-at .ensures) (c .rest-of .ensures)
+    λ level f p.
+    adding-next (c .before .before .before .loop .inv level f p) f (c .before .before .loop-test .taken) (c .before .count-at .ensures) (c .rest-of .ensures)
 
 returns-2 : tie.Need-returns-2 Inv-loop μ-loop
 returns-2 c =
-    let w = c .before .loop .inv (c .before .before .before .before .args .level) (c .before .before .if1 .left) (c .before .before .before .before .pre) in
+    let s = c .before .before .before .before in
+    let w = c .before .loop .inv (s .args .level) (c .before .before .if1 .left) (s .pre) in
     adding-done w (omega arith)
 
 pub total-of-spec : {M : Type 1} → statement M

@@ -5,7 +5,7 @@ use native.Mathlib.Nat.{add-zero}
 use native.Mathlib.Omega.{arith}
 use lib.ListN.{length, drop, length-set}
 use lib.Seq.{sets}
-use Rattle.counting_type.proofs.Merging.Sets.{copy-more, copy-end}
+use Rattle.counting_type.proofs.TypeMerge.Sets.{copy-more, copy-end}
 use Rattle.counting_type.proofs.store.put_bytes.Statement.{statement}
 use Rattle.counting_type.proofs.store.put_bytes.Tie as tie
 

@@ -1,8 +1,10 @@
 -- `put_record` meets its contract.
 use mathlib.Core.Path.{sym}
+use mathlib.Core.List.{List}
+use Prim.Native.Nat.{ℕ}
 use lib.ListN.{replicate}
 use Rattle.counting_type.specs.Merging.{headerOf}
-use Rattle.counting_type.proofs.Merging.Sets.{length-headerOf, sets-aside}
+use Rattle.counting_type.proofs.TypeMerge.Sets.{length-headerOf, sets-aside}
 use borrow.Author.Needs.{needs}
 use Rattle.counting_type.proofs.store.put_record.Statement.{statement}
 use Rattle.counting_type.proofs.store.put_record.Tie as tie
@@ -37,7 +39,10 @@ same-length-2 c = search needs
 returns-2 : tie.Need-returns-2
 returns-2 c =
     let a = c .before .before .before .before .before .before .before .before .before .before .args in
-    sets-aside (headerOf (a .kind) (a .key) (a .span) (a .count)) (replicate 16 0) (a .out .now) (a .at) (sym (length-headerOf (a .kind) (a .key) (a .span) (a .count))) (c .before .before .before .before .before .before .store-record2 .ensures) (c .before .before .put-bytes .ensures)
+    let h : List ℕ = headerOf (a .kind) (a .key) (a .span) (a .count) in
+    let n = length-headerOf (a .kind) (a .key) (a .span) (a .count) in
+    sets-aside h (replicate 16 0) (a .out .now) (a .at) (sym n) (c .before .before .before .before .before .before .store-record2 .ensures)
+    (c .before .before .put-bytes .ensures)
 
 pub put-record-spec : {M : Type 1} → statement M
 put-record-spec =

@@ -1,5 +1,5 @@
 -- `store32` meets its contract.
-use Rattle.counting_type.proofs.Merging.Sets.{sets-bytes}
+use Rattle.counting_type.proofs.TypeMerge.Sets.{sets-bytes}
 use borrow.Author.Needs.{needs}
 use Rattle.counting_type.proofs.store.store32.Statement.{statement}
 use Rattle.counting_type.proofs.store.store32.Tie as tie

@@ -1,5 +1,5 @@
 -- `store64` meets its contract.
-use Rattle.counting_type.proofs.Merging.Sets.{sets-bytes}
+use Rattle.counting_type.proofs.TypeMerge.Sets.{sets-bytes}
 use borrow.Author.Needs.{needs}
 use Rattle.counting_type.proofs.store.store64.Statement.{statement}
 use Rattle.counting_type.proofs.store.store64.Tie as tie

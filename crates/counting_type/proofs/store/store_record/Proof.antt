@@ -1,6 +1,6 @@
 -- `store_record` meets its contract.
 use native.Mathlib.Omega.{arith}
-use Rattle.counting_type.proofs.Merging.Sets.{sets-record}
+use Rattle.counting_type.proofs.TypeMerge.Sets.{sets-record}
 use borrow.Author.Needs.{needs}
 use Rattle.counting_type.proofs.store.store_record.Statement.{statement}
 use Rattle.counting_type.proofs.store.store_record.Tie as tie

@@ -1,27 +1,28 @@
 -- The first addend or field of a run of a well-formed type: its count, what stands inside it and what follows are within the limits.
-use mathlib.Core.Path.{_≡_, refl}
+use mathlib.Core.Path.{_≡_, refl, ap}
 use mathlib.Core.Bool.{Bool, true, false, cond, not, _&&_}
 use mathlib.Core.List.{List, [], _∷_}
-use Prim.Native.Nat.{ℕ, _+_, _-_, _≤_, _<_}
-use native.Mathlib.Nat.{zero-add}
+use Prim.Native.Nat.{ℕ, _+_, _*_, _-_, _≤_, _<_}
+use native.Mathlib.Nat.{zero-add, le-refl}
 use native.Mathlib.Omega.{arith}
 use lib.Dec.{eqb}
 use lib.ListN.{length}
 use borrow.Author.Tests.{le-ltb, eq-eqb}
-use Rattle.value_table.specs.Value.{maxDepth, recordKind}
+use Rattle.value_table.specs.Value.{maxLength, maxDepth, recordKind}
 use Rattle.counting_type.specs.declared.addend.Level.{Level}
 use Rattle.counting_type.specs.Trie.{nil, node, total, largestBelow, largestTotal}
 use Rattle.counting_type.specs.Label.{Equivalence, Label, fieldKind, Counting, CountingType}
 use Rattle.counting_type.specs.Place.{FieldTotals}
 use Rattle.counting_type.specs.Encoding.{typeKind, typeCount, typeOf, Tagged}
-use Rattle.counting_type.specs.WellFormed.{maxTotal, depthInside, Shallow}
-use Rattle.counting_type.specs.Checker.{labelAt}
-use Rattle.counting_type.specs.Merging.{under, body, rest, Coded, depthOf, Part, insideOf, exceeds}
+use Rattle.counting_type.specs.WellFormed.{maxTotal, depthInside, Shallow, IsType}
+use Rattle.counting_type.specs.Checker.{under, labelAt}
+use Rattle.counting_type.specs.Merging.{body, rest, Coded, depthOf, Part, insideOf, exceeds}
 use Rattle.counting_type.proofs.Label.{kind-eq}
 use Rattle.counting_type.proofs.Tagged.Parts.{holdsFields}
 use Rattle.counting_type.proofs.WellFormed.Nodes.{Placed, depthUnder, shallow-parts}
-use Rattle.counting_type.proofs.WellFormed.Fitting.{weight-addend, count-within}
-use Rattle.counting_type.proofs.Merging.Addend.{Addend, addend, coded-type, type-empty}
+use Rattle.counting_type.proofs.WellFormed.Fitting.{weight-addend, count-within, type-fitting}
+use Rattle.counting_type.proofs.Encoding.Header.{length-encode}
+use Rattle.counting_type.proofs.TypeMerge.Addend.{Addend, addend, coded-type, type-empty}
 
 -- an addend has a level left
 level-left : (field : Bool) (left : ℕ) (l : Label) → Placed field (maxDepth + 1 - (left + cond field 1 0)) l → cond field 0 1 ≤ left
@@ -77,6 +78,32 @@ head {level} {x} p h =
       in-rest = record { coded = a .in-rest; shallow = q .2; left-low = p .left-low; limit = omega (arith, limit); totals = totals .2 };
       light = le-ltb maxTotal _ low;
     }
+
+-- a whole type is a union at depth 1, and short
+pub type-part : (label : Bool) (x : List ℕ) → IsType (under label) x (typeOf (under label) x) → Part (record { left = maxDepth; field = false; label = label }) x
+type-part label x t =
+    record {
+      coded = record { trie = typeOf (under label) x; bytes = t .bytes; tagged = t .tagged; fitting = type-fitting t };
+      shallow = t .shallow;
+      left-low = le-refl maxDepth;
+      limit = t .limit;
+      totals = t .totals;
+    }
+
+pub type-short : {e : Equivalence} {x : List ℕ} → IsType e x (typeOf e x) → length x ≤ maxLength
+type-short {e} {x} t = omega (arith, t .room, ap length (t .bytes), length-encode (typeOf e x))
+
+-- a number that falls from a run to what stands inside it
+abbrev pub rank : Level → ℕ
+rank level = 2 * level .left + cond (level .field) 1 0
+
+pub rank-inside : {level : Level} {x : List ℕ} → Head level x → rank (insideOf level (typeKind x 0)) < rank level
+rank-inside {level} {x} h = go (level .field) (eqb (typeKind x 0) recordKind) (h .level-left)
+  where
+    go : (field fields : Bool) → cond field 0 1 ≤ level .left → 2 * (level .left - cond field 0 1) + cond (not field && fields) 1 0 < 2 * level .left + cond field 1 0
+    go true fields i = omega arith
+    go false true i = omega arith
+    go false false i = omega arith
 
 -- The total of a union, addend by addend; fields weigh nothing.
 module _ {e : Equivalence} {x : List ℕ} where

@@ -1,22 +1,20 @@
 -- The order of two first labels, and of the key lists inside two records.
-use mathlib.Core.Path.{_≡_, refl, sym, ap, _∙_}
+use mathlib.Core.Path.{_≡_, refl, sym, _∙_}
 use mathlib.Core.Bool.{Bool, true, false, false≢true}
 use mathlib.Core.List.{List, [], _∷_}
-use Prim.Native.Nat.{ℕ, _<_, _≤_, compare, Ordering, Ordering·lt as lt, Ordering·eq as eq, Ordering·gt as gt}
+use Prim.Native.Nat.{ℕ, _<_, compare, Ordering, Ordering·lt as lt, Ordering·eq as eq, Ordering·gt as gt}
 use native.Mathlib.Omega.{arith}
-use lib.Dec.{eqb}
 use lib.ListN.{length}
 use borrow.Author.Tests.{eq-eqb, ne-eqb}
 use Rattle.value_table.specs.Value.{recordKind}
 use Rattle.counting_type.specs.Order.{then, comparePair, compareList, compareOn}
-use Rattle.counting_type.specs.Label.{Equivalence, byKind, byLabel, Label, fieldKind, listed, labelOf, compareLabel}
+use Rattle.counting_type.specs.Label.{Equivalence, byKind, byLabel, Label, listed, compareLabel}
 use Rattle.counting_type.specs.Encoding.{typeKind, typeKey, siblingKeys, typeOf}
-use Rattle.counting_type.specs.Checker.{labelAt}
-use Rattle.counting_type.specs.Merging.{under, body, rest, Coded}
+use Rattle.counting_type.specs.Checker.{under, labelAt}
+use Rattle.counting_type.specs.Merging.{body, rest, Coded}
 use Rattle.counting_type.proofs.Order.{number-refl, less-compare, more-compare}
-use Rattle.counting_type.proofs.Label.{kind-eq, keys-eq}
-use Rattle.counting_type.proofs.Tagged.Parts.{Shape}
-use Rattle.counting_type.proofs.Merging.Addend.{Addend, addend, type-empty}
+use Rattle.counting_type.proofs.Label.{label-order, kind-eq, keys-eq}
+use Rattle.counting_type.proofs.TypeMerge.Addend.{Addend, addend, type-empty}
 
 by-parts : (l m : Label) → compareLabel l m ≡ then (compare (l .kind) (m .kind)) (then (compare (l .key) (m .key)) (compareList compare (l .keys) (m .keys)))
 unfolding compareOn comparePair
@@ -31,6 +29,10 @@ module _ (e : Equivalence) (x y : List ℕ) where
   -- how the first labels compare
   abbrev pub order : Ordering
   order = compareLabel (labelAt e x 0) (labelAt e y 0)
+
+  pub same-kinds : eq ≡ order → typeKind x 0 ≡ typeKind y 0
+  unfolding labelAt
+  same-kinds h = kind-eq (label-order .compare-eq (sym h))
 
   pub kind-less : typeKind x 0 < typeKind y 0 → lt ≡ order
   unfolding labelAt then

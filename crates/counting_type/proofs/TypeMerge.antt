@@ -3,3 +3,5 @@ pub mod Sets
 pub mod Addend
 pub mod Part
 pub mod Labels
+pub mod Steps
+pub mod Turns

@@ -2,10 +2,10 @@
 use mathlib.Core.Path.{_≡_, refl, sym, ap, _∙_}
 use mathlib.Core.Bool.{Bool, true, false, not, _&&_}
 use mathlib.Core.List.{List, [], _++_, append-assoc, append-nil}
-use Prim.Native.Nat.{ℕ, _+_, _*_, _-_, _<_}
+use Prim.Native.Nat.{ℕ, _+_, _*_, _-_, _≤_, _<_}
 use native.Mathlib.Omega.{arith}
 use lib.Dec.{eqb}
-use lib.ListN.{length, take, drop, length-append, length-drop}
+use lib.ListN.{length, take, drop, length-append, length-take, length-drop}
 use lib.Seq.{take-at, drop-at, drop-length, take-all}
 use Rattle.value_table.specs.Value.{recordKind}
 use Rattle.counting_type.specs.Trie.{nil, node, size}
@@ -18,7 +18,7 @@ use Rattle.counting_type.proofs.Encoding.Header.{length-encode}
 use Rattle.counting_type.proofs.Encoding.Node.{NodeAt, node-read}
 use Rattle.counting_type.proofs.Encoding.Decode.{decode-run, decode-encode}
 use Rattle.counting_type.proofs.OnePass.Keys.{keys-decode}
-use Rattle.counting_type.proofs.Merging.Sets.{length-headerOf}
+use Rattle.counting_type.proofs.TypeMerge.Sets.{length-headerOf}
 
 -- the header of a label, and that of its kind and key
 header-parts : (l : Label) (span count : ℕ) → header l span count ≡ headerOf (l .kind) (l .key) span count
@@ -74,7 +74,8 @@ module _ {e : Equivalence} {field : Bool} {x : List ℕ} (l : Label) (a : ℕ) (
       let n = node-at in
       let keys : keysIn x 0 ≡ siblingKeys c =
       keys-decode e x (typeSpan x 0 - 1) 1 (0 + typeSpan x 0)
-      ∙ ap siblingKeys (decode-run e x (typeSpan x 0 - 1) 1 (0 + typeSpan x 0) _ c (parts .1) (fits .3) (omega (arith, n .span-is)) (n .in-children) (omega (arith, n .span-is))) in
+      ∙ ap siblingKeys (decode-run e x (typeSpan x 0 - 1) 1 (0 + typeSpan x 0) _ c (parts .1) (fits .3) (omega (arith, n .span-is)) (n .in-children)
+      (omega (arith, n .span-is))) in
       rw (keys, n .kind-is, n .key-is) (sym (shape-label e field l c (parts .0)))
 
   -- the parts of x
@@ -137,6 +138,17 @@ addend {e} {field} {x} k h = go (k .trie) refl
 
 pub headed : {e : Equivalence} {field : Bool} {x : List ℕ} → Addend e field x → Headed x
 headed h = record { some = omega arith; whole = omega arith }
+
+pub body-rest : {e : Equivalence} {field : Bool} {x : List ℕ} → Addend e field x → typeSize + length (body x) + length (rest x) ≡ length x
+body-rest h = omega (arith, h .is-length, h .is-span)
+
+pub front-rest : {e : Equivalence} {field : Bool} {x : List ℕ} → Addend e field x → length (front x) + length (rest x) ≡ length x
+unfolding front
+front-rest {x = x} h = omega (arith, h .is-length, length-take (typeSize * typeSpan x 0) x)
+
+pub front-le : (x : List ℕ) → length (front x) ≤ length x
+unfolding front
+front-le x = omega (arith, length-take (typeSize * typeSpan x 0) x)
 
 -- the parts as the code takes them
 pub front-is : (x : List ℕ) (n : ℕ) → n ≡ typeSize * typeSpan x 0 → take n x ≡ front x
