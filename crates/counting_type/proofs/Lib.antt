@@ -10,7 +10,10 @@ pub mod Values
 pub mod WellFormed
 pub mod Chain
 pub mod OnePass
-pub mod Merge
+pub mod TypeMerge
 pub mod Equivalence
+pub mod Clear
+pub mod Exact
+pub mod Fronts
 pub mod Ways
 pub mod Trials

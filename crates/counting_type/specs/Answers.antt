@@ -42,6 +42,15 @@ arenaWith n w = w .bytes ++ replicate (n - length (w .bytes)) 0
 abbrev pub zeros : ℕ → List ℕ
 zeros n = replicate n 0
 
+-- What a call leaves: its answer and the buffers lent to it. A merge has no working buffer.
+pub record Left : Type 0 where
+  pub outcome : Outcome
+  pub arena : List ℕ
+  pub work : List ℕ
+
+abbrev pub leaves : Written → List ℕ → List ℕ → Left
+leaves w arena work = record { outcome = w .outcome; arena = arenaWith (length arena) w; work = zeros (length work) }
+
 -- 11: the resulting type has more records than the arena of n bytes
 abbrev pub stored : ℕ → CountingType → Written
 stored n f = cond (ltb n (typeSize * size f)) (turnedDown 11 0) (record { outcome = accepted (size f); bytes = encode f })

@@ -8,7 +8,7 @@ use Prim.Native.Nat.{ℕ, zero, suc, _+_, _*_, _-_, _≤_, _<_, pred}
 use lib.Dec.{eqb, ltb}
 use lib.ListN.{length}
 use Rattle.value_table.specs.Number.{Bytes}
-use Rattle.value_table.specs.Outcome.{Outcome, accepted, refused}
+use Rattle.value_table.specs.Outcome.{accepted, refused}
 use Rattle.value_table.specs.Value.{Values, value}
 use Rattle.value_table.specs.Value as table
 use Rattle.value_table.specs.Judged.{judged, messages}
@@ -18,22 +18,13 @@ use Rattle.counting_type.specs.Raw.{profileOf}
 use Rattle.counting_type.specs.Place.{valuesOf, valuesAt, present}
 use Rattle.counting_type.specs.Encoding.{typeSize, encode}
 use Rattle.counting_type.specs.WellFormed.{maxTotal, badTypeLength}
-use Rattle.counting_type.specs.Answers.{numberOf, houseDefault, Written, arenaWith, zeros, inferred, inferredDefault, merged}
+use Rattle.counting_type.specs.Answers.{numberOf, houseDefault, Written, Left, leaves, zeros, inferred, inferredDefault, merged}
 
 -- One call of a plan, with the buffers lent to it as they are beforehand: call 2, call 3, or call 5 on the i-th type at hand, as the
 -- first, and the j-th of the others, as the second.
 pub data Call : Type 0 where
   infer inferDefault : (source arena work : List ℕ) → Call
   merge : (i j : ℕ) (arena : List ℕ) → Call
-
--- what a call leaves: its answer and its buffers; a merge has no working buffer
-pub record Left : Type 0 where
-  pub outcome : Outcome
-  pub arena : List ℕ
-  pub work : List ℕ
-
-abbrev pub leaves : Written → List ℕ → List ℕ → Left
-leaves w arena work = record { outcome = w .outcome; arena = arenaWith (length arena) w; work = zeros (length work) }
 
 -- the entry i of a list, and the list without it
 abbrev pub keep : {A : Type 0} → A → Option (A × List A) → Option (A × List A)

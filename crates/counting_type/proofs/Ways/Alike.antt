@@ -8,8 +8,8 @@ use native.Mathlib.Omega.{arith}
 use lib.ListN.{length, length-replicate}
 use Rattle.value_table.specs.Outcome.{Outcome, refused}
 use Rattle.counting_type.specs.Label.{Equivalence, CountingType}
-use Rattle.counting_type.specs.Answers.{Written, numberOf, zeros, inferred, inferredDefault, merged}
-use Rattle.counting_type.specs.Ways.{Call, infer, inferDefault, merge, Left, leaves, pull, goOn, run, Ends, WorkZero, LastAlike}
+use Rattle.counting_type.specs.Answers.{Left, leaves, Written, numberOf, zeros, inferred, inferredDefault, merged}
+use Rattle.counting_type.specs.Ways.{Call, infer, inferDefault, merge, pull, goOn, run, Ends, WorkZero, LastAlike}
 
 refused-number : {A B : Type 0} (o : Outcome) → ((o ≡ refused 10 0) × A) ⊎ ((o ≡ refused 11 0) × B) → 1 ≤ o .number
 refused-number o (inl h) = omega (arith, ap (λ p. p .number) (h .0))

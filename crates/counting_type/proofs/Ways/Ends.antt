@@ -14,8 +14,8 @@ use Rattle.counting_type.specs.Label.{Equivalence, CountingType}
 use Rattle.counting_type.specs.Raw.{raw, profileOf}
 use Rattle.counting_type.specs.Encoding.{encode}
 use Rattle.counting_type.specs.WellFormed.{badTypeLength, IsType}
-use Rattle.counting_type.specs.Answers.{numberOf, merged, mergedTypes}
-use Rattle.counting_type.specs.Ways.{Call, infer, inferDefault, merge, Left, leaves, pull, goOn, run, atHand, Accepted, AllAllowed, Way, joinValues, planMessages, WithinLimits, Ends}
+use Rattle.counting_type.specs.Answers.{Left, leaves, numberOf, merged, mergedTypes}
+use Rattle.counting_type.specs.Ways.{Call, infer, inferDefault, merge, pull, goOn, run, atHand, Accepted, AllAllowed, Way, joinValues, planMessages, WithinLimits, Ends}
 use Rattle.counting_type.proofs.Trie.Canonical.{some-none}
 use Rattle.counting_type.proofs.WellFormed.Closed.{profile-type}
 use Rattle.counting_type.proofs.WellFormed.Whole.{type-length}

@@ -13,8 +13,8 @@ use Rattle.counting_type.specs.Trie.{size, largestTotal, NoLarger}
 use Rattle.counting_type.specs.Label.{Counting, CountingType}
 use Rattle.counting_type.specs.Encoding.{typeSize, encode}
 use Rattle.counting_type.specs.WellFormed.{maxTotal}
-use Rattle.counting_type.specs.Answers.{Written, turnedDown, zeros, mergedTypes}
-use Rattle.counting_type.specs.Ways.{Left, leaves, goOn, WithinLimits, Ends}
+use Rattle.counting_type.specs.Answers.{Left, leaves, Written, turnedDown, zeros, mergedTypes}
+use Rattle.counting_type.specs.Ways.{goOn, WithinLimits, Ends}
 
 -- what comes after the call that wrote f: nothing, and f is all, or the calls that end as t says
 abbrev pub After : ℕ → CountingType → CountingType → List Left → Type 0

@@ -3,7 +3,6 @@ use mathlib.Core.Path.{ap, _∙_}
 use Prim.Native.Nat.{ℕ}
 use native.Mathlib.Omega.{arith}
 use lib.ListN.{length}
-use borrow.Fn.PlainCycle.{is}
 use Rattle.counting_type.specs.Merging.{insideOf}
 use Rattle.counting_type.proofs.TypeMerge.Addend.{headed, body-rest}
 use Rattle.counting_type.proofs.TypeMerge.Part.{Head, head, rank-inside}

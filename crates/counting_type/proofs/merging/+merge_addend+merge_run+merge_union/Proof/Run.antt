@@ -4,7 +4,6 @@ use Prim.Native.Nat.{ℕ}
 use native.Mathlib.Omega.{arith}
 use lib.ListN.{length}
 use borrow.Author.Needs.{needs}
-use borrow.Fn.PlainCycle.{is}
 use Rattle.counting_type.specs.Merging.{orderingOf}
 use Rattle.counting_type.proofs.TypeMerge.Addend.{headed}
 use Rattle.counting_type.proofs.TypeMerge.Part.{Head, head}

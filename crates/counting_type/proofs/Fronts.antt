@@ -1,0 +1,61 @@
+-- What the calls that write a type leave: first the type in the front of the arena, then zeros behind it.
+use mathlib.Core.Path.{_≡_, refl, ap, _∙_}
+use mathlib.Core.Bool.{true, false}
+use mathlib.Core.List.{List, []}
+use Prim.Native.Nat.{ℕ, _*_, _/_, _≤_, _<_}
+use native.Mathlib.Omega.{arith}
+use lib.Dec.{ltb}
+use lib.ListN.{length, take, length-take}
+use lib.Seq.{sets, sets-eq, take-at}
+use borrow.Author.Tests.{lt-ltb, le-ltb}
+use Rattle.value_table.specs.Outcome.{accepted}
+use Rattle.counting_type.specs.declared.Answered.{Answered}
+use Rattle.counting_type.specs.declared.Answered.the-variants.{Accepted, Refused}
+use Rattle.counting_type.specs.declared.Refusal.{Refusal}
+use Rattle.counting_type.specs.declared.Refusal.the-variants.{Total, Room}
+use Rattle.counting_type.specs.Trie.{size, largestTotal}
+use Rattle.counting_type.specs.Label.{Counting, CountingType}
+use Rattle.counting_type.specs.Encoding.{typeSize, encode}
+use Rattle.counting_type.specs.WellFormed.{maxTotal}
+use Rattle.counting_type.specs.Answers.{Written, turnedDown, leaves, stored, mergedTypes}
+use Rattle.counting_type.specs.Outcomes.{numberOfRefusal, outcomeOf, leftBy, Front}
+use Rattle.counting_type.proofs.Encoding.Header.{length-encode}
+use Rattle.counting_type.proofs.Clear.{clearedFrom}
+use Rattle.counting_type.proofs.Exact.{Exact, cleared-arena}
+
+pub front-refused : {w : Written} (why : Refusal) (place : ℕ) (arena : List ℕ) → w ≡ turnedDown (numberOfRefusal why) place → Front w (Refused why place) arena
+front-refused why place arena e = rw e (record { outcome = refl; bytes = refl })
+
+module _ (f : CountingType) (n : ℕ) where
+  pub front-room : (arena : List ℕ) → n < length (encode f) → Front (stored n f) (Refused Room 0) arena
+  front-room arena h = front-refused Room 0 arena (rw (lt-ltb n (typeSize * size f) (omega (arith, length-encode f))) refl)
+
+  -- a whole type stands in the front of an arena that has room for it
+  pub front-stored : (arena : List ℕ) → length (encode f) ≤ n → take (length (encode f)) arena ≡ encode f → Front (stored n f) (Accepted (length (encode f) / typeSize)) arena
+  front-stored arena h e =
+      let records : length (encode f) / typeSize ≡ size f = omega (arith, length-encode f) in
+      rw (le-ltb n (typeSize * size f) (omega (arith, length-encode f))) (record { outcome = ap accepted records; bytes = e })
+
+  module _ (within : ltb maxTotal (largestTotal Counting f) ≡ false) (answered : Answered) (arena : List ℕ) where
+    -- within the limit only room is asked
+    pub front-within : Front (stored n f) answered arena → Front (mergedTypes f n) answered arena
+    front-within h = rw within h
+
+  pub front-total : (arena : List ℕ) → ltb maxTotal (largestTotal Counting f) ≡ true → Front (mergedTypes f n) (Refused Total 0) arena
+  front-total arena h = front-refused Total 0 arena (rw h refl)
+
+pub sets-front : (arena bytes : List ℕ) → length bytes ≤ length arena → take (length bytes) (sets arena 0 bytes) ≡ bytes
+sets-front arena bytes h = rw (sets-eq bytes arena 0 (omega arith)) (take-at bytes _ (length bytes) refl)
+
+module _ {w : Written} {answered : Answered} {arena : List ℕ} (exact : Exact w) (h : Front w answered arena) where
+  pub front-length : typeSize * outcomeOf answered .count ≤ length arena
+  front-length =
+      let e : length (take (length (w .bytes)) arena) ≡ length (w .bytes) = ap length (h .bytes) in
+      omega (arith, exact, length-take (length (w .bytes)) arena, e, ap (λ o. o .count) (h .outcome))
+
+  -- the arena, cleared behind the type
+  pub front-cleared : (before cleared : List ℕ) → length arena ≡ length before → cleared ≡ clearedFrom arena (typeSize * outcomeOf answered .count) →
+      leftBy answered cleared [] ≡ leaves w before []
+  front-cleared before cleared l e =
+      let c = e ∙ ap (λ o. clearedFrom arena (typeSize * o .count)) (h .outcome) ∙ cleared-arena w arena (length before) exact l (rw exact at (h .bytes)) in
+      λ i. record { outcome = h .outcome i; arena = c i; work = [] }
