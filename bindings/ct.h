@@ -19,6 +19,9 @@ extern "C" {
 #define CT_REPEAT 6      /* a key seen earlier in the same record */
 #define CT_DEPTH 7       /* depth 33 */
 #define CT_FIRST_TYPE 8  /* the first or only type is not well formed */
+#define CT_SECOND_TYPE 9 /* the second type is not well formed */
+#define CT_TOTAL 10      /* a total of the merged type is above 1,000,000,000,000,000 */
+#define CT_ROOM 11       /* the resulting type has more records than the arena */
 
 /* The equivalences: the class of a record is its kind alone, or its kind with its keys. */
 #define CT_BY_KIND 0
@@ -48,6 +51,17 @@ struct ct_answer ct_judge_table(const uint8_t *table, size_t length);
  *
  * `bytes` points to `length` bytes that nobody writes during the call. It is not null, even for length 0. */
 struct ct_answer ct_judge_type(const uint8_t *bytes, size_t length, uint64_t equivalence);
+
+/* Merges a first and a second type under an equivalence into the arena.
+ *
+ * Accepted, the count is the number of records of the merged type, which stands in the front of the arena; the rest of the arena
+ * is zero. Refused, the place is 0 and the whole arena is zero. The three lengths come first, then the equivalence, the first
+ * type, the second, the totals and at last the room. What the arena held before makes no difference.
+ *
+ * `first` and `second` point to bytes that nobody writes during the call; they may be the same bytes. The arena overlaps neither.
+ * None of the three is null, even for length 0. */
+struct ct_answer ct_merge(const uint8_t *first, size_t first_length, const uint8_t *second, size_t second_length,
+                          uint64_t equivalence, uint8_t *arena, size_t arena_length);
 
 #ifdef __cplusplus
 }

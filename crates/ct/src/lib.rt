@@ -3,7 +3,10 @@ use value_table::Answer;
 ghost use mathlib.Core.Path.{_≡_};
 ghost use Rattle.value_table.specs.Outcome.{outcomeOfAnswer};
 ghost use Rattle.value_table.specs.Judged.{judged};
-ghost use Rattle.counting_type.specs.Answers.{judgedType};
+ghost use mathlib.Core.List.{[]};
+ghost use lib.ListN.{length};
+ghost use Rattle.counting_type.specs.Answers.{judgedType, leaves, merged};
+ghost use Rattle.ct.specs.Left.{answerLeft};
 
 // Call 1: judges a table.
 #[no_mangle]
@@ -19,4 +22,17 @@ pub extern "C" fn ct_judge_type(bytes: &[u8], equivalence: u64) -> Answer
     ensures { λ r. ⌜ outcomeOfAnswer r ≡ judgedType (now (bytes .entry)) equivalence ⌝ }
 {
     counting_type::answer_of(counting_type::judge_type(bytes, equivalence))
+}
+
+// Call 5: merges a first and a second type under an equivalence into the arena.
+#[no_mangle]
+pub extern "C" fn ct_merge(
+    first: &[u8],
+    second: &[u8],
+    equivalence: u64,
+    arena: &mut [u8],
+) -> Answer
+    ensures { λ r. ⌜ answerLeft r (now (arena .exit)) [] ≡ leaves (merged (now (first .entry)) (now (second .entry)) equivalence (length (now (arena .entry)))) (now (arena .entry)) [] ⌝ }
+{
+    counting_type::answer_of(counting_type::merge(first, second, equivalence, arena))
 }
