@@ -1,0 +1,9 @@
+-- The laws behind the statements; a folder for each function's proof.
+pub mod Powers
+pub mod Storing
+pub mod Lines
+pub mod Runs
+pub mod Largest
+pub mod Walking
+pub mod Whole
+pub mod Example

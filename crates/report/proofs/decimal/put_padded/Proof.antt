@@ -1,0 +1,45 @@
+-- `put_padded` meets its contract: the spaces, then the digits.
+use native.Mathlib.Omega.{arith}
+use borrow.Author.Needs.{needs}
+use Prim.Native.Nat.{ℕ, _-_}
+use lib.ListN.{length-replicate}
+use Rattle.report.specs.Decimal.{digitCount}
+use Rattle.report.proofs.Powers.{length-digits}
+use Rattle.report.proofs.Storing.{stored-then}
+use Rattle.report.proofs.decimal.put_padded.Statement.{statement}
+use Rattle.report.proofs.decimal.put_padded.Tie as tie
+
+digit-count-requires : tie.Need-digit-count-requires
+digit-count-requires c κs = search needs
+
+padding-requires : tie.Need-padding-requires
+padding-requires c κs = search needs
+
+put-spaces-requires : tie.Need-put-spaces-requires
+put-spaces-requires c κs = search needs
+
+put-digits-requires : tie.Need-put-digits-requires
+put-digits-requires c κs = let d = c .before .before .before .before .before .before .digit-count .ensures in omega (arith, d, c .before .before .before .before .padding .ensures, length-replicate {A = ℕ} (c .before .before .before .before .padding .result) 32, c .before .before .before .put-spaces .ensures .behind, c .before .before .before .before .before .before .before .before .pre)
+
+same-length : tie.Need-same-length
+same-length c = search needs
+
+returns : tie.Need-returns
+returns c =
+    let n = c .before .before .before .before .before .before .before .before .before .before .before .args .n in
+    let d = c .before .before .before .before .before .before .before .before .before .digit-count .ensures in
+    let w = c .before .before .before .before .before .before .before .padding .ensures in
+    let g = rw (w, d .0) at (c .before .before .before .before .before .before .put-spaces .ensures) in
+    let h = rw (d .0) at (c .before .before .put-digits .ensures) in
+    (stored-then g h, omega (arith, g .behind, h .behind, length-replicate {A = ℕ} (c .before .before .before .before .before .before .before .before .before .before .before .args .width - digitCount n) 32, length-digits (digitCount n) n, d))
+
+pub put-padded-spec : {M : Type 1} → statement M
+put-padded-spec =
+    tie.close
+    (tie.spec
+    digit-count-requires
+    padding-requires
+    put-spaces-requires
+    put-digits-requires
+    same-length
+    returns)

@@ -1,0 +1,40 @@
+-- 'The profile program' of document 01: the report of a type, one line per type record.
+use mathlib.Core.Bool.{cond}
+use mathlib.Core.List.{List, [], _++_}
+use Prim.Native.Nat.{ℕ, zero, suc, max}
+use lib.Dec.{eqb}
+use Rattle.value_table.specs.Value.{maxLength, recordKind}
+use Rattle.counting_type.specs.Trie.{nil, node, total}
+use Rattle.counting_type.specs.Label.{Label, Counting, CountingType}
+use Rattle.counting_type.specs.Encoding.{typeOf}
+use Rattle.counting_type.specs.WellFormed.{depthInside}
+use Rattle.counting_type.specs.Answers.{houseDefault, inferredDefault}
+use Rattle.report.specs.Decimal.{digitCount}
+use Rattle.report.specs.Line.{share, lineOf, refusalLine}
+
+-- what a share inside a node is against: a field's against its record's count, an addend's against its union's total
+abbrev pub wholeInside : Label → ℕ → CountingType → ℕ
+wholeInside l count inner = cond (eqb (l .kind) recordKind) count (total Counting inner)
+
+-- The lines of a union, or of the fields of a record, in the order of the records. A field has its record's depth.
+unfoldable pub linesOf : (width depth whole : ℕ) → CountingType → List ℕ
+linesOf width depth whole nil = []
+linesOf width depth whole (node l count inner next) =
+    lineOf depth (l .kind) (l .key) width count (share count whole)
+    ++ (linesOf width (depthInside (eqb (l .kind) recordKind) depth) (wholeInside l count inner) inner ++ linesOf width depth whole next)
+
+-- the largest count printed, inner addends and fields included
+unfoldable pub largestCount : CountingType → ℕ
+largestCount nil = 0
+largestCount (node l count inner next) = max count (max (largestCount inner) (largestCount next))
+
+-- counts are padded to the digits of the largest one
+unfoldable pub report : CountingType → List ℕ
+report t = linesOf (digitCount (largestCount t)) 1 (total Counting t) t
+
+-- What the program prints for its input: the report of the type under the house default, or the line of the refusal. Input above
+-- 65,536 bytes is refused by 1, as is any other wrong length.
+unfoldable pub printed : List ℕ → List ℕ
+printed input =
+    let w = inferredDefault input maxLength maxLength in
+    elim (w .outcome .number) [ zero ↦ report (typeOf houseDefault (w .bytes)) | suc n ↦ refusalLine (suc n) (w .outcome .place) ]

@@ -1,0 +1,65 @@
+-- What the walk over the records of a type expects of them, and what it leaves to the records inside.
+use mathlib.Core.Bool.{Bool, false, cond}
+use mathlib.Core.List.{List}
+use Prim.Native.Nat.{ℕ, zero, suc, _+_, _-_, _*_, _≤_, max}
+use lib.Dec.{eqb}
+use lib.ListN.{length}
+use Rattle.value_table.specs.Value.{maxLength, recordKind}
+use Rattle.counting_type.specs.Trie.{nil, node, total}
+use Rattle.counting_type.specs.Label.{Counting, CountingType}
+use Rattle.counting_type.specs.Encoding.{typeSize, typeKind, typeKey, typeSpan, typeCount, decode}
+use Rattle.counting_type.specs.WellFormed.{maxTotal, depthInside}
+use Rattle.counting_type.specs.Answers.{houseDefault}
+use Rattle.counting_type.proofs.WellFormed.Holds.{Holds}
+use Rattle.report.specs.Line.{share, lineOf}
+use Rattle.report.specs.Report.{wholeInside}
+
+-- the type in records i to end
+abbrev pub typeIn : List ℕ → ℕ → ℕ → CountingType
+typeIn b i end = decode houseDefault b (end - i) i end
+
+-- the line of record p, the depth of the records inside it, and what their shares are against
+abbrev pub lineAt : List ℕ → (p depth whole width : ℕ) → List ℕ
+lineAt b p depth whole width = lineOf depth (typeKind b p) (typeKey b p) width (typeCount b p) (share (typeCount b p) whole)
+
+abbrev pub depthIn : List ℕ → (p depth : ℕ) → ℕ
+depthIn b p depth = depthInside (eqb (typeKind b p) recordKind) depth
+
+abbrev pub wholeIn : List ℕ → ℕ → ℕ
+wholeIn b p = cond (eqb (typeKind b p) recordKind) (typeCount b p) (total Counting (typeIn b (p + 1) (p + typeSpan b p)))
+
+-- the largest count in the k records from i on
+unfoldable pub largestFrom : List ℕ → ℕ → ℕ → ℕ
+largestFrom b zero i = 0
+largestFrom b (suc k) i = max (typeCount b i) (largestFrom b k (i + 1))
+
+-- each count is at least 1 and at most what its share is against, which keeps the limit
+abbrev pub Shares : ℕ → CountingType → Type 0
+Shares whole nil = Unit {0}
+Shares whole (node l count inner next) =
+    (1 ≤ count) × (count ≤ whole) × (wholeInside l count inner ≤ maxTotal) × Shares (wholeInside l count inner) inner × Shares whole next
+
+-- records i to end are a union
+pub record Union (b : List ℕ) (i end : ℕ) : Type 0 where
+  pub depth : ℕ
+  pub holds : Holds houseDefault b i end false depth (typeIn b i end)
+  pub limit : total Counting (typeIn b i end) ≤ maxTotal
+  pub within : typeSize * end ≤ length b
+  pub short : length b ≤ maxLength
+
+-- records i to end are a union or the fields of a record, with shares against `whole`; each level of depth has a record before i
+pub record Run (b : List ℕ) (i end depth whole : ℕ) : Type 0 where
+  pub field : Bool
+  pub holds : Holds houseDefault b i end field depth (typeIn b i end)
+  pub shares : Shares whole (typeIn b i end)
+  pub limit : whole ≤ maxTotal
+  pub deep : depth ≤ i + 1
+  pub within : typeSize * end ≤ length b
+  pub short : length b ≤ maxLength
+
+-- record p stands in b, and its share against `whole` can be told
+pub record Printable (b : List ℕ) (p whole : ℕ) : Type 0 where
+  pub here : typeSize * p + typeSize ≤ length b
+  pub count-low : 1 ≤ typeCount b p
+  pub count-high : typeCount b p ≤ whole
+  pub limit : whole ≤ maxTotal

@@ -1,0 +1,122 @@
+// Bytes, texts and decimal numbers, stored in a buffer from a position on. Each function answers the position behind what it stored.
+ghost use mathlib.Core.Path.{_≡_};
+ghost use mathlib.Core.List.{[], _∷_};
+ghost use Prim.Native.Nat.{_+_, _-_, _^_, _≤_, _<_};
+ghost use lib.ListN.{length, replicate};
+ghost use Rattle.counting_type.specs.WellFormed.{maxTotal};
+ghost use Rattle.report.specs.Decimal.{digitCount, digits, decimal, padded, Stored};
+
+const MAX_DIGITS: usize = 16;
+
+const POWERS: [usize; 16] = [
+    1,
+    10,
+    100,
+    1000,
+    10000,
+    100000,
+    1000000,
+    10000000,
+    100000000,
+    1000000000,
+    10000000000,
+    100000000000,
+    1000000000000,
+    10000000000000,
+    100000000000000,
+    1000000000000000,
+];
+
+fn power(d: usize) -> usize
+    requires { ⌜ d < 16 ⌝ }
+    ensures { λ r. ⌜ r ≡ 10 ^ d ⌝ }
+{
+    POWERS[d]
+}
+
+// The number of digits, by the powers of ten.
+pub fn digit_count(n: usize) -> usize
+    requires { ⌜ n ≤ maxTotal ⌝ }
+    ensures { λ r. ⌜ (r ≡ digitCount n) × (1 ≤ r) × (r ≤ 16) ⌝ }
+{
+    let mut d = 1;
+    while d < MAX_DIGITS {
+        if n < power(d) {
+            return d;
+        }
+        d += 1;
+    }
+    d
+}
+
+pub fn put_byte(out: &mut [u8], at: usize, byte: u8) -> usize
+    requires { ⌜ at < length (now out) ⌝ }
+    ensures { λ r. ⌜ Stored (now (out .entry)) at (byte ∷ []) (now (out .exit)) r ⌝ }
+{
+    out[at] = byte;
+    at + 1
+}
+
+pub fn put_text(out: &mut [u8], at: usize, text: &[u8]) -> usize
+    requires { ⌜ at + length (now text) ≤ length (now out) ⌝ }
+    ensures { λ r. ⌜ Stored (now (out .entry)) at (now (text .entry)) (now (out .exit)) r ⌝ }
+{
+    let n = text.len();
+    let mut p = at;
+    for i in 0..n {
+        out[p] = text[i];
+        p += 1;
+    }
+    p
+}
+
+fn put_spaces(out: &mut [u8], at: usize, count: usize) -> usize
+    requires { ⌜ at + count ≤ length (now out) ⌝ }
+    ensures { λ r. ⌜ Stored (now (out .entry)) at (replicate count 32) (now (out .exit)) r ⌝ }
+{
+    let mut p = at;
+    let end = at + count;
+    while p < end {
+        out[p] = b' ';
+        p += 1;
+    }
+    p
+}
+
+// The last `count` digits of n.
+fn put_digits(out: &mut [u8], at: usize, n: usize, count: usize) -> usize
+    requires { ⌜ (at + count ≤ length (now out)) × (count ≤ 16) ⌝ }
+    ensures { λ r. ⌜ Stored (now (out .entry)) at (digits count n) (now (out .exit)) r ⌝ }
+{
+    let mut p = at;
+    let mut d = count;
+    while 0 < d {
+        d -= 1;
+        out[p] = b'0' + (n / power(d) % 10) as u8;
+        p += 1;
+    }
+    p
+}
+
+pub fn put_number(out: &mut [u8], at: usize, n: usize) -> usize
+    requires { ⌜ (at + 16 ≤ length (now out)) × (n ≤ maxTotal) ⌝ }
+    ensures { λ r. ⌜ Stored (now (out .entry)) at (decimal n) (now (out .exit)) r × (r ≤ at + 16) ⌝ }
+{
+    put_digits(out, at, n, digit_count(n))
+}
+
+fn padding(width: usize, digits: usize) -> usize
+    ensures { λ r. ⌜ r ≡ width - digits ⌝ }
+{
+    if digits < width { width - digits } else { 0 }
+}
+
+// Padded on the left with spaces to `width` bytes.
+pub fn put_padded(out: &mut [u8], at: usize, width: usize, n: usize) -> usize
+    requires { ⌜ (at + 16 ≤ length (now out)) × (width ≤ 16) × (n ≤ maxTotal) ⌝ }
+    ensures { λ r. ⌜ Stored (now (out .entry)) at (padded width n) (now (out .exit)) r × (r ≤ at + 16) ⌝ }
+{
+    let count = digit_count(n);
+    let p = put_spaces(out, at, padding(width, count));
+    put_digits(out, p, n, count)
+}

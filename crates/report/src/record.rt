@@ -1,0 +1,40 @@
+// The fields of a type record.
+use value_table::little_endian::number16;
+use value_table::little_endian::number32;
+use value_table::little_endian::number64;
+ghost use mathlib.Core.Path.{_≡_};
+ghost use Prim.Native.Nat.{_+_, _*_, _≤_, _<_};
+ghost use lib.ListN.{length};
+ghost use Rattle.counting_type.specs.Encoding.{typeSize, typeKind, typeKey, typeSpan, typeCount};
+
+pub const SIZE: usize = 16;
+
+pub const RECORD: u8 = 5;
+
+pub fn kind_at(b: &[u8], i: usize) -> u8
+    requires { ⌜ typeSize * i + typeSize ≤ length (now b) ⌝ }
+    ensures { λ r. ⌜ r ≡ typeKind (now (b .entry)) i ⌝ }
+{
+    b[SIZE * i]
+}
+
+pub fn key_at(b: &[u8], i: usize) -> usize
+    requires { ⌜ typeSize * i + typeSize ≤ length (now b) ⌝ }
+    ensures { λ r. ⌜ (r ≡ typeKey (now (b .entry)) i) × (r < 65536) ⌝ }
+{
+    number16(b, SIZE * i + 2)
+}
+
+pub fn span_at(b: &[u8], i: usize) -> usize
+    requires { ⌜ typeSize * i + typeSize ≤ length (now b) ⌝ }
+    ensures { λ r. ⌜ (r ≡ typeSpan (now (b .entry)) i) × (r < 4294967296) ⌝ }
+{
+    number32(b, SIZE * i + 4)
+}
+
+pub fn count_at(b: &[u8], i: usize) -> usize
+    requires { ⌜ typeSize * i + typeSize ≤ length (now b) ⌝ }
+    ensures { λ r. ⌜ r ≡ typeCount (now (b .entry)) i ⌝ }
+{
+    number64(b, SIZE * i + 8)
+}

@@ -1,0 +1,130 @@
+// The walk over the records of a type.
+use crate::line::put_line;
+use crate::line::share;
+use crate::record;
+use crate::record::count_at;
+use crate::record::key_at;
+use crate::record::kind_at;
+use crate::record::span_at;
+ghost use mathlib.Core.Path.{_≡_};
+ghost use Prim.Native.Nat.{_+_, _-_, _*_, _≤_, _<_, max};
+ghost use lib.ListN.{length};
+ghost use Rattle.value_table.specs.Value.{recordKind, maxLength};
+ghost use Rattle.counting_type.specs.Trie.{total};
+ghost use Rattle.counting_type.specs.Label.{Counting};
+ghost use Rattle.counting_type.specs.Encoding.{typeSize, typeKind, typeSpan};
+ghost use Rattle.counting_type.specs.WellFormed.{maxTotal};
+ghost use Rattle.report.specs.Decimal.{Stored};
+ghost use Rattle.report.specs.Line.{lineLimit};
+ghost use Rattle.report.specs.Report.{linesOf};
+ghost use Rattle.report.specs.Walk.{typeIn, lineAt, depthIn, wholeIn, largestFrom, Union, Run, Printable};
+
+fn larger(x: usize, y: usize) -> usize
+    ensures { λ r. ⌜ r ≡ max x y ⌝ }
+{
+    if x < y { y } else { x }
+}
+
+// The largest count in the first n records.
+pub fn largest_count(b: &[u8], n: usize) -> usize
+    requires { ⌜ (typeSize * n ≤ length (now b)) × (length (now b) ≤ maxLength) ⌝ }
+    ensures { λ r. ⌜ r ≡ largestFrom (now (b .entry)) n 0 ⌝ }
+{
+    let mut largest = 0;
+    for i in 0..n {
+        largest = larger(largest, count_at(b, i));
+    }
+    largest
+}
+
+// The total of the union in records i to end.
+pub fn union_total(b: &[u8], i: usize, end: usize) -> usize
+    requires { ⌜ Union (now b) i end ⌝ }
+    ensures { λ r. ⌜ r ≡ total Counting (typeIn (now (b .entry)) i end) ⌝ }
+{
+    let mut p = i;
+    let mut sum = 0;
+    while p < end {
+        sum += count_at(b, p);
+        p += span_at(b, p);
+    }
+    sum
+}
+
+// What the shares of the records inside record p are against: a field's against its record's count, an addend's against its
+// union's total.
+fn whole_inside(b: &[u8], p: usize, end: usize) -> usize
+    requires { ⌜ (typeSize * p + typeSize ≤ length (now b)) × (end ≡ p + typeSpan (now b) p) × ((typeKind (now b) p ≡ recordKind → ⊥) → Union (now b) (p + 1) end) ⌝ }
+    ensures { λ r. ⌜ r ≡ wholeIn (now (b .entry)) p ⌝ }
+{
+    if kind_at(b, p) == record::RECORD {
+        return count_at(b, p);
+    }
+    union_total(b, p + 1, end)
+}
+
+// A field has its record's depth.
+fn depth_inside(b: &[u8], p: usize, depth: usize) -> usize
+    requires { ⌜ (typeSize * p + typeSize ≤ length (now b)) × (depth ≤ maxTotal) ⌝ }
+    ensures { λ r. ⌜ r ≡ depthIn (now (b .entry)) p depth ⌝ }
+{
+    if kind_at(b, p) == record::RECORD {
+        depth
+    } else {
+        depth + 1
+    }
+}
+
+// The line of record p.
+fn put_record(
+    b: &[u8],
+    p: usize,
+    depth: usize,
+    whole: usize,
+    width: usize,
+    out: &mut [u8],
+    at: usize,
+) -> usize
+    requires { ⌜ Printable (now b) p whole × (depth ≤ maxTotal) × (width ≤ 16) × (at + lineLimit ≤ length (now out)) ⌝ }
+    ensures { λ r. ⌜ Stored (now (out .entry)) at (lineAt (now (b .entry)) p depth whole width) (now (out .exit)) r × (r ≤ at + lineLimit) ⌝ }
+{
+    let count = count_at(b, p);
+    let thousandths = share(count, whole);
+    put_line(
+        out,
+        at,
+        depth,
+        kind_at(b, p),
+        key_at(b, p),
+        width,
+        count,
+        thousandths,
+    )
+}
+
+// The lines of records i to end.
+pub fn put_run(
+    b: &[u8],
+    i: usize,
+    end: usize,
+    depth: usize,
+    whole: usize,
+    width: usize,
+    out: &mut [u8],
+    at: usize,
+) -> usize
+    requires { ⌜ Run (now b) i end depth whole × (width ≤ 16) × (at + lineLimit * (end - i) ≤ length (now out)) ⌝ }
+    ensures { λ r. ⌜ Stored (now (out .entry)) at (linesOf width depth whole (typeIn (now (b .entry)) i end)) (now (out .exit)) r × (r ≤ at + lineLimit * (end - i)) ⌝ }
+{
+    let mut p = i;
+    let mut to = at;
+    while p < end {
+        let inside = put_record(b, p, depth, whole, width, out, to);
+        let next = p + span_at(b, p);
+        let depth_in = depth_inside(b, p, depth);
+        let whole_in = whole_inside(b, p, next);
+        to = put_run(b, p + 1, next, depth_in, whole_in, width, out, inside);
+        p = next;
+    }
+    to
+}
