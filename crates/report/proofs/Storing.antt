@@ -1,13 +1,13 @@
 -- Bytes stored one after the other: by a loop, and by one call after another.
 use mathlib.Core.Path.{_≡_, refl, sym, ap, _∙_}
 use mathlib.Core.List.{List, [], _∷_, _++_}
-use Prim.Native.Nat.{ℕ, suc, _+_}
+use Prim.Native.Nat.{ℕ, suc, _+_, _≤_}
 use native.Mathlib.Nat.{add-zero}
 use native.Mathlib.Numerals.{add-one}
 use native.Mathlib.Omega.{arith}
-use lib.ListN.{length, set, length-set, length-append}
-use lib.Seq.{sets, length-sets}
-use Rattle.report.specs.Decimal.{Stored}
+use lib.ListN.{length, take, drop, set, length-set, length-append}
+use lib.Seq.{sets, length-sets, sets-eq, take-at, drop-at}
+use Rattle.report.specs.Decimal.{Stored, Front}
 
 -- Of xs, to be stored in s from position p on, ys are left, at position q of the buffer s′.
 pub record Storing (s : List ℕ) (p : ℕ) (xs : List ℕ) (s′ : List ℕ) (q : ℕ) (ys : List ℕ) : Type 0 where
@@ -47,4 +47,18 @@ stored-then {s} {p} {xs} {s₁} {q} {ys} {s₂} {r} h i =
     record {
       bytes = i .bytes ∙ rw (h .bytes, h .behind) (sym (sets-append s p xs ys));
       behind = simp length-append (omega (arith, h .behind, i .behind));
+    }
+
+-- what was stored at the start of a buffer that has room for it
+pub stored-front : {s xs s′ : List ℕ} {n : ℕ} → Stored s 0 xs s′ n → n ≤ length s → Front s xs s′ n
+stored-front {s} {xs} {s′} {n} h i =
+    let e : 0 + length xs ≡ n = sym (h .behind) in
+    let k : length xs ≡ n = omega arith in
+    let whole : s′ ≡ xs ++ drop n s = h .bytes ∙ sets-eq xs s 0 (omega arith) ∙ rw e refl in
+    let front : take n s′ ≡ xs = rw whole (take-at xs (drop n s) n k) in
+    record {
+      front = front;
+      rest = rw whole (drop-at xs (drop n s) n k);
+      within = rw (h .bytes, length-sets s 0 xs) i;
+      counted = rw front (sym k);
     }

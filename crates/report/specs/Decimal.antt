@@ -1,12 +1,12 @@
--- Texts and decimal numbers, as ASCII bytes.
+-- Texts and decimal numbers, as ASCII bytes, and the buffers that they are stored in.
 use mathlib.Core.List.{List, [], _∷_, _++_}
 use mathlib.Core.Path.{_≡_}
 use mathlib.Core.Bool.{true, false}
-use Prim.Native.Nat.{ℕ, zero, suc, _+_, _-_, _/_, _%_, _^_}
+use Prim.Native.Nat.{ℕ, zero, suc, _+_, _-_, _/_, _%_, _^_, _≤_}
 use Prim.Native.Char.{code}
 use Prim.Native.String.{String, [] as empty, _∷_ as _then_}
 use lib.Dec.{ltb}
-use lib.ListN.{length, replicate}
+use lib.ListN.{length, take, drop, replicate}
 use lib.Seq.{sets}
 
 abbrev pub text : String → List ℕ
@@ -38,3 +38,11 @@ padded width n = replicate (width - digitCount n) 32 ++ decimal n
 pub record Stored (s : List ℕ) (p : ℕ) (xs : List ℕ) (s′ : List ℕ) (end : ℕ) : Type 0 where
   pub bytes : s′ ≡ sets s p xs
   pub behind : end ≡ p + length xs
+
+-- A buffer s, afterwards s′, that holds xs in its first n bytes and is unchanged behind them. The last two parts are what a caller
+-- that hands on the first n bytes has to know.
+pub record Front (s xs s′ : List ℕ) (n : ℕ) : Type 0 where
+  pub front : take n s′ ≡ xs
+  pub rest : drop n s′ ≡ drop n s
+  pub within : n ≤ length s′
+  pub counted : n ≡ length (take n s′)

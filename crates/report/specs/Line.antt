@@ -27,5 +27,6 @@ lineLimit = 74
 unfoldable pub refusalLine : (number place : ℕ) → List ℕ
 refusalLine number place = text "refused " ++ decimal number ++ text " " ++ decimal place ++ text "\n"
 
+-- at most this many bytes: a word of 7 letters, two numbers of 16 digits, two spaces and the line feed
 abbrev pub refusalLimit : ℕ
 refusalLimit = 42

@@ -15,14 +15,14 @@ ghost use lib.ListN.{length};
 ghost use Rattle.counting_type.specs.Encoding.{typeRecords, typeOf};
 ghost use Rattle.counting_type.specs.WellFormed.{maxTotal, IsType};
 ghost use Rattle.counting_type.specs.Answers.{houseDefault};
-ghost use Rattle.report.specs.Decimal.{Stored};
+ghost use Rattle.report.specs.Decimal.{Front};
 ghost use Rattle.report.specs.Line.{lineLimit, refusalLimit, refusalLine};
 ghost use Rattle.report.specs.Report.{report};
 
 // Stores the report of a well-formed type at the front of the buffer, and answers its length.
 pub fn put_report(bytes: &[u8], out: &mut [u8]) -> usize
     requires { ⌜ IsType houseDefault (now bytes) (typeOf houseDefault (now bytes)) × (lineLimit * typeRecords (now bytes) ≤ length (now out)) ⌝ }
-    ensures { λ r. ⌜ Stored (now (out .entry)) 0 (report (typeOf houseDefault (now (bytes .entry)))) (now (out .exit)) r ⌝ }
+    ensures { λ r. ⌜ Front (now (out .entry)) (report (typeOf houseDefault (now (bytes .entry)))) (now (out .exit)) r ⌝ }
 {
     let n = bytes.len() / record::SIZE;
     let width = digit_count(largest_count(bytes, n));
@@ -33,7 +33,7 @@ pub fn put_report(bytes: &[u8], out: &mut [u8]) -> usize
 // Stores the line of a refusal at the front of the buffer, and answers its length.
 pub fn put_refusal(number: usize, place: usize, out: &mut [u8]) -> usize
     requires { ⌜ (number ≤ maxTotal) × (place ≤ maxTotal) × (refusalLimit ≤ length (now out)) ⌝ }
-    ensures { λ r. ⌜ Stored (now (out .entry)) 0 (refusalLine number place) (now (out .exit)) r ⌝ }
+    ensures { λ r. ⌜ Front (now (out .entry)) (refusalLine number place) (now (out .exit)) r ⌝ }
 {
     let first = put_text(out, 0, b"refused ");
     let second = put_number_and(out, first, number, b' ');

@@ -5,6 +5,7 @@ use borrow.Author.Needs.{needs}
 use Rattle.counting_type.specs.Trie.{total}
 use Rattle.counting_type.specs.Label.{Counting}
 use Rattle.report.specs.Decimal.{digitCount}
+use Rattle.report.proofs.Storing.{stored-front}
 use Rattle.report.proofs.Whole.{whole-type, whole-short, whole-run, whole-union, whole-largest, whole-lines}
 use Rattle.report.proofs.put_report.Statement.{statement}
 use Rattle.report.proofs.put_report.Tie as tie
@@ -29,7 +30,8 @@ same-length c = search needs
 returns : tie.Need-returns
 returns c =
     let w = c .before .before .before .before .before .digit-count .ensures .0 ∙ ap digitCount (c .before .before .before .before .before .before .largest-count .ensures) in
-    rw (whole-lines (c .before .before .before .before .before .before .before .before .before .pre .0) _ _ w (c .before .before .before .before .union-total .ensures)) at (c .before .before .put-run .ensures .0)
+    let h = c .before .before .put-run .ensures in
+    stored-front (rw (whole-lines (c .before .before .before .before .before .before .before .before .before .pre .0) _ _ w (c .before .before .before .before .union-total .ensures)) at (h .0)) (omega (arith, h .1, c .before .before .before .before .before .before .before .before .before .pre .1))
 
 pub put-report-spec : {M : Type 1} → statement M
 put-report-spec =
