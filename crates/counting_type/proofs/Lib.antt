@@ -17,3 +17,4 @@ pub mod Exact
 pub mod Fronts
 pub mod Ways
 pub mod Trials
+pub mod Inferring

@@ -156,3 +156,4 @@ pub fn merge(first: &[u8], second: &[u8], equivalence: u64, arena: &mut [u8]) ->
     clear_from(arena, bytes_written(answered));
     answered
 }
+mod type_store;

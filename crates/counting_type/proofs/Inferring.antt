@@ -1,0 +1,3 @@
+-- The laws behind inference in place.
+pub mod Stores
+pub mod Gap

@@ -1,0 +1,124 @@
+-- Stores of numbers in parts, of a count that grows by one, and of a whole header.
+use mathlib.Core.Path.{_≡_, refl, sym, _∙_, ap}
+use mathlib.Core.List.{List, [], _∷_, _++_}
+use Prim.Native.Nat.{ℕ, zero, suc, _+_, _*_, _/_, _%_, _^_, _≤_, _<_}
+use native.Mathlib.Nat.{add-zero, pow-suc, mul-comm, mul-assoc}
+use native.Mathlib.Omega.{arith}
+use native.Mathlib.Decide.{decLt}
+use lib.ListN.{length, drop, set}
+use lib.Seq.{sets, sets-eq}
+use Rattle.value_table.specs.Number.{bytesOf, numberOf, numberAt}
+use Rattle.value_table.proofs.Number.{length-bytesOf}
+use Rattle.counting_type.specs.Label.{Label}
+use Rattle.counting_type.specs.Encoding.{header}
+
+sets-append : (l xs ys : List ℕ) (p q : ℕ) → q ≡ p + length xs → sets (sets l p xs) q ys ≡ sets l p (xs ++ ys)
+sets-append l [] ys p q e = ap (λ k. sets l k ys) (e ∙ add-zero p)
+sets-append l (x ∷ xs) ys p q e = sets-append (set l p x) xs ys (suc p) q (omega arith)
+
+halves-4 : (x : ℕ) → bytesOf 2 x ++ bytesOf 2 (x / 65536) ≡ bytesOf 4 x
+unfolding bytesOf
+halves-4 x = let e : x / 256 / 256 ≡ x / 65536 = omega arith in rw e
+
+halves-8 : (x : ℕ) → bytesOf 4 x ++ bytesOf 4 (x / 4294967296) ≡ bytesOf 8 x
+unfolding bytesOf
+halves-8 x = let e : x / 256 / 256 / 256 / 256 ≡ x / 4294967296 = omega arith in rw e
+
+-- a number stored in two halves
+module _ (l t u : List ℕ) (p x : ℕ) where
+  pub stored-4 : t ≡ sets l p (bytesOf 2 x) → u ≡ sets t (p + 2) (bytesOf 2 (x / 65536)) → u ≡ sets l p (bytesOf 4 x)
+  stored-4 e f =
+      f ∙ ap (λ t. sets t (p + 2) (bytesOf 2 (x / 65536))) e
+      ∙ sets-append l (bytesOf 2 x) (bytesOf 2 (x / 65536)) p (p + 2) (ap (λ n. p + n) (sym (length-bytesOf 2 x)))
+      ∙ ap (sets l p) (halves-4 x)
+
+  pub stored-8 : t ≡ sets l p (bytesOf 4 x) → u ≡ sets t (p + 4) (bytesOf 4 (x / 4294967296)) → u ≡ sets l p (bytesOf 8 x)
+  stored-8 e f =
+      f ∙ ap (λ t. sets t (p + 4) (bytesOf 4 (x / 4294967296))) e
+      ∙ sets-append l (bytesOf 4 x) (bytesOf 4 (x / 4294967296)) p (p + 4) (ap (λ n. p + n) (sym (length-bytesOf 4 x)))
+      ∙ ap (sets l p) (halves-8 x)
+
+-- what lies past the width has no bytes
+bytes-past : (w y k : ℕ) → bytesOf w (y + 256 ^ w * k) ≡ bytesOf w y
+unfolding bytesOf
+bytes-past zero y k = refl
+bytes-past (suc w) y k =
+    let e : 256 ^ suc w * k ≡ 256 * (256 ^ w * k) = rw (pow-suc, mul-comm (256 ^ w) 256, mul-assoc) refl in
+    let low : (y + 256 ^ suc w * k) % 256 ≡ y % 256 = omega arith in
+    let high : (y + 256 ^ suc w * k) / 256 ≡ y / 256 + 256 ^ w * k = omega arith in
+    rw (low, high) (ap (λ xs. y % 256 ∷ xs) (bytes-past w (y / 256) k))
+
+bytes-read : (w n : ℕ) → bytesOf w (numberOf (bytesOf w n)) ≡ bytesOf w n
+unfolding bytesOf numberOf
+bytes-read zero n = refl
+bytes-read (suc w) n =
+    let m = numberOf (bytesOf w (n / 256)) in
+    let low : (n % 256 + 256 * m) % 256 ≡ n % 256 = omega arith in
+    let high : (n % 256 + 256 * m) / 256 ≡ m = omega arith in
+    rw (low, high) (ap (λ xs. n % 256 ∷ xs) (bytes-read w (n / 256)))
+
+-- numbers with the same bytes have successors with the same bytes
+bytes-next : (w x m : ℕ) → bytesOf w x ≡ bytesOf w m → bytesOf w (x + 1) ≡ bytesOf w (m + 1)
+unfolding bytesOf
+bytes-next zero x m e = refl
+bytes-next (suc w) x m e = go (decLt (x % 256) 255) (bytes-next w (x / 256) (m / 256))
+  where
+    low : x % 256 ≡ m % 256
+    low = cc
+
+    high : bytesOf w (x / 256) ≡ bytesOf w (m / 256)
+    high = cc
+
+    go : Dec (x % 256 < 255) → (bytesOf w (x / 256) ≡ bytesOf w (m / 256) → bytesOf w (x / 256 + 1) ≡ bytesOf w (m / 256 + 1)) →
+        bytesOf (suc w) (x + 1) ≡ bytesOf (suc w) (m + 1)
+    go (yes h) i =
+        let a : (x + 1) % 256 ≡ (m + 1) % 256 = omega (arith, low) in
+        let b : (x + 1) / 256 ≡ x / 256 = omega arith in
+        let c : (m + 1) / 256 ≡ m / 256 = omega (arith, low) in
+        rw (a, b, c) (ap (λ xs. (m + 1) % 256 ∷ xs) high)
+    go (no h) i =
+        let a : (x + 1) % 256 ≡ (m + 1) % 256 = omega (arith, low) in
+        let b : (x + 1) / 256 ≡ x / 256 + 1 = omega arith in
+        let c : (m + 1) / 256 ≡ m / 256 + 1 = omega (arith, low) in
+        rw (a, b, c) (ap (λ xs. (m + 1) % 256 ∷ xs) (i high))
+
+count-bytes : (x y m : ℕ) → x ≡ numberOf (bytesOf 8 m) → y ≡ (x + 1) % 2 ^ 64 → bytesOf 8 y ≡ bytesOf 8 (m + 1)
+count-bytes x y m e f =
+    let k = (x + 1) / 2 ^ 64 in
+    let z : y + 256 ^ 8 * k ≡ x + 1 = omega arith in
+    sym (bytes-past 8 y k) ∙ ap (bytesOf 8) z ∙ bytes-next 8 x m (ap (bytesOf 8) e ∙ bytes-read 8 m)
+
+count-read : (l : Label) (span count : ℕ) (q : List ℕ) → numberAt 8 (header l span count ++ q) 8 ≡ numberOf (bytesOf 8 count)
+unfolding numberAt header bytesOf
+count-read l span count q = refl
+
+count-written : (l : Label) (span count n : ℕ) (q : List ℕ) → sets (header l span count ++ q) 8 (bytesOf 8 n) ≡ header l span n ++ q
+unfolding header bytesOf
+count-written l span count n q = refl
+
+-- one more in the count of a header, by what is read and stored
+pub counted-one : (b c : List ℕ) (x y : ℕ) (l : Label) (span count : ℕ) (q : List ℕ) → x ≡ numberAt 8 b 8 → y ≡ (x + 1) % 2 ^ 64 → c ≡ sets b 8 (bytesOf 8 y) →
+    b ≡ header l span count ++ q → c ≡ header l span (count + 1) ++ q
+counted-one b c x y l span count q ex ey ec e =
+    ec ∙ ap (λ t. sets t 8 (bytesOf 8 y)) e
+    ∙ ap (sets (header l span count ++ q) 8) (count-bytes x y count (ex ∙ ap (λ t. numberAt 8 t 8) e ∙ count-read l span count q) ey)
+    ∙ count-written l span count (count + 1) q
+
+kind-bytes : (kind : ℕ) → kind < 256 → bytesOf 2 kind ≡ kind ∷ 0 ∷ []
+unfolding bytesOf
+kind-bytes kind h =
+    let low : kind % 256 ≡ kind = omega arith in
+    let high : kind / 256 % 256 ≡ 0 = omega arith in
+    rw (low, high)
+
+stored-header : (g : List ℕ) (l : Label) → 16 ≤ length g →
+    sets (sets (sets (sets g 0 (l .kind ∷ 0 ∷ [])) 2 (bytesOf 2 (l .key))) 4 (bytesOf 4 1)) 8 (bytesOf 8 1) ≡ header l 1 1 ++ drop 16 g
+unfolding header bytesOf
+stored-header g l h = sets-eq (header l 1 1) g 0 h
+
+-- a header stored over the first sixteen bytes
+pub header-stored : (g b₁ b₂ b₃ b₄ x : List ℕ) (l : Label) (kind key : ℕ) → kind < 256 → l .kind ≡ kind → l .key ≡ key → 16 ≤ length g → drop 16 g ≡ x →
+    b₁ ≡ sets g 0 (bytesOf 2 kind) → b₂ ≡ sets b₁ 2 (bytesOf 2 key) → b₃ ≡ sets b₂ 4 (bytesOf 4 1) → b₄ ≡ sets b₃ 8 (bytesOf 8 1) → b₄ ≡ header l 1 1 ++ x
+header-stored g b₁ b₂ b₃ b₄ x l kind key small ek ey h e e₁ e₂ e₃ e₄ =
+    e₄ ∙ ap (λ t. sets t 8 (bytesOf 8 1)) (e₃ ∙ ap (λ t. sets t 4 (bytesOf 4 1)) (e₂ ∙ ap (λ t. sets t 2 (bytesOf 2 key)) (e₁ ∙ ap (sets g 0) (kind-bytes kind small))))
+    ∙ rw (← ek, ← ey) (stored-header g l h) ∙ ap (λ t. header l 1 1 ++ t) e
