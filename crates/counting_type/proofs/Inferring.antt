@@ -1,3 +1,8 @@
 -- The laws behind inference in place.
 pub mod Stores
 pub mod Gap
+pub mod Part
+pub mod KeyBytes
+pub mod Arrival
+pub mod Runs
+pub mod Listing

@@ -10,6 +10,7 @@ pub mod Meaning
 pub mod WellFormed
 pub mod Checker
 pub mod Merging
+pub mod Inferring
 pub mod Answers
 pub mod Outcomes
 pub mod Ways

@@ -4,6 +4,7 @@ mod checker;
 mod clearing;
 mod merging;
 mod store;
+mod key_list;
 mod type_record;
 
 use checker::well_formed;

@@ -1,7 +1,7 @@
 // The lower library: judges value tables.
 mod faults;
 pub mod little_endian;
-mod record;
+pub mod record;
 mod walk;
 
 ghost use mathlib.Core.Path.{_≡_};
