@@ -36,11 +36,11 @@ module _ {b : List ℕ} {end : ℕ} where
   chain-keys zero l (next {p = p} m s h) = absurd (omega arith)
   chain-keys (suc k) l (next {p = p} m s h) = rw (lt-ltb p end m, keysFrom) (ap (λ xs. typeKey b p ∷ xs) (chain-keys k (omega (arith, chain-le h)) h))
 
-  chain-field : {p : ℕ} {ks : List ℕ} → (p ≡ end → ⊥) → FieldChain b end p ks → Field b end p ks
+  pub chain-field : {p : ℕ} {ks : List ℕ} → (p ≡ end → ⊥) → FieldChain b end p ks → Field b end p ks
   chain-field n done = absurd (n refl)
   chain-field n (next {ks = ks} l s h) = record { keys = ks; head = refl; some = s; upto = chain-le h; chain = h }
 
-  chain-done : {p : ℕ} {ks : List ℕ} → p ≡ end → FieldChain b end p ks → ks ≡ []
+  pub chain-done : {p : ℕ} {ks : List ℕ} → p ≡ end → FieldChain b end p ks → ks ≡ []
   chain-done e done = refl
   chain-done e (next l s h) = absurd (omega arith)
 

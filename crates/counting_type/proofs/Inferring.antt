@@ -6,3 +6,7 @@ pub mod KeyBytes
 pub mod Arrival
 pub mod Runs
 pub mod Listing
+pub mod Compare
+pub mod Nodes
+pub mod Append
+pub mod Seeking

@@ -2,17 +2,24 @@
 -- the siblings that an arena holds.
 use mathlib.Core.Path.{_≡_}
 use mathlib.Core.Bool.{Bool, true, cond}
-use mathlib.Core.List.{List, [], _∷_}
-use Prim.Native.Nat.{ℕ, zero, suc, _*_, _≤_, _<_}
+use mathlib.Core.List.{List, [], _∷_, _++_}
+use Prim.Native.Nat.{ℕ, zero, suc, _+_, _*_, _≤_, _<_, Ordering, Ordering·lt as lt, Ordering·eq as eq, Ordering·gt as gt}
 use lib.Dec.{ltb}
 use lib.ListN.{length, take, drop}
 use Rattle.value_table.specs.Number.{numberOf}
-use Rattle.value_table.specs.Value.{maxLength, Values, keys, ValidAt}
+use Rattle.value_table.specs.Value.{maxLength, recordKind, Values, keys, ValidAt}
 use Rattle.value_table.specs.Value as table
 use Rattle.counting_type.specs.declared.key_list.Listed.{Listed}
 use Rattle.counting_type.specs.declared.key_list.Listed.the-variants.{Keys, TooMany}
+use Rattle.counting_type.specs.declared.search.Compared.{Compared}
+use Rattle.counting_type.specs.declared.search.Compared.the-variants.{Less, Equal, Greater}
+use Rattle.counting_type.specs.declared.search.Found.{Found}
+use Rattle.counting_type.specs.declared.search.Found.the-variants.{Here, Missing}
+use Rattle.counting_type.specs.Trie.{nil, node, append, size, Sorted}
+use Rattle.counting_type.specs.Label.{Equivalence, Label, labelOf, compareLabel, Counting, CountingType}
 use Rattle.counting_type.specs.Raw.{ascending}
-use Rattle.counting_type.specs.Encoding.{typeSize}
+use Rattle.counting_type.specs.Encoding.{typeSize, typeKind, encode, Tagged}
+use Rattle.counting_type.specs.Checker.{InTable, FieldsInside}
 
 -- the first n keys of a key list in bytes, two bytes a key
 unfoldable pub keysOf : ℕ → List ℕ → List ℕ
@@ -51,3 +58,86 @@ pub record SomeRun (field : Bool) (t : List ℕ) : Type 0 where
 abbrev pub ListedIn : Values → Listed → List ℕ → Type 0
 ListedIn vs (Keys n) w = (keysOf n w ≡ ascending (keys vs)) × (typeSize * n ≤ length w)
 ListedIn vs TooMany w = length w < typeSize * length (keys vs)
+
+abbrev pub comparedOf : Ordering → Compared
+comparedOf lt = Less
+comparedOf eq = Equal
+comparedOf gt = Greater
+
+-- the record at p of b can be compared with a label whose key list is the first n keys of w
+pub record Comparable (b : List ℕ) (p : ℕ) (w : List ℕ) (n : ℕ) : Type 0 where
+  pub here : InTable b p
+  pub fields : typeKind b p ≡ recordKind → FieldsInside b p
+  pub listed : 2 * n ≤ length w
+
+-- the label of a kind and a key, with the first n keys of w as its key list
+abbrev pub wanted : Equivalence → ℕ → ℕ → ℕ → List ℕ → Label
+wanted e kind key n w = labelOf e kind key (keysOf n w)
+
+-- where the label l stands, or would, among siblings, in records from `at`
+unfoldable pub spotHere : Ordering → ℕ → Found → Found
+spotHere lt at later = Missing at
+spotHere eq at later = Here at
+spotHere gt at later = later
+
+unfoldable pub spot : Label → ℕ → CountingType → Found
+spot l at nil = Missing at
+spot l at (node k count c s) = spotHere (compareLabel l k) at (spot l (at + (1 + size c)) s)
+
+-- each key fits its bytes
+abbrev pub Keyed : CountingType → Type 0
+Keyed nil = Unit {0}
+Keyed (node l count c s) = (l .key < 65536) × Keyed c × Keyed s
+
+-- f is a union or, where `field` is true, a record's run of fields, as inference makes them
+pub record Siblings (e : Equivalence) (field : Bool) (f : CountingType) : Type 0 where
+  pub tagged : Tagged e field f
+  pub sorted : Sorted Counting f
+  pub keyed : Keyed f
+
+-- the arena a is the siblings f, of n records, then q, the `rest` records that are in use behind them, then what is free
+pub record Holds (e : Equivalence) (field : Bool) (a : List ℕ) (n rest : ℕ) (f : CountingType) (q free : List ℕ) : Type 0 where
+  pub bytes : a ≡ encode f ++ (q ++ free)
+  pub count : n ≡ size f
+  pub used : length q ≡ typeSize * rest
+  pub short : length a ≤ maxLength
+  pub siblings : Siblings e field f
+
+-- a sibling of f, or the end, is at record `from`
+pub record Starts (from : ℕ) (f : CountingType) : Type 0 where
+  pub first : CountingType
+  pub last : CountingType
+  pub whole : f ≡ append first last
+  pub count : from ≡ size first
+
+-- every sibling before the label l
+abbrev pub AllBefore : Label → CountingType → Type 0
+AllBefore l nil = Unit {0}
+AllBefore l (node k count c s) = (compareLabel l k ≡ gt) × AllBefore l s
+
+-- a search for l among f may begin at record `from`
+pub record Leads (from : ℕ) (l : Label) (f : CountingType) : Type 0 where
+  pub first : CountingType
+  pub last : CountingType
+  pub whole : f ≡ append first last
+  pub count : from ≡ size first
+  pub before : AllBefore l first
+
+-- the same of some siblings: to be searched from where one of them starts, or for a label, or to be added to
+pub record Shown (e : Equivalence) (a : List ℕ) (n from : ℕ) : Type 0 where
+  pub field : Bool
+  pub rest : ℕ
+  pub f : CountingType
+  pub q : List ℕ
+  pub free : List ℕ
+  pub holds : Holds e field a n rest f q free
+  pub starts : Starts from f
+
+pub record ShownFor (e : Equivalence) (a : List ℕ) (n from : ℕ) (l : Label) : Type 0 where
+  pub field : Bool
+  pub rest : ℕ
+  pub f : CountingType
+  pub q : List ℕ
+  pub free : List ℕ
+  pub holds : Holds e field a n rest f q free
+  pub leads : Leads from l f

@@ -5,6 +5,7 @@ mod clearing;
 mod merging;
 mod store;
 mod key_list;
+mod search;
 mod type_record;
 
 use checker::well_formed;

@@ -42,12 +42,17 @@ fields b i =
       rest-is = rw (e, drop-drop);
     }
 
+-- of a count that may be too large, what its bytes tell
+pub header-fields : (b : List ℕ) (i : ℕ) (l : Label) (span count : ℕ) (rest : List ℕ) → l .key < 65536 → span < 2 ^ 32 →
+    drop (typeSize * i) b ≡ header l span count ++ rest → Fields b i (l .kind) 0 (l .key) span (numberOf (bytesOf 8 count)) rest
+unfolding header bytesOf
+header-fields b i l span count rest hk hs e =
+    let f : Fields b i (l .kind) 0 (numberOf (bytesOf 2 (l .key))) (numberOf (bytesOf 4 span)) (numberOf (bytesOf 8 count)) rest = rw e at (fields b i) in
+    rw (numberOf-bytesOf 2 (l .key) hk, numberOf-bytesOf 4 span hs) at f
+
 pub header-read : (b : List ℕ) (i : ℕ) (l : Label) (span count : ℕ) (rest : List ℕ) → l .key < 65536 → span < 2 ^ 32 → count < 2 ^ 64 →
     drop (typeSize * i) b ≡ header l span count ++ rest → Fields b i (l .kind) 0 (l .key) span count rest
-unfolding header bytesOf
-header-read b i l span count rest hk hs hc e =
-    let f : Fields b i (l .kind) 0 (numberOf (bytesOf 2 (l .key))) (numberOf (bytesOf 4 span)) (numberOf (bytesOf 8 count)) rest = rw e at (fields b i) in
-    rw (numberOf-bytesOf 2 (l .key) hk, numberOf-bytesOf 4 span hs, numberOf-bytesOf 8 count hc) at f
+header-read b i l span count rest hk hs hc e = rw (numberOf-bytesOf 8 count hc) at (header-fields b i l span count rest hk hs e)
 
 module _ (b : List ℕ) (i : ℕ) (bytes : Bytes b) (fits : typeSize * (i + 1) ≤ length b) where
   pub typeKey-below : typeKey b i < 65536
