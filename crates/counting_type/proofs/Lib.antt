@@ -18,3 +18,4 @@ pub mod Fronts
 pub mod Ways
 pub mod Trials
 pub mod Inferring
+pub mod InPlace

@@ -4,10 +4,10 @@ use mathlib.Core.Path.{_≡_}
 use mathlib.Core.Bool.{Bool, true, cond}
 use mathlib.Core.List.{List, [], _∷_, _++_}
 use Prim.Native.Nat.{ℕ, zero, suc, _+_, _*_, _≤_, _<_, Ordering, Ordering·lt as lt, Ordering·eq as eq, Ordering·gt as gt}
-use lib.Dec.{ltb}
+use lib.Dec.{eqb, ltb}
 use lib.ListN.{length, take, drop}
 use Rattle.value_table.specs.Number.{numberOf}
-use Rattle.value_table.specs.Value.{maxLength, recordKind, Values, keys, ValidAt}
+use Rattle.value_table.specs.Value.{maxLength, recordKind, Values, keys, Distinct, ValidAt}
 use Rattle.value_table.specs.Value as table
 use Rattle.counting_type.specs.declared.key_list.Listed.{Listed}
 use Rattle.counting_type.specs.declared.key_list.Listed.the-variants.{Keys, TooMany}
@@ -15,10 +15,15 @@ use Rattle.counting_type.specs.declared.search.Compared.{Compared}
 use Rattle.counting_type.specs.declared.search.Compared.the-variants.{Less, Equal, Greater}
 use Rattle.counting_type.specs.declared.search.Found.{Found}
 use Rattle.counting_type.specs.declared.search.Found.the-variants.{Here, Missing}
-use Rattle.counting_type.specs.Trie.{nil, node, append, size, Sorted}
-use Rattle.counting_type.specs.Label.{Equivalence, Label, labelOf, compareLabel, Counting, CountingType}
-use Rattle.counting_type.specs.Raw.{ascending}
-use Rattle.counting_type.specs.Encoding.{typeSize, typeKind, encode, Tagged}
+use Rattle.counting_type.specs.declared.inferring.Put.{Put}
+use Rattle.counting_type.specs.declared.inferring.Put.the-variants.{NoRoom, At}
+use Rattle.counting_type.specs.declared.inferring.Inferred.{Inferred}
+use Rattle.counting_type.specs.declared.inferring.Inferred.the-variants.{Records, Full}
+use Rattle.counting_type.specs.declared.inferring.Item.{Item}
+use Rattle.counting_type.specs.Trie.{nil, node, append, size, insert, add, Sorted}
+use Rattle.counting_type.specs.Label.{Equivalence, Label, fieldKind, listed, labelOf, compareLabel, Counting, CountingType}
+use Rattle.counting_type.specs.Raw.{ascending, raw}
+use Rattle.counting_type.specs.Encoding.{typeSize, typeKind, header, encode, Tagged}
 use Rattle.counting_type.specs.Checker.{InTable, FieldsInside}
 
 -- the first n keys of a key list in bytes, two bytes a key
@@ -49,6 +54,7 @@ pub record TableRun (field : Bool) (t : List ℕ) (vs : Values) : Type 0 where
   pub depth : ℕ
   pub valid : ValidAt asFields depth vs
   pub fields : field ≡ true → asFields ≡ true
+  pub distinct : field ≡ true → Distinct (keys vs)
 
 pub record SomeRun (field : Bool) (t : List ℕ) : Type 0 where
   pub values : Values
@@ -141,3 +147,84 @@ pub record ShownFor (e : Equivalence) (a : List ℕ) (n from : ℕ) (l : Label) 
   pub free : List ℕ
   pub holds : Holds e field a n rest f q free
   pub leads : Leads from l f
+
+-- the same with the records in use behind them: to be added to from where one of them starts, or from the first
+pub record HeldFrom (e : Equivalence) (a : List ℕ) (n rest from : ℕ) : Type 0 where
+  pub field : Bool
+  pub f : CountingType
+  pub q : List ℕ
+  pub free : List ℕ
+  pub holds : Holds e field a n rest f q free
+  pub starts : Starts from f
+
+pub record HeldRun (e : Equivalence) (field : Bool) (a : List ℕ) (n rest : ℕ) : Type 0 where
+  pub f : CountingType
+  pub q : List ℕ
+  pub free : List ℕ
+  pub holds : Holds e field a n rest f q free
+
+-- the siblings around the label l: those before it, its count, its children, and those after it
+pub record Split : Type 0 where
+  pub before : CountingType
+  pub count : ℕ
+  pub content : CountingType
+  pub after : CountingType
+
+unfoldable pub splitHere : Ordering → Label → ℕ → CountingType → CountingType → Split → Split
+splitHere lt k count c s later = record { before = nil; count = 0; content = nil; after = node k count c s }
+splitHere eq k count c s later = record { before = nil; count = count; content = c; after = s }
+splitHere gt k count c s later = record { before = node k count c (later .before); count = later .count; content = later .content; after = later .after }
+
+unfoldable pub split : Label → CountingType → Split
+split l nil = record { before = nil; count = 0; content = nil; after = nil }
+split l (node k count c s) = splitHere (compareLabel l k) k count c s (split l s)
+
+-- one more is counted at l, in record p of the n records of siblings in b
+pub record Counted (x : Split) (l : Label) (q : List ℕ) (p n : ℕ) (b : List ℕ) : Type 0 where
+  pub place : p ≡ size (x .before)
+  pub count : n ≡ size (x .before) + (1 + (size (x .content) + size (x .after)))
+  pub free : List ℕ
+  pub bytes : b ≡ encode (x .before) ++ (header l (1 + size (x .content)) (x .count + 1) ++ (encode (x .content) ++ (encode (x .after) ++ (q ++ free))))
+
+abbrev pub Placed : Split → Label → List ℕ → ℕ → Put → List ℕ → Type 0
+Placed x l q rest NoRoom b = length b < typeSize * (size (x .before) + (1 + (size (x .content) + size (x .after))) + rest)
+Placed x l q rest (At p n) b = Counted x l q p n b
+
+-- the siblings g are there, or there is too little room for them
+pub record Grown (g : CountingType) (q : List ℕ) (n : ℕ) (b : List ℕ) : Type 0 where
+  pub count : n ≡ size g
+  pub free : List ℕ
+  pub bytes : b ≡ encode g ++ (q ++ free)
+
+abbrev pub Located : CountingType → Split → Label → List ℕ → ℕ → Put → List ℕ → Type 0
+Located g x l q rest NoRoom b = length b < typeSize * (size g + rest)
+Located g x l q rest (At p n) b = Counted x l q p n b
+
+abbrev pub AddedAt : CountingType → ℕ → List ℕ → ℕ → Put → List ℕ → Type 0
+AddedAt g place q rest NoRoom b = length b < typeSize * (size g + rest)
+AddedAt g place q rest (At p n) b = Grown g q n b × (p ≡ place)
+
+abbrev pub Added : CountingType → List ℕ → ℕ → Inferred → List ℕ → Type 0
+Added g q rest Full b = length b < typeSize * (size g + rest)
+Added g q rest (Records n) b = Grown g q n b
+
+-- the label of an item with the values vs below it: the class of a value with this content, or a field
+abbrev pub labelFor : Equivalence → ℕ → ℕ → Values → Label
+labelFor e kind key vs = labelOf e kind key (ascending (keys vs))
+
+-- the siblings f with that item added
+abbrev pub withItem : Equivalence → ℕ → ℕ → Values → CountingType → CountingType
+withItem e kind key vs f = insert Counting (labelFor e kind key vs) 1 (add Counting (raw e (eqb kind recordKind) vs)) f
+
+-- the key list that the label asks for is in w; or the record has more fields than w has room for type records
+abbrev pub LabelListed : Equivalence → ℕ → Values → Listed → List ℕ → Type 0
+LabelListed e kind vs (Keys n) w = (listed e kind (keysOf n w) ≡ listed e kind (ascending (keys vs))) × (2 * n ≤ length w)
+LabelListed e kind vs TooMany w = (kind ≡ recordKind) × (length w < typeSize * length (keys vs))
+
+-- What stands at record i of a run: the kind and key of its label, the byte from which what is below it is read, and the record behind
+-- it. A field's value is read as a run of its own.
+pub record ItemAt (field : Bool) (t : List ℕ) (i : ℕ) (x : Item) : Type 0 where
+  pub kind-is : x .kind ≡ cond field fieldKind (table.kindAt t i)
+  pub key-is : x .key ≡ cond field (table.keyAt t i) 0
+  pub start-is : x .start ≡ cond field (table.recordSize * i) (table.recordSize * (i + 1))
+  pub next-is : x .next ≡ i + table.spanAt t i

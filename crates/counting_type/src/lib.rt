@@ -4,6 +4,7 @@ mod checker;
 mod clearing;
 mod merging;
 mod store;
+mod inferring;
 mod key_list;
 mod search;
 mod type_record;

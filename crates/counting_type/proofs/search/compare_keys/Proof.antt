@@ -3,7 +3,7 @@ use Prim.Native.Nat.{_+_, _-_}
 use native.Mathlib.Omega.{arith}
 use borrow.Author.Needs.{needs}
 use Rattle.counting_type.specs.Checker.{keysIn}
-use Rattle.counting_type.proofs.Inferring.Compare.{KeysLeft, keys-start, keys-equal, keys-shorter, keys-longer, keys-field, keys-less, keys-greater, keys-next}
+use Rattle.counting_type.proofs.InPlace.Compare.{KeysLeft, keys-start, keys-equal, keys-shorter, keys-longer, keys-field, keys-less, keys-greater, keys-next}
 use Rattle.counting_type.proofs.Chain.{chain-le}
 use Rattle.counting_type.proofs.search.compare_keys.Statement.{statement}
 use Rattle.counting_type.proofs.search.compare_keys.Tie as tie

@@ -2,7 +2,7 @@
 use native.Mathlib.Omega.{arith}
 use borrow.Author.Tests.{not-true, not-false}
 use borrow.Author.Needs.{needs}
-use Rattle.counting_type.proofs.Inferring.Compare.{kind-less, kind-greater, key-less, key-greater, label-unlisted, label-no-record, label-listed}
+use Rattle.counting_type.proofs.InPlace.Compare.{kind-less, kind-greater, key-less, key-greater, label-unlisted, label-no-record, label-listed}
 use Rattle.counting_type.proofs.search.compare_label.Statement.{statement}
 use Rattle.counting_type.proofs.search.compare_label.Tie as tie
 

@@ -1,7 +1,7 @@
 -- `search_start` meets its contract.
 use mathlib.Core.Path.{sym, _∙_}
 use borrow.Author.Needs.{needs}
-use Rattle.counting_type.proofs.Inferring.Seeking.{leads-start, starts-comparable, starts-leads, equal-not-less, greater-not-less}
+use Rattle.counting_type.proofs.InPlace.Seeking.{leads-start, starts-comparable, starts-leads, equal-not-less, greater-not-less}
 use Rattle.counting_type.proofs.search.search_start.Statement.{statement}
 use Rattle.counting_type.proofs.search.search_start.Tie as tie
 

@@ -1,6 +1,6 @@
 -- `count_one` meets its contract.
 use borrow.Author.Needs.{needs}
-use Rattle.counting_type.proofs.Inferring.Stores.{counted-one}
+use Rattle.counting_type.proofs.InPlace.Stores.{counted-one}
 use Rattle.counting_type.proofs.type_store.count_one.Statement.{statement}
 use Rattle.counting_type.proofs.type_store.count_one.Tie as tie
 

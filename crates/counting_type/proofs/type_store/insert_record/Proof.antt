@@ -1,7 +1,7 @@
 -- `insert_record` meets its contract.
 use native.Mathlib.Omega.{arith}
 use borrow.Author.Needs.{needs}
-use Rattle.counting_type.proofs.Inferring.Stores.{header-stored}
+use Rattle.counting_type.proofs.InPlace.Stores.{header-stored}
 use Rattle.counting_type.proofs.type_store.insert_record.Statement.{statement}
 use Rattle.counting_type.proofs.type_store.insert_record.Tie as tie
 

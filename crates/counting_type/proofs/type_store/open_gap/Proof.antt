@@ -5,7 +5,7 @@ use native.Mathlib.Nat.{le-refl}
 use native.Mathlib.Omega.{arith}
 use lib.ListN.{length, length-set}
 use borrow.Author.Needs.{needs}
-use Rattle.counting_type.proofs.Inferring.Gap.{Moved, moved-start, moved-next, moved-end}
+use Rattle.counting_type.proofs.InPlace.Gap.{Moved, moved-start, moved-next, moved-end}
 use Rattle.counting_type.proofs.type_store.open_gap.Statement.{statement}
 use Rattle.counting_type.proofs.type_store.open_gap.Tie as tie
 

@@ -1,6 +1,6 @@
 -- `put32` meets its contract.
 use borrow.Author.Needs.{needs}
-use Rattle.counting_type.proofs.Inferring.Stores.{stored-4}
+use Rattle.counting_type.proofs.InPlace.Stores.{stored-4}
 use Rattle.counting_type.proofs.type_store.put32.Statement.{statement}
 use Rattle.counting_type.proofs.type_store.put32.Tie as tie
 

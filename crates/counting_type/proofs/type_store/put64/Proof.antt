@@ -1,6 +1,6 @@
 -- `put64` meets its contract.
 use borrow.Author.Needs.{needs}
-use Rattle.counting_type.proofs.Inferring.Stores.{stored-8}
+use Rattle.counting_type.proofs.InPlace.Stores.{stored-8}
 use Rattle.counting_type.proofs.type_store.put64.Statement.{statement}
 use Rattle.counting_type.proofs.type_store.put64.Tie as tie
 

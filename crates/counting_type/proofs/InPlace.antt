@@ -10,3 +10,7 @@ pub mod Compare
 pub mod Nodes
 pub mod Append
 pub mod Seeking
+pub mod Splits
+pub mod Placing
+pub mod Material
+pub mod Items

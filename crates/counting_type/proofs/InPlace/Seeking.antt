@@ -15,9 +15,9 @@ use Rattle.counting_type.specs.Encoding.{typeSize, typeSpan, encode}
 use Rattle.counting_type.specs.Checker.{labelAt, InTable, FieldsInside}
 use Rattle.counting_type.specs.Inferring.{comparedOf, Comparable, spotHere, spot, Siblings, Holds, Starts, AllBefore, Leads}
 use Rattle.counting_type.proofs.Encoding.Header.{length-encode}
-use Rattle.counting_type.proofs.Inferring.Part.{tail-drop}
-use Rattle.counting_type.proofs.Inferring.Nodes.{node-in, fields-in, table-in, label-in}
-use Rattle.counting_type.proofs.Inferring.Append.{encode-append, size-append, siblings-next, siblings-last, all-before}
+use Rattle.counting_type.proofs.InPlace.Part.{tail-drop}
+use Rattle.counting_type.proofs.InPlace.Nodes.{node-in, fields-in, table-in, label-in}
+use Rattle.counting_type.proofs.InPlace.Append.{encode-append, size-append, siblings-next, siblings-last, all-before}
 
 -- the siblings g from record `at` on, with what is said of them, and what a search among them gives
 pub record Seen (e : Equivalence) (a : List ℕ) (n : ℕ) (l : Label) (f : CountingType) (at : ℕ) : Type 0 where

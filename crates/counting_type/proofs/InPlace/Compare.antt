@@ -19,7 +19,7 @@ use Rattle.counting_type.specs.Checker.{under, keysIn, labelAt, FieldCha
 use Rattle.counting_type.specs.Inferring.{keysOf, comparedOf, wanted}
 use Rattle.counting_type.proofs.Order.{number-refl, less-compare, more-compare}
 use Rattle.counting_type.proofs.Chain.{Field, chain-field, chain-done, inside-keys}
-use Rattle.counting_type.proofs.Inferring.KeyBytes.{length-keys, keys-at}
+use Rattle.counting_type.proofs.InPlace.KeyBytes.{length-keys, keys-at}
 
 -- the first n keys of w compare with ys as what is left of both, from key i and record j on
 pub record KeysLeft (b : List ℕ) (end : ℕ) (w : List ℕ) (n : ℕ) (ys : List ℕ) (i j : ℕ) : Type 0 where
