@@ -14,3 +14,6 @@ pub mod Splits
 pub mod Placing
 pub mod Material
 pub mod Items
+pub mod Steps
+pub mod Turns
+pub mod Whole

@@ -17,7 +17,7 @@ use Rattle.counting_type.proofs.InPlace.Part.{tail-part, tail-put}
 use Rattle.counting_type.proofs.InPlace.Append.{encode-append, size-append}
 use Rattle.counting_type.proofs.InPlace.Splits.{HereAt, MissingAt}
 
-encode-node : (l : Label) (a : ℕ) (c s : CountingType) → encode (node l a c s) ≡ header l (1 + size c) a ++ (encode c ++ encode s)
+pub encode-node : (l : Label) (a : ℕ) (c s : CountingType) → encode (node l a c s) ≡ header l (1 + size c) a ++ (encode c ++ encode s)
 unfolding encode
 encode-node l a c s = refl
 
