@@ -16,8 +16,8 @@ use Rattle.counting_type.specs.declared.search.Compared.{Compared}
 use Rattle.counting_type.specs.declared.search.Compared.the-variants.{Less, Equal, Greater}
 use Rattle.counting_type.specs.declared.search.Found.{Found}
 use Rattle.counting_type.specs.declared.search.Found.the-variants.{Here, Missing}
-use Rattle.counting_type.specs.declared.inferring.Put.{Put}
-use Rattle.counting_type.specs.declared.inferring.Put.the-variants.{NoRoom, At}
+use Rattle.counting_type.specs.declared.placing.Put.{Put}
+use Rattle.counting_type.specs.declared.placing.Put.the-variants.{NoRoom, At}
 use Rattle.counting_type.specs.declared.inferring.Inferred.{Inferred}
 use Rattle.counting_type.specs.declared.inferring.Inferred.the-variants.{Records, Full}
 use Rattle.counting_type.specs.declared.inferring.Item.{Item}
@@ -117,20 +117,7 @@ pub record Starts (from : ℕ) (f : CountingType) : Type 0 where
   pub whole : f ≡ append first last
   pub count : from ≡ size first
 
--- every sibling before the label l
-abbrev pub AllBefore : Label → CountingType → Type 0
-AllBefore l nil = Unit {0}
-AllBefore l (node k count c s) = (compareLabel l k ≡ gt) × AllBefore l s
-
--- a search for l among f may begin at record `from`
-pub record Leads (from : ℕ) (l : Label) (f : CountingType) : Type 0 where
-  pub first : CountingType
-  pub last : CountingType
-  pub whole : f ≡ append first last
-  pub count : from ≡ size first
-  pub before : AllBefore l first
-
--- the same of some siblings: to be searched from where one of them starts, or for a label, or to be added to
+-- the same of some siblings, where one of them starts
 pub record Shown (e : Equivalence) (a : List ℕ) (n from : ℕ) : Type 0 where
   pub field : Bool
   pub rest : ℕ
@@ -139,15 +126,6 @@ pub record Shown (e : Equivalence) (a : List ℕ) (n from : ℕ) : Type 0 where
   pub free : List ℕ
   pub holds : Holds e field a n rest f q free
   pub starts : Starts from f
-
-pub record ShownFor (e : Equivalence) (a : List ℕ) (n from : ℕ) (l : Label) : Type 0 where
-  pub field : Bool
-  pub rest : ℕ
-  pub f : CountingType
-  pub q : List ℕ
-  pub free : List ℕ
-  pub holds : Holds e field a n rest f q free
-  pub leads : Leads from l f
 
 -- the same with the records in use behind them: to be added to from where one of them starts, or from the first
 pub record HeldFrom (e : Equivalence) (a : List ℕ) (n rest from : ℕ) : Type 0 where
@@ -187,19 +165,20 @@ pub record Counted (x : Split) (l : Label) (q : List ℕ) (p n : ℕ) (b : List 
   pub free : List ℕ
   pub bytes : b ≡ encode (x .before) ++ (header l (1 + size (x .content)) (x .count + 1) ++ (encode (x .content) ++ (encode (x .after) ++ (q ++ free))))
 
-abbrev pub Placed : Split → Label → List ℕ → ℕ → Put → List ℕ → Type 0
-Placed x l q rest NoRoom b = length b < typeSize * (size (x .before) + (1 + (size (x .content) + size (x .after))) + rest)
-Placed x l q rest (At p n) b = Counted x l q p n b
+-- that, or b has fewer than the records that are needed
+abbrev pub CountedWithin : ℕ → Split → Label → List ℕ → Put → List ℕ → Type 0
+CountedWithin needed x l q (At p n) b = Counted x l q p n b
+CountedWithin needed x l q NoRoom b = length b < typeSize * needed
+
+-- with `rest` records in use behind the siblings f, and none yet below the label
+abbrev pub PlacedAt : Label → CountingType → List ℕ → ℕ → Put → List ℕ → Type 0
+PlacedAt l f q rest r b = let x = split l f in CountedWithin (size (x .before) + (1 + (size (x .content) + size (x .after))) + rest) x l q r b
 
 -- the siblings g are there, or there is too little room for them
 pub record Grown (g : CountingType) (q : List ℕ) (n : ℕ) (b : List ℕ) : Type 0 where
   pub count : n ≡ size g
   pub free : List ℕ
   pub bytes : b ≡ encode g ++ (q ++ free)
-
-abbrev pub Located : CountingType → Split → Label → List ℕ → ℕ → Put → List ℕ → Type 0
-Located g x l q rest NoRoom b = length b < typeSize * (size g + rest)
-Located g x l q rest (At p n) b = Counted x l q p n b
 
 abbrev pub AddedAt : CountingType → ℕ → List ℕ → ℕ → Put → List ℕ → Type 0
 AddedAt g place q rest NoRoom b = length b < typeSize * (size g + rest)

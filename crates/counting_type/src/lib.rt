@@ -6,6 +6,7 @@ mod merging;
 mod store;
 mod inferring;
 mod key_list;
+mod placing;
 mod search;
 mod type_record;
 

@@ -5,14 +5,15 @@ use crate::type_record::kind_at;
 use crate::type_record::span_at;
 use value_table::little_endian::number16;
 ghost use mathlib.Core.Path.{_≡_};
-ghost use mathlib.Core.Bool.{Bool};
+ghost use mathlib.Core.Bool.{Bool, cond};
 ghost use mathlib.Core.List.{List};
 ghost use Prim.Native.Nat.{ℕ, _*_, _≤_, compare};
+ghost use lib.Dec.{ltb};
 ghost use lib.ListN.{length};
 ghost use Rattle.counting_type.specs.Order.{compareList};
 ghost use Rattle.counting_type.specs.Label.{compareLabel, CountingType};
 ghost use Rattle.counting_type.specs.Checker.{under, keysIn, labelAt, FieldsInside};
-ghost use Rattle.counting_type.specs.Inferring.{keysOf, comparedOf, Comparable, wanted, spot, Holds, Starts, Leads, Shown, ShownFor};
+ghost use Rattle.counting_type.specs.Inferring.{keysOf, comparedOf, Comparable, wanted, spot, Holds, Starts, Shown};
 
 // A label against that of a record.
 pub enum Compared {
@@ -95,32 +96,15 @@ fn compare_label(
     compare_keys(b, p, work, n)
 }
 
-// Where a search may begin: where the last one ended, unless the label comes before the sibling there.
-pub fn search_start(
-    b: &[u8],
-    from: usize,
-    n: usize,
-    kind: u8,
-    key: usize,
-    work: &[u8],
-    keys: usize,
-    label: bool,
-) -> usize
-    requires { ⌜ Shown (under label) (now b) n from × (2 * keys ≤ length (now work)) ⌝ }
-    ensures { λ r. ⌜ ((field : Bool) (rest : ℕ) (f : CountingType) (q free : List ℕ) → Holds (under label) field (now (b .entry)) n rest f q free → Starts from f →
-        Leads r (wanted (under label) kind key keys (now (work .entry))) f) ⌝ }
+// Where a search may begin that follows one which ended at `from`.
+fn search_start(from: usize, n: usize) -> usize
+    ensures { λ r. ⌜ r ≡ cond (ltb from n) from 0 ⌝ }
 {
-    if n <= from {
-        return 0;
-    }
-    match compare_label(b, from, kind, key, work, keys, label) {
-        Compared::Less => 0,
-        Compared::Equal => from,
-        Compared::Greater => from,
-    }
+    if from < n { from } else { 0 }
 }
 
-// Where the label stands among n records of siblings, or would.
+// Where the label stands among n records of siblings, or would. The search begins where the last one ended, at `from`, and starts again
+// if the label comes before the sibling there.
 pub fn search(
     b: &[u8],
     from: usize,
@@ -131,20 +115,26 @@ pub fn search(
     keys: usize,
     label: bool,
 ) -> Found
-    requires { ⌜ ShownFor (under label) (now b) n from (wanted (under label) kind key keys (now work)) × (2 * keys ≤ length (now work)) ⌝ }
-    ensures { λ r. ⌜ ((field : Bool) (rest : ℕ) (f : CountingType) (q free : List ℕ) → Holds (under label) field (now (b .entry)) n rest f q free →
-        Leads from (wanted (under label) kind key keys (now (work .entry))) f → r ≡ spot (wanted (under label) kind key keys (now (work .entry))) 0 f) ⌝ }
+    requires { ⌜ Shown (under label) (now b) n from × (2 * keys ≤ length (now work)) ⌝ }
+    ensures { λ r. ⌜ ((field : Bool) (rest : ℕ) (f : CountingType) (q free : List ℕ) → Holds (under label) field (now (b .entry)) n rest f q free → Starts from f →
+        r ≡ spot (wanted (under label) kind key keys (now (work .entry))) 0 f) ⌝ }
 {
-    let mut at = from;
+    let mut at = search_start(from, n);
+    let mut resumed = 0 < at;
     while at < n {
         match compare_label(b, at, kind, key, work, keys, label) {
             Compared::Less => {
-                return Found::Missing(at);
+                if !resumed {
+                    return Found::Missing(at);
+                }
+                resumed = false;
+                at = 0;
             }
             Compared::Equal => {
                 return Found::Here(at);
             }
             Compared::Greater => {
+                resumed = false;
                 at += span_at(b, at);
             }
         }

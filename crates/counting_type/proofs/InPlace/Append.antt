@@ -8,7 +8,7 @@ use Rattle.counting_type.specs.Order.{flip}
 use Rattle.counting_type.specs.Trie.{nil, node, append, size, Before, Sorted}
 use Rattle.counting_type.specs.Label.{Equivalence, Label, compareLabel, Counting, CountingType}
 use Rattle.counting_type.specs.Encoding.{encode}
-use Rattle.counting_type.specs.Inferring.{Siblings, AllBefore}
+use Rattle.counting_type.specs.Inferring.{Siblings}
 use Rattle.counting_type.proofs.Trie.Sorted.{before-trans}
 use Rattle.counting_type.proofs.Label.{label-order, counting-laws}
 use Rattle.counting_type.proofs.Tagged.Parts.{tagged-parts}
@@ -32,6 +32,11 @@ pub siblings-last : {e : Equivalence} {field : Bool} (f : CountingType) {g : Cou
 unfolding append
 siblings-last nil h = h
 siblings-last (node l a c s) h = siblings-last s (siblings-next h)
+
+-- every sibling before the label l
+abbrev pub AllBefore : Label → CountingType → Type 0
+AllBefore l nil = Unit {0}
+AllBefore l (node k count c s) = (compareLabel l k ≡ gt) × AllBefore l s
 
 -- a label before sorted siblings is before each of them
 before-later : (m : Label) (t : CountingType) (k : Label) (a : ℕ) (c s : CountingType) → Before Counting m (append t (node k a c s)) →

@@ -10,13 +10,13 @@ use borrow.Author.Tests.{eq-eqb, ne-eqb}
 use Rattle.value_table.specs.Value.{recordKind, Values, keys}
 use Rattle.counting_type.specs.declared.key_list.Listed.{Listed}
 use Rattle.counting_type.specs.declared.key_list.Listed.the-variants.{Keys, TooMany}
-use Rattle.counting_type.specs.declared.inferring.Put.{Put}
-use Rattle.counting_type.specs.declared.inferring.Put.the-variants.{NoRoom, At}
+use Rattle.counting_type.specs.declared.placing.Put.{Put}
+use Rattle.counting_type.specs.declared.placing.Put.the-variants.{NoRoom, At}
 use Rattle.counting_type.specs.Trie.{nil, node, size, insert, add, profile}
 use Rattle.counting_type.specs.Label.{Equivalence, byKind, byLabel, Label, listed, Counting, CountingType}
 use Rattle.counting_type.specs.Raw.{insertKey, ascending, raw}
 use Rattle.counting_type.specs.Encoding.{typeSize, siblingKeys}
-use Rattle.counting_type.specs.Inferring.{keysOf, ListedIn, LabelListed, wanted, labelFor, withItem, split, Siblings, TableRun, Placed, Located}
+use Rattle.counting_type.specs.Inferring.{keysOf, ListedIn, LabelListed, wanted, labelFor, withItem, split, Siblings, TableRun, PlacedAt, CountedWithin}
 use Rattle.counting_type.proofs.Label.{counting-laws}
 use Rattle.counting_type.proofs.Trie.Growth.{add-grows, profile-grows}
 use Rattle.counting_type.proofs.Tagged.Profile.{inferred}
@@ -50,13 +50,13 @@ module _ (e : Equivalence) (kind key : ℕ) (vs : Values) (f : CountingType) (q 
   abbrev l : Label
   l = labelFor e kind key vs
 
-  located-at : (r : Put) (b : List ℕ) → Placed (split l f) l q rest r b → Located (withItem e kind key vs f) (split l f) l q rest r b
+  located-at : (r : Put) (b : List ℕ) → PlacedAt l f q rest r b → CountedWithin (size (withItem e kind key vs f) + rest) (split l f) l q r b
   located-at NoRoom b h =
       let r = raw e (eqb kind recordKind) vs in
       omega (arith, insert-size l 1 (add Counting r) f, add-grows counting-laws r (split l f .content) .sizes)
   located-at (At p n) b h = h
 
-  pub located : (m : Label) → m ≡ l → (r : Put) (b : List ℕ) → Placed (split m f) m q rest r b → Located (withItem e kind key vs f) (split l f) l q rest r b
+  pub located : (m : Label) → m ≡ l → (r : Put) (b : List ℕ) → PlacedAt m f q rest r b → CountedWithin (size (withItem e kind key vs f) + rest) (split l f) l q r b
   located m z r b h = located-at r b (rw z at h)
 
 length-insert : (k : ℕ) (xs : List ℕ) → length (insertKey k xs) ≡ suc (length xs)

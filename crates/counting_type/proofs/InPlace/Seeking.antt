@@ -1,11 +1,14 @@
 -- The search for a label among siblings, one sibling after the other.
 use mathlib.Core.Path.{_≡_, refl, sym, _∙_, ap}
-use mathlib.Core.Bool.{Bool}
+use mathlib.Core.Bool.{Bool, true, false, cond, true≢false}
 use mathlib.Core.List.{List, _++_, append-assoc}
 use Prim.Native.Nat.{ℕ, _+_, _*_, _≤_, _<_, Ordering, Ordering·lt as lt, Ordering·eq as eq, Ordering·gt as gt}
 use native.Mathlib.Nat.{add-zero}
+use native.Mathlib.Decide.{decLt}
 use native.Mathlib.Omega.{arith}
+use lib.Dec.{ltb}
 use lib.ListN.{length, drop}
+use borrow.Author.Tests.{lt-ltb, le-ltb}
 use Rattle.value_table.specs.Value.{maxLength}
 use Rattle.counting_type.specs.declared.search.Compared.the-variants.{Less, Equal, Greater}
 use Rattle.counting_type.specs.declared.search.Found.the-variants.{Here, Missing}
@@ -13,21 +16,23 @@ use Rattle.counting_type.specs.Trie.{nil, node, append, size}
 use Rattle.counting_type.specs.Label.{Equivalence, Label, compareLabel, CountingType}
 use Rattle.counting_type.specs.Encoding.{typeSize, typeSpan, encode}
 use Rattle.counting_type.specs.Checker.{labelAt, InTable, FieldsInside}
-use Rattle.counting_type.specs.Inferring.{comparedOf, Comparable, spotHere, spot, Siblings, Holds, Starts, AllBefore, Leads}
+use Rattle.counting_type.specs.Inferring.{comparedOf, Comparable, spotHere, spot, Siblings, Holds, Starts}
 use Rattle.counting_type.proofs.Encoding.Header.{length-encode}
 use Rattle.counting_type.proofs.InPlace.Part.{tail-drop}
 use Rattle.counting_type.proofs.InPlace.Nodes.{node-in, fields-in, table-in, label-in}
-use Rattle.counting_type.proofs.InPlace.Append.{encode-append, size-append, siblings-next, siblings-last, all-before}
+use Rattle.counting_type.proofs.InPlace.Append.{encode-append, size-append, siblings-next, siblings-last, AllBefore, all-before}
 
--- the siblings g from record `at` on, with what is said of them, and what a search among them gives
-pub record Seen (e : Equivalence) (a : List ℕ) (n : ℕ) (l : Label) (f : CountingType) (at : ℕ) : Type 0 where
+-- The siblings g from record `at` on. A search among them gives what a search of all siblings f gives, unless it was resumed here and
+-- the label comes before the sibling here.
+pub record Seen (e : Equivalence) (a : List ℕ) (n : ℕ) (l : Label) (f : CountingType) (resumed : Bool) (at : ℕ) : Type 0 where
   pub field : Bool
   pub g : CountingType
   pub q : List ℕ
   pub bytes : drop (typeSize * at) a ≡ encode g ++ q
   pub count : at + size g ≡ n
   pub siblings : Siblings e field g
-  pub same : spot l at g ≡ spot l 0 f
+  pub within : resumed ≡ true → at < n
+  pub same : (resumed ≡ true → compareLabel l (labelAt e a at) ≡ lt → ⊥) → spot l at g ≡ spot l 0 f
 
 spot-skip : (l : Label) (at : ℕ) (f g : CountingType) → AllBefore l f → spot l at (append f g) ≡ spot l (at + size f) g
 unfolding spot spotHere append size
@@ -36,45 +41,72 @@ spot-skip l at (node k n c s) g b =
     let z : at + (1 + size c) + size s ≡ at + (1 + (size c + size s)) = omega arith in
     rw (b .0) (spot-skip l (at + (1 + size c)) s g (b .1) ∙ ap (λ i. spot l i g) z)
 
--- what is held behind the first siblings of f
-module _ {e : Equivalence} {field : Bool} {a : List ℕ} {n rest : ℕ} {f : CountingType} {q free : List ℕ} (h : Holds e field a n rest f q free)
-    (first last : CountingType) (whole : f ≡ append first last) (from : ℕ) (count : from ≡ size first) where
-  from-bytes : drop (typeSize * from) a ≡ encode last ++ (q ++ free)
-  from-bytes =
-      tail-drop a (encode first) (encode last ++ (q ++ free)) (typeSize * from)
-      (h .bytes ∙ ap (λ g. encode g ++ (q ++ free)) whole ∙ simp (encode-append, append-assoc)) (omega (arith, length-encode first))
+not-both : (o : Ordering) → o ≡ lt → (o ≡ eq → ⊥) × (o ≡ gt → ⊥)
+not-both o z = (λ e. let y : _≡_ {A = ℕ} 0 1 = cc in omega arith, λ e. let y : _≡_ {A = ℕ} 0 1 = cc in omega arith)
 
-  from-count : from + size last ≡ n
-  from-count = omega (arith, h .count, ap size whole, size-append first last)
+module _ {e : Equivalence} {field : Bool} {a : List ℕ} {n rest : ℕ} {f : CountingType} {q free : List ℕ} (h : Holds e field a n rest f q free) (l : Label) where
+  -- what is held behind the first siblings of f
+  module _ (first last : CountingType) (whole : f ≡ append first last) (from : ℕ) (count : from ≡ size first) where
+    from-bytes : drop (typeSize * from) a ≡ encode last ++ (q ++ free)
+    from-bytes =
+        tail-drop a (encode first) (encode last ++ (q ++ free)) (typeSize * from)
+        (h .bytes ∙ ap (λ g. encode g ++ (q ++ free)) whole ∙ simp (encode-append, append-assoc)) (omega (arith, length-encode first))
 
-  from-siblings : Siblings e field last
-  from-siblings = siblings-last first (rw whole at (h .siblings))
+    from-count : from + size last ≡ n
+    from-count = omega (arith, h .count, ap size whole, size-append first last)
 
-  pub seen-from : (l : Label) → AllBefore l first → Seen e a n l f from
-  seen-from l b =
-      let z : 0 + size first ≡ from = omega arith in
-      record {
-        field = field;
-        g = last;
-        q = q ++ free;
-        bytes = from-bytes;
-        count = from-count;
-        siblings = from-siblings;
-        same = ap (λ i. spot l i last) (sym z) ∙ sym (spot-skip l 0 first last b) ∙ ap (spot l 0) (sym whole);
-      }
+    from-siblings : Siblings e field last
+    from-siblings = siblings-last first (rw whole at (h .siblings))
+
+    from-same : AllBefore l first → spot l from last ≡ spot l 0 f
+    from-same b =
+        let z : 0 + size first ≡ from = omega arith in
+        ap (λ i. spot l i last) (sym z) ∙ sym (spot-skip l 0 first last b) ∙ ap (spot l 0) (sym whole)
+
+    -- the label is behind the first siblings if it does not come before the next one
+    before-last : from < n → (compareLabel l (labelAt e a from) ≡ lt → ⊥) → (last : CountingType) → f ≡ append first last → drop (typeSize * from) a ≡ encode last ++ (q ++ free) →
+        from + size last ≡ n → Siblings e field last → AllBefore l first
+    unfolding size
+    before-last u m nil z b w i = absurd (omega arith)
+    before-last u m (node k c d t) z b w i =
+        let label = label-in a (h .short) e field from k c d t (q ++ free) (i .keyed) b (i .tagged) in
+        all-before l first k c d t (rw z at (h .siblings .sorted)) (λ y. m (rw label y))
+
+    seen-from : (resumed : Bool) → (resumed ≡ true → from < n) → (resumed ≡ false → AllBefore l first) → Seen e a n l f resumed from
+    seen-from resumed u b =
+        record { field = field; g = last; q = q ++ free; bytes = from-bytes; count = from-count; siblings = from-siblings; within = u; same = λ m. from-same (go resumed u b m) }
+      where
+        go : (o : Bool) → (o ≡ true → from < n) → (o ≡ false → AllBefore l first) → (o ≡ true → compareLabel l (labelAt e a from) ≡ lt → ⊥) → AllBefore l first
+        go true u b m = before-last (u refl) (m refl) last whole from-bytes from-count from-siblings
+        go false u b m = b refl
+
+  -- a search from the first sibling on
+  pub seen-start : Seen e a n l f false 0
+  unfolding append size
+  seen-start = seen-from nil f refl 0 refl false (λ z. absurd (true≢false (sym z))) (λ z. tt)
+
+  -- one that is resumed, where it can be
+  pub seen-resumed : {from : ℕ} → Starts from f → Seen e a n l f (ltb 0 (cond (ltb from n) from 0)) (cond (ltb from n) from 0)
+  seen-resumed {from} s = go (decLt from n) (decLt 0 from)
+    where
+      go : Dec (from < n) → Dec (0 < from) → Seen e a n l f (ltb 0 (cond (ltb from n) from 0)) (cond (ltb from n) from 0)
+      go (yes u) (yes v) = rw (lt-ltb from n u, lt-ltb 0 from v) (seen-from (s .first) (s .last) (s .whole) from (s .count) true (λ z. u) (λ z. absurd (true≢false z)))
+      go (yes u) (no v) = let z : from ≡ 0 = omega arith in rw (lt-ltb from n u, z) seen-start
+      go (no u) w = rw (le-ltb from n (omega arith)) seen-start
 
 -- a sibling where the search has come to
-pub record Stop (e : Equivalence) (a : List ℕ) (n : ℕ) (l : Label) (f : CountingType) (at : ℕ) : Type 0 where
+pub record Stop (e : Equivalence) (a : List ℕ) (n : ℕ) (l : Label) (f : CountingType) (resumed : Bool) (at : ℕ) : Type 0 where
   pub here : InTable a at
   pub fields : FieldsInside a at
   pub some : 1 ≤ typeSpan a at
   pub upto : at + typeSpan a at ≤ n
   pub equal : compareLabel l (labelAt e a at) ≡ eq → Here at ≡ spot l 0 f
-  pub less : compareLabel l (labelAt e a at) ≡ lt → Missing at ≡ spot l 0 f
-  pub greater : compareLabel l (labelAt e a at) ≡ gt → Seen e a n l f (at + typeSpan a at)
+  pub less : compareLabel l (labelAt e a at) ≡ lt → resumed ≡ false → Missing at ≡ spot l 0 f
+  pub greater : compareLabel l (labelAt e a at) ≡ gt → Seen e a n l f false (at + typeSpan a at)
 
-module _ {e : Equivalence} {a : List ℕ} {n : ℕ} {l : Label} {f : CountingType} {at : ℕ} (short : length a ≤ maxLength) (x : Seen e a n l f at) where
-  stop-at : at < n → (g : CountingType) → drop (typeSize * at) a ≡ encode g ++ x .q → at + size g ≡ n → Siblings e (x .field) g → spot l at g ≡ spot l 0 f → Stop e a n l f at
+module _ {e : Equivalence} {a : List ℕ} {n : ℕ} {l : Label} {f : CountingType} {resumed : Bool} {at : ℕ} (short : length a ≤ maxLength) (x : Seen e a n l f resumed at) where
+  stop-at : at < n → (g : CountingType) → drop (typeSize * at) a ≡ encode g ++ x .q → at + size g ≡ n → Siblings e (x .field) g →
+      ((resumed ≡ true → compareLabel l (labelAt e a at) ≡ lt → ⊥) → spot l at g ≡ spot l 0 f) → Stop e a n l f resumed at
   unfolding size spot spotHere
   stop-at u nil h z s m = absurd (omega arith)
   stop-at u (node k c d t) h z s m =
@@ -85,8 +117,8 @@ module _ {e : Equivalence} {a : List ℕ} {n : ℕ} {l : Label} {f : CountingTyp
         fields = fields-in a short e (x .field) at k c d t (x .q) (s .keyed) h;
         some = omega (arith, y .span-is);
         upto = omega (arith, y .span-is);
-        equal = λ w. rw (rw label at w) at m;
-        less = λ w. rw (rw label at w) at m;
+        equal = λ w. rw (rw label at w) at (m (λ r v. not-both _ v .0 w));
+        less = λ w r. rw (rw label at w) at (m (λ v. absurd (true≢false (sym v ∙ r))));
         greater = λ w. record {
           field = x .field;
           g = t;
@@ -94,11 +126,12 @@ module _ {e : Equivalence} {a : List ℕ} {n : ℕ} {l : Label} {f : CountingTyp
           bytes = y .in-next;
           count = omega (arith, y .span-is);
           siblings = siblings-next s;
-          same = rw (y .span-is) (rw (rw label at w) at m);
+          within = λ v. absurd (true≢false (sym v));
+          same = λ v. rw (y .span-is) (rw (rw label at w) at (m (λ r i. not-both _ i .1 w)));
         };
       }
 
-  pub stop : at < n → Stop e a n l f at
+  pub stop : at < n → Stop e a n l f resumed at
   stop u = stop-at u (x .g) (x .bytes) (x .count) (x .siblings) (x .same)
 
   end-at : n ≤ at → (g : CountingType) → at + size g ≡ n → spot l at g ≡ spot l 0 f → Missing at ≡ spot l 0 f
@@ -107,9 +140,10 @@ module _ {e : Equivalence} {a : List ℕ} {n : ℕ} {l : Label} {f : CountingTyp
   end-at u (node k c d t) z m = absurd (omega arith)
 
   pub seen-end : n ≤ at → Missing at ≡ spot l 0 f
-  seen-end u = end-at u (x .g) (x .count) (x .same)
+  seen-end u = end-at u (x .g) (x .count) (x .same (λ r. absurd (omega (arith, x .within r))))
 
-pub stop-comparable : {e : Equivalence} {a : List ℕ} {n : ℕ} {l : Label} {f : CountingType} {at : ℕ} → Stop e a n l f at → (w : List ℕ) (keys : ℕ) → 2 * keys ≤ length w → Comparable a at w keys
+pub stop-comparable : {e : Equivalence} {a : List ℕ} {n : ℕ} {l : Label} {f : CountingType} {resumed : Bool} {at : ℕ} → Stop e a n l f resumed at →
+    (w : List ℕ) (keys : ℕ) → 2 * keys ≤ length w → Comparable a at w keys
 stop-comparable s w keys h = record { here = s .here; fields = λ z. s .fields; listed = h }
 
 -- the three answers of a comparison
@@ -127,49 +161,3 @@ pub compared-greater : (o : Ordering) → Greater ≡ comparedOf o → o ≡ gt
 compared-greater lt e = cc
 compared-greater eq e = cc
 compared-greater gt e = refl
-
-pub equal-not-less : (o : Ordering) → Equal ≡ comparedOf o → o ≡ lt → ⊥
-equal-not-less o e z = let x = compared-equal o e in let y : _≡_ {A = ℕ} 0 1 = cc in omega arith
-
-pub greater-not-less : (o : Ordering) → Greater ≡ comparedOf o → o ≡ lt → ⊥
-greater-not-less o e z = let x = compared-greater o e in let y : _≡_ {A = ℕ} 0 1 = cc in omega arith
-
-pub leads-start : (l : Label) (f : CountingType) → Leads 0 l f
-unfolding append size
-leads-start l f = record { first = nil; last = f; whole = refl; count = refl; before = tt }
-
--- a search may begin at a sibling that the label does not come before
-module _ {e : Equivalence} {field : Bool} {a : List ℕ} {n rest : ℕ} {f : CountingType} {q free : List ℕ} (h : Holds e field a n rest f q free) {from : ℕ} (s : Starts from f)
-    (u : from < n) where
-  comparable-last : (last : CountingType) → f ≡ append (s .first) last → (w : List ℕ) (keys : ℕ) → 2 * keys ≤ length w → Comparable a from w keys
-  unfolding size
-  comparable-last nil z w keys l = absurd (omega (arith, from-count h (s .first) nil z from (s .count)))
-  comparable-last (node k c d t) z w keys l =
-      let b = from-bytes h (s .first) (node k c d t) z from (s .count) in
-      let i = from-siblings h (s .first) (node k c d t) z from (s .count) in
-      record {
-        here = table-in a (h .short) e field from k c d t (q ++ free) (i .keyed) b;
-        fields = λ y. fields-in a (h .short) e field from k c d t (q ++ free) (i .keyed) b;
-        listed = l;
-      }
-
-  pub starts-comparable : (w : List ℕ) (keys : ℕ) → 2 * keys ≤ length w → Comparable a from w keys
-  starts-comparable = comparable-last (s .last) (s .whole)
-
-  leads-last : (l : Label) → (compareLabel l (labelAt e a from) ≡ lt → ⊥) → (last : CountingType) → f ≡ append (s .first) last → Leads from l f
-  unfolding size
-  leads-last l m nil z = absurd (omega (arith, from-count h (s .first) nil z from (s .count)))
-  leads-last l m (node k c d t) z =
-      let b = from-bytes h (s .first) (node k c d t) z from (s .count) in
-      let i = from-siblings h (s .first) (node k c d t) z from (s .count) in
-      let label = label-in a (h .short) e field from k c d t (q ++ free) (i .keyed) b (i .tagged) in
-      record {
-        first = s .first;
-        last = node k c d t;
-        whole = z;
-        count = s .count;
-        before = all-before l (s .first) k c d t (rw z at (h .siblings .sorted)) (λ y. m (rw label y));
-      }
-
-  pub starts-leads : (l : Label) → (compareLabel l (labelAt e a from) ≡ lt → ⊥) → Leads from l f
-  starts-leads l m = leads-last l m (s .last) (s .whole)

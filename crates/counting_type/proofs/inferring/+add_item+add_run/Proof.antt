@@ -26,7 +26,7 @@ use Rattle.counting_type.proofs.inferring.+add_item+add_run.Lts-add_ite
 use Rattle.counting_type.proofs.inferring.add_run.Reads as add-run
 use Rattle.counting_type.proofs.inferring.add_run.Kinds as add-run-kinds
 use Rattle.counting_type.proofs.inferring.+add_item+add_run.Lts-add_run as add-run-lts
-use Rattle.counting_type.proofs.inferring.locate.Reads as locate-reads
+use Rattle.counting_type.proofs.placing.locate.Reads as locate-reads
 use Rattle.counting_type.proofs.inferring.read_item.Reads as read-item-reads
 use Rattle.counting_type.proofs.type_record.span_at.Reads as span-at-reads
 use Rattle.counting_type.proofs.type_store.put32.Reads as put32-reads

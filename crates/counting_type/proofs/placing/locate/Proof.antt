@@ -12,8 +12,8 @@ use Rattle.counting_type.specs.Checker.{under}
 use Rattle.counting_type.specs.Encoding.{typeSize}
 use Rattle.counting_type.proofs.InPlace.Items.{label-is, located, too-many}
 use Rattle.value_table.specs.Value.{recordKind, Values, keys}
-use Rattle.counting_type.proofs.inferring.locate.Statement.{statement}
-use Rattle.counting_type.proofs.inferring.locate.Tie as tie
+use Rattle.counting_type.proofs.placing.locate.Statement.{statement}
+use Rattle.counting_type.proofs.placing.locate.Tie as tie
 
 -- the keys that are listed
 module _ (c : tie.After-known-told) where

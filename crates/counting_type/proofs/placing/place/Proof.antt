@@ -11,54 +11,49 @@ use Rattle.counting_type.specs.Checker.{under}
 use Rattle.counting_type.specs.Label.{Label, CountingType}
 use Rattle.counting_type.proofs.InPlace.Placing.{holds-length, here-within, here-counted, missing-within, missing-full, missing-counted}
 use Rattle.counting_type.proofs.InPlace.Splits.{HereAt, MissingAt, here-at, missing-at}
-use Rattle.counting_type.proofs.inferring.place.Statement.{statement}
-use Rattle.counting_type.proofs.inferring.place.Tie as tie
+use Rattle.counting_type.proofs.placing.place.Statement.{statement}
+use Rattle.counting_type.proofs.placing.place.Tie as tie
 
 -- where the label stands, and its room
 module _ (c : tie.After-known-told) where
   abbrev found-label : Label
-  found-label = wanted (under (c .before .before .before .before .before .before .before .before .before .args .label)) (c .before .before .before .before .before .before .before .before .before .args .kind) (c .before .before .before .before .before .before .before .before .before .args .key) (c .before .before .before .before .before .before .before .before .before .args .keys) (c .before .before .before .before .before .before .before .before .before .args .work .now)
+  found-label = wanted (under (c .before .before .before .before .before .before .before .args .label)) (c .before .before .before .before .before .before .before .args .kind) (c .before .before .before .before .before .before .before .args .key) (c .before .before .before .before .before .before .before .args .keys) (c .before .before .before .before .before .before .before .args .work .now)
 
   abbrev found-place : ℕ
   found-place = c .before .p .given .0 .0
 
-  found : (field : Bool) (f : CountingType) (q free : List ℕ) → Holds (under (c .before .before .before .before .before .before .before .before .before .args .label)) field (c .before .before .before .before .before .before .before .before .before .args .a .now) (c .before .before .before .before .before .before .before .before .before .args .n) (c .before .before .before .before .before .before .before .before .before .args .rest) f q free →
-      Starts (c .before .before .before .before .before .before .before .before .before .args .from) f → HereAt (split found-label f) found-label 0 f found-place
+  found : (field : Bool) (f : CountingType) (q free : List ℕ) → Holds (under (c .before .before .before .before .before .before .before .args .label)) field (c .before .before .before .before .before .before .before .args .a .now) (c .before .before .before .before .before .before .before .args .n) (c .before .before .before .before .before .before .before .args .rest) f q free →
+      Starts (c .before .before .before .before .before .before .before .args .from) f → HereAt (split found-label f) found-label 0 f found-place
   found field f q free h s =
-      here-at found-label 0 found-place f (sym (c .before .p .given .1) ∙ c .before .before .before .search .ensures field _ f q free h (c .before .before .before .before .before .search-start .ensures field _ f q free h s))
+      here-at found-label 0 found-place f (sym (c .before .p .given .1) ∙ c .before .before .before .search .ensures field _ f q free h s)
 
-  found-room : 16 * found-place + 16 ≤ length (c .before .before .before .before .before .before .before .before .before .args .a .now)
+  found-room : 16 * found-place + 16 ≤ length (c .before .before .before .before .before .before .before .args .a .now)
   found-room =
-      let g = c .before .before .before .before .before .before .before .before .before .pre .0 in
+      let g = c .before .before .before .before .before .before .before .pre .0 in
       omega (arith, here-within (g .holds) found-label _ _ (found (g .field) (g .f) (g .q) (g .free) (g .holds) (g .starts)), holds-length (g .holds))
 
 -- where it would stand
 module _ (c : tie.After-known-told2) where
   abbrev missed-label : Label
-  missed-label = wanted (under (c .before .before .before .before .before .before .before .before .before .args .label)) (c .before .before .before .before .before .before .before .before .before .args .kind) (c .before .before .before .before .before .before .before .before .before .args .key) (c .before .before .before .before .before .before .before .before .before .args .keys) (c .before .before .before .before .before .before .before .before .before .args .work .now)
+  missed-label = wanted (under (c .before .before .before .before .before .before .before .args .label)) (c .before .before .before .before .before .before .before .args .kind) (c .before .before .before .before .before .before .before .args .key) (c .before .before .before .before .before .before .before .args .keys) (c .before .before .before .before .before .before .before .args .work .now)
 
   abbrev missed-place : ℕ
   missed-place = c .before .p2 .given .0 .0
 
-  missed : (field : Bool) (f : CountingType) (q free : List ℕ) → Holds (under (c .before .before .before .before .before .before .before .before .before .args .label)) field (c .before .before .before .before .before .before .before .before .before .args .a .now) (c .before .before .before .before .before .before .before .before .before .args .n) (c .before .before .before .before .before .before .before .before .before .args .rest) f q free →
-      Starts (c .before .before .before .before .before .before .before .before .before .args .from) f → MissingAt (split missed-label f) 0 f missed-place
+  missed : (field : Bool) (f : CountingType) (q free : List ℕ) → Holds (under (c .before .before .before .before .before .before .before .args .label)) field (c .before .before .before .before .before .before .before .args .a .now) (c .before .before .before .before .before .before .before .args .n) (c .before .before .before .before .before .before .before .args .rest) f q free →
+      Starts (c .before .before .before .before .before .before .before .args .from) f → MissingAt (split missed-label f) 0 f missed-place
   missed field f q free h s =
-      missing-at missed-label 0 missed-place f (sym (c .before .p2 .given .1) ∙ c .before .before .before .search .ensures field _ f q free h (c .before .before .before .before .before .search-start .ensures field _ f q free h s))
+      missing-at missed-label 0 missed-place f (sym (c .before .p2 .given .1) ∙ c .before .before .before .search .ensures field _ f q free h s)
 
-  missed-room : (16 * missed-place ≤ 16 * (c .before .before .before .before .before .before .before .before .before .args .n + c .before .before .before .before .before .before .before .before .before .args .rest)) × (16 * (c .before .before .before .before .before .before .before .before .before .args .n + c .before .before .before .before .before .before .before .before .before .args .rest) ≤ length (c .before .before .before .before .before .before .before .before .before .args .a .now))
+  missed-room : (16 * missed-place ≤ 16 * (c .before .before .before .before .before .before .before .args .n + c .before .before .before .before .before .before .before .args .rest)) × (16 * (c .before .before .before .before .before .before .before .args .n + c .before .before .before .before .before .before .before .args .rest) ≤ length (c .before .before .before .before .before .before .before .args .a .now))
   missed-room =
-      let g = c .before .before .before .before .before .before .before .before .before .pre .0 in
+      let g = c .before .before .before .before .before .before .before .pre .0 in
       omega (arith, missing-within (g .holds) missed-label _ _ (missed (g .field) (g .f) (g .q) (g .free) (g .holds) (g .starts)), holds-length (g .holds))
-
-search-start-requires : tie.Need-search-start-requires
-search-start-requires c κs =
-    let g = c .before .before .before .pre .0 in
-    (record { field = g .field; rest = _; f = g .f; q = g .q; free = g .free; holds = g .holds; starts = g .starts }, c .before .before .before .pre .1)
 
 search-requires : tie.Need-search-requires
 search-requires c κs =
-    let g = c .before .before .before .before .before .pre .0 in
-    (record { field = g .field; rest = _; f = g .f; q = g .q; free = g .free; holds = g .holds; leads = c .before .search-start .ensures (g .field) _ (g .f) (g .q) (g .free) (g .holds) (g .starts) }, c .before .before .before .before .before .pre .1)
+    let g = c .before .before .before .pre .0 in
+    (record { field = g .field; rest = _; f = g .f; q = g .q; free = g .free; holds = g .holds; starts = g .starts }, c .before .before .before .pre .1)
 
 enum-known-p : tie.Need-enum-known-p
 enum-known-p c = search needs
@@ -115,8 +110,8 @@ sub-insert-record-2 c = omega (arith, missed-room (c .before .before))
 insert-record-requires : tie.Need-insert-record-requires
 insert-record-requires c κs = simp (length-take, length-drop) (omega (arith, missed-room (c .before .before), c .before .if1 .left))
 
-add-t27 : tie.Need-add-t27
-add-t27 c = search needs
+add-t24 : tie.Need-add-t24
+add-t24 c = search needs
 
 same-length-2 : tie.Need-same-length-2
 same-length-2 c = search needs
@@ -135,7 +130,6 @@ pub place-spec : {M : Type 1} → statement M
 place-spec =
     tie.close
     (tie.spec
-    search-start-requires
     search-requires
     enum-known-p
     mul-o
@@ -155,7 +149,7 @@ place-spec =
     part-insert-record-end
     sub-insert-record-2
     insert-record-requires
-    add-t27
+    add-t24
     same-length-2
     returns-2
     same-length-3
