@@ -62,7 +62,7 @@ module _ {e : Equivalence} {field : Bool} {a : List ℕ} {n rest : ℕ} {f : Cou
       missing-bytes : a ≡ encode (x .before) ++ ((encode (x .after) ++ q) ++ free)
       missing-bytes = h .bytes ∙ ap (λ g. encode g ++ (q ++ free)) (v .whole) ∙ simp (encode-append, append-assoc)
 
-      pub missing-count : n ≡ size (x .before) + size (x .after)
+      missing-count : n ≡ size (x .before) + size (x .after)
       missing-count = h .count ∙ ap size (v .whole) ∙ size-append _ _
 
       pub missing-within : p ≤ n

@@ -10,14 +10,14 @@ use lib.ListN.{length, take, drop, set, length-append, length-take, length-drop}
 use lib.Seq.{drop-drop, sets}
 use borrow.Rule.Slice.PartMut.{putMid}
 use Rattle.value_table.specs.Number.{bytesOf, numberAt}
-use Rattle.value_table.specs.Value.{maxLength, recordKind}
+use Rattle.value_table.specs.Value.{maxLength, recordKind, Values}
 use Rattle.value_table.proofs.Number.{numberOf-bytesOf}
 use Rattle.counting_type.specs.declared.inferring.Inferred.{Inferred}
 use Rattle.counting_type.specs.declared.inferring.Inferred.the-variants.{Records, Full}
 use Rattle.counting_type.specs.Trie.{size, insert}
 use Rattle.counting_type.specs.Label.{Equivalence, Label, Counting, CountingType}
 use Rattle.counting_type.specs.Encoding.{typeSize, typeSpan, header, encode}
-use Rattle.counting_type.specs.Inferring.{Siblings, Holds, Split, split, Counted, Grown, Added}
+use Rattle.counting_type.specs.Inferring.{TableRun, Siblings, Holds, Starts, Split, split, Counted, Grown, Added}
 use Rattle.counting_type.proofs.Encoding.Header.{length-encode}
 use Rattle.counting_type.proofs.InPlace.Part.{tail-drop, tail-part, tail-put}
 use Rattle.counting_type.proofs.InPlace.Append.{encode-append}
@@ -45,7 +45,18 @@ header-length : (l : Label) (n a : ℕ) → length (header l n a) ≡ typeSize
 unfolding header bytesOf
 header-length l n a = refl
 
-module _ (l : Label) (f : CountingType) (q : List ℕ) (rest : ℕ) (used : length q ≡ typeSize * rest) (b : List ℕ) (short : length b ≤ maxLength) (p m : ℕ) (y : Counted (split l f) l q p m b) where
+-- what is asked of adding an item: the siblings that are held, where a search may begin, and the run below the item
+pub record Task (e : Equivalence) (kind from n rest : ℕ) (a t : List ℕ) : Type 0 where
+  pub field : Bool
+  pub f : CountingType
+  pub q : List ℕ
+  pub free : List ℕ
+  pub vs : Values
+  pub holds : Holds e field a n rest f q free
+  pub starts : Starts from f
+  pub run : TableRun (eqb kind recordKind) t vs
+
+module _ {l : Label} (f : CountingType) {q : List ℕ} (rest : ℕ) (used : length q ≡ typeSize * rest) {b : List ℕ} (short : length b ≤ maxLength) {p m : ℕ} (y : Counted (split l f) l q p m b) where
   abbrev x : Split
   x = split l f
 

@@ -10,12 +10,14 @@ use borrow.Author.Tests.{eqb-true}
 use Rattle.value_table.specs.Value.{recordSize, maxLength, recordKind, spanAt, Values, none, value, keys, encode, ValidAt}
 use Rattle.value_table.specs.Value as table
 use Rattle.counting_type.specs.declared.inferring.Item.{Item}
+use Rattle.counting_type.specs.declared.placing.Put.{Put}
+use Rattle.counting_type.specs.declared.placing.Put.the-variants.{At, NoRoom}
 use Rattle.counting_type.specs.Trie.{nil, node, append, size, add}
 use Rattle.counting_type.specs.Label.{Equivalence, fieldKind, Counting, CountingType}
 use Rattle.counting_type.specs.Raw.{ascending, classOf, raw}
 use Rattle.counting_type.specs.Encoding.{typeSize}
 use Rattle.counting_type.specs.Encoding as bytes
-use Rattle.counting_type.specs.Inferring.{TableRun, Siblings, Holds, Starts, split, Grown, labelFor, withItem, ItemAt}
+use Rattle.counting_type.specs.Inferring.{TableRun, Siblings, Holds, Starts, split, Grown, AddedAt, labelFor, withItem, ItemAt}
 use Rattle.counting_type.proofs.Label.{counting-laws}
 use Rattle.counting_type.proofs.Trie.Growth.{add-grows}
 use Rattle.counting_type.proofs.Tagged.Parts.{listed-field}
@@ -120,10 +122,12 @@ module _ {e : Equivalence} {field : Bool} {vs : Values} {f : CountingType} {q t 
         unfolding add
         grown-same = ap (λ r. add Counting r (x .g)) (sym (material (v .next))) ∙ ap (λ us. add Counting (raw e field us) (x .g)) (sym (v .is-value)) ∙ x .same
 
-        pub turn-full : (k rest : ℕ) → k < typeSize * (size grown + rest) → k < typeSize * (size (add Counting (raw e field vs) f) + rest)
-        turn-full k rest h = omega (arith, add-grows counting-laws (raw e field (v .next)) grown .sizes, ap size grown-same)
+        pub turn-full : (rest w : ℕ) (a′ : List ℕ) {r : Put} → r ≡ NoRoom → AddedAt grown w q rest r a′ → length a′ < typeSize * (size (add Counting (raw e field vs) f) + rest)
+        turn-full rest w a′ z h =
+            let k : length a′ < typeSize * (size grown + rest) = rw z at h in
+            omega (arith, add-grows counting-laws (raw e field (v .next)) grown .sizes, ap size grown-same)
 
-        pub turn-next : (p k : ℕ) (a′ : List ℕ) → Grown grown q k a′ → p ≡ size (split (labelFor e (item .kind) (item .key) below) (x .g) .before) →
+        turn-next : (p k : ℕ) (a′ : List ℕ) → Grown grown q k a′ → p ≡ size (split (labelFor e (item .kind) (item .key) below) (x .g) .before) →
             Ran e field vs f q a′ t k (item .next) p
         turn-next p k a′ h z =
             record {
@@ -141,6 +145,12 @@ module _ {e : Equivalence} {field : Bool} {vs : Values} {f : CountingType} {q t 
               starts = record { first = _; last = _; whole = insert-split _ 1 _ (x .g); count = z };
               same = grown-same;
             }
+
+        pub turn-added : (rest p k : ℕ) (a′ : List ℕ) {r : Put} → r ≡ At p k →
+            AddedAt grown (size (split (labelFor e (item .kind) (item .key) below) (x .g) .before)) q rest r a′ → Ran e field vs f q a′ t k (item .next) p
+        turn-added rest p k a′ z h =
+            let w : Grown grown q k a′ × (p ≡ size (split (labelFor e (item .kind) (item .key) below) (x .g) .before)) = rw z at h in
+            turn-next p k a′ (w .0) (w .1)
 
         -- the part of the table below the item
         pub turn-order : (item .start ≤ recordSize * item .next) × (recordSize * item .next ≤ length t) × (i < item .next)

@@ -1,6 +1,6 @@
 -- A run of values is added item by item, and an item with the run below it.
 use mathlib.Core.Path.{_≡_, refl, _∙_}
-use mathlib.Core.Bool.{Bool, cond}
+use mathlib.Core.Bool.{cond}
 use mathlib.Core.List.{List, _++_}
 use Prim.Native.Nat.{ℕ, _+_, _*_, _-_, _/_, _≤_, _<_}
 use native.Mathlib.Omega.{arith}
@@ -8,18 +8,18 @@ use lib.Dec.{eqb}
 use lib.ListN.{length, take, drop, length-take, length-drop}
 use borrow.Author.Needs.{needs}
 use borrow.Rule.Slice.PartMut.{putMid, same-len-mid}
-use borrow.Fn.Kinds.{In}
-use borrow.Fn.PlainCycle.{Measures, is, falls, and}
+use Rattle.value_table.specs.Value.{recordKind, Values}
 use Rattle.counting_type.specs.Trie.{size, add}
-use Rattle.counting_type.specs.Label.{Equivalence, Label, Counting, CountingType}
+use Rattle.counting_type.specs.Label.{Label, Counting, CountingType}
 use Rattle.counting_type.specs.Raw.{raw}
 use Rattle.counting_type.specs.Encoding.{encode}
 use Rattle.counting_type.specs.Checker.{under}
-use Rattle.counting_type.specs.Inferring.{TableRun, SomeRun, Holds, Starts, HeldFrom, HeldRun, split, Counted, Grown, labelFor, withItem}
-use Rattle.value_table.specs.Value.{recordKind, Values}
-use Rattle.counting_type.proofs.InPlace.Steps.{step-length, step-within, step-span, step-holds, step-full, step-grown, added-full, added-records, grown-length}
-use Rattle.counting_type.proofs.InPlace.Turns.{Ran, ran-start, ran-holds, ran-end, ran-first, below, below-run, turn-full, turn-next, turn-order, turn-measure}
+use Rattle.counting_type.specs.Inferring.{TableRun, Holds, split, Counted, Grown, labelFor, withItem, AddedAt}
+use Rattle.counting_type.proofs.InPlace.Steps.{Task, step-length, step-within, step-span, step-holds, step-full, step-grown, added-full, added-records, grown-length}
+use Rattle.counting_type.proofs.InPlace.Turns.{Ran, ran-start, ran-holds, ran-end, ran-first, below, below-run, turn-full, turn-added, turn-order, turn-measure}
 use Rattle.counting_type.proofs.InPlace.Runs.{whole-records}
+use borrow.Fn.Kinds.{In}
+use borrow.Fn.PlainCycle.{Measures, is, falls, and}
 use Rattle.counting_type.proofs.inferring.add_item.Reads as add-item
 use Rattle.counting_type.proofs.inferring.add_item.Kinds as add-item-kinds
 use Rattle.counting_type.proofs.inferring.+add_item+add_run.Lts-add_item as add-item-lts
@@ -57,96 +57,76 @@ add-item-calls t = (locate-reads.Asked, locate-reads.Learnt, span-at-reads.Asked
 module _ (t : ℕ) where
   -- the label has its record
   module _ (c : add-item-lts.After-known-told (add-item-calls t) (add-item-at t) add-item.Post) where
-    abbrev E : Equivalence
-    E = under (c .before .before .before .before .before .before .before .before .before .before .before .before .before .args .label)
+    abbrev begun : add-item-lts.Start (add-item-calls t) (add-item-at t) add-item.Post
+    begun = c .before .before .before .before .before .before .before .before .before .before .before .before .before
 
-    abbrev P : ℕ
-    P = c .before .p .given .0 .0
+    abbrev Asked : Type 0
+    Asked = Task (under (begun .args .label)) (begun .args .kind) (begun .args .from) (begun .args .n) (begun .args .rest) (begun .args .a .now) (begun .args .t .now)
 
-    abbrev M : ℕ
-    M = c .before .p .given .0 .1 .0
+    asked : Asked
+    asked =
+        let g = begun .pre .1 in
+        record { field = g .0 .field; f = g .0 .f; q = g .0 .q; free = g .0 .free; vs = g .1 .values; holds = g .0 .holds; starts = g .0 .starts; run = g .1 .run }
 
-    abbrev R : ℕ
-    R = c .before .before .before .before .before .before .before .before .before .before .before .before .before .args .rest
+    abbrev label : Asked → Label
+    label x = labelFor (under (begun .args .label)) (begun .args .kind) (begun .args .key) (x .vs)
 
-    abbrev B : List ℕ
-    B = c .before .before .before .before .before .before .before .locate .last .0
+    abbrev place : ℕ
+    place = c .before .p .given .0 .0
 
-    abbrev L : Values → Label
-    L vs = labelFor E (c .before .before .before .before .before .before .before .before .before .before .before .before .before .args .kind) (c .before .before .before .before .before .before .before .before .before .before .before .before .before .args .key) vs
+    abbrev records : ℕ
+    records = c .before .p .given .0 .1 .0
 
-    abbrev IsRun : Values → Type 0
-    IsRun vs = TableRun (eqb (c .before .before .before .before .before .before .before .before .before .before .before .before .before .args .kind) recordKind) (c .before .before .before .before .before .before .before .before .before .before .before .before .before .args .t .now) vs
+    abbrev arena : List ℕ
+    arena = c .before .before .before .before .before .before .before .locate .last .0
 
-    abbrev IsHeld : Bool → CountingType → List ℕ → List ℕ → Type 0
-    IsHeld field f q free = Holds E field (c .before .before .before .before .before .before .before .before .before .before .before .before .before .args .a .now) (c .before .before .before .before .before .before .before .before .before .before .before .before .before .args .n) R f q free
+    counted : (x : Asked) → Counted (split (label x) (x .f)) (label x) (x .q) place records arena
+    counted x = rw (c .before .p .given .1) at (c .before .before .before .before .before .before .before .locate .ensures (x .field) (x .f) (x .q) (x .free) (x .vs) (x .holds) (x .starts) (x .run))
 
-    abbrev IsStart : CountingType → Type 0
-    IsStart f = Starts (c .before .before .before .before .before .before .before .before .before .before .before .before .before .args .from) f
+    short : length arena ≤ 65536
+    short = omega (arith, asked .holds .short, c .before .before .before .before .before .before .before .locate .kept .0)
 
-    counted : (field : Bool) (f : CountingType) (q free : List ℕ) (vs : Values) → IsHeld field f q free → IsStart f → IsRun vs → Counted (split (L vs) f) (L vs) q P M B
-    counted field f q free vs h s r = rw (c .before .p .given .1) at (c .before .before .before .before .before .before .before .locate .ensures field f q free vs h s r)
-
-    short : (field : Bool) (f : CountingType) (q free : List ℕ) → IsHeld field f q free → length B ≤ 65536
-    short field f q free h = omega (arith, h .short, c .before .before .before .before .before .before .before .locate .kept .0)
-
-    abbrev given : HeldFrom E (c .before .before .before .before .before .before .before .before .before .before .before .before .before .args .a .now) (c .before .before .before .before .before .before .before .before .before .before .before .before .before .args .n) R (c .before .before .before .before .before .before .before .before .before .before .before .before .before .args .from)
-    given = c .before .before .before .before .before .before .before .before .before .before .before .before .before .pre .1 .0
-
-    abbrev source : SomeRun (eqb (c .before .before .before .before .before .before .before .before .before .before .before .before .before .args .kind) recordKind) (c .before .before .before .before .before .before .before .before .before .before .before .before .before .args .t .now)
-    source = c .before .before .before .before .before .before .before .before .before .before .before .before .before .pre .1 .1
-
-    abbrev the : Counted (split (L (source .values)) (given .f)) (L (source .values)) (given .q) P M B
-    the = counted (given .field) (given .f) (given .q) (given .free) (source .values) (given .holds) (given .starts) (source .run)
-
-    bound : (P + 1 ≤ M) × (16 * (M + R) ≤ length B) × (length B ≤ 65536)
+    bound : (place + 1 ≤ records) × (16 * (records + begun .args .rest) ≤ length arena) × (length arena ≤ 65536)
     bound =
-        let z = short (given .field) (given .f) (given .q) (given .free) (given .holds) in
-        omega (arith, z, step-within (L (source .values)) (given .f) (given .q) R (given .holds .used) B z P M the, step-length (L (source .values)) (given .f) (given .q) R (given .holds .used) B z P M the)
+        let x = asked in
+        omega (arith, short, step-within (x .f) _ (x .holds .used) short (counted x), step-length (x .f) _ (x .holds .used) short (counted x))
 
   -- its span is read
   module _ (c : add-item-lts.After-span-at (add-item-calls t) (add-item-at t) add-item.Post) where
     abbrev at : add-item-lts.After-known-told (add-item-calls t) (add-item-at t) add-item.Post
     at = c .before .before
 
-    span : (field : Bool) (f : CountingType) (q free : List ℕ) (vs : Values) → IsHeld at field f q free → IsStart at f → IsRun at vs → c .span-at .result ≡ 1 + size (split (L at vs) f .content)
-    span field f q free vs h s r = c .span-at .ensures .0 ∙ step-span (L at vs) f q (R at) (h .used) (B at) (short at field f q free h) (P at) (M at) (counted at field f q free vs h s r)
+    span : (x : Asked at) → c .span-at .result ≡ 1 + size (split (label at x) (x .f) .content)
+    span x = c .span-at .ensures .0 ∙ step-span (x .f) _ (x .holds .used) (short at) (counted at x)
 
-    numbers : (1 ≤ c .span-at .result) × (P at + c .span-at .result ≤ M at)
-    numbers =
-        let g = given at in
-        let r = source at in
-        let z = short at (g .field) (g .f) (g .q) (g .free) (g .holds) in
-        omega (arith, span (g .field) (g .f) (g .q) (g .free) (r .values) (g .holds) (g .starts) (r .run), step-within (L at (r .values)) (g .f) (g .q) (R at) (g .holds .used) (B at) z (P at) (M at) (the at))
+    numbers : (1 ≤ c .span-at .result) × (place at + c .span-at .result ≤ records at)
+    numbers = let x = asked at in omega (arith, span x, step-within (x .f) _ (x .holds .used) (short at) (counted at x))
 
-    inner : (field : Bool) (f : CountingType) (q free : List ℕ) (vs : Values) (h : IsHeld at field f q free) (s : IsStart at f) (r : IsRun at vs) →
-        Holds (E at) (eqb (c .before .before .before .before .before .before .before .before .before .before .before .before .before .before .before .args .kind) recordKind) (take (length (B at) - (16 * P at + 16)) (drop (16 * P at + 16) (B at))) (c .span-at .result - 1) (M at + R at - P at - c .span-at .result)
-        (split (L at vs) f .content) (encode (split (L at vs) f .after) ++ q) (counted at field f q free vs h s r .free)
-    inner field f q free vs h s r = step-holds (L at vs) f q (R at) (h .used) (B at) (short at field f q free h) (P at) (M at) (counted at field f q free vs h s r) _ (span field f q free vs h s r) (E at) field (h .siblings)
+    inner : (x : Asked at) → Holds (under (begun at .args .label)) (eqb (begun at .args .kind) recordKind) (take (length (arena at) - (16 * place at + 16)) (drop (16 * place at + 16) (arena at)))
+        (c .span-at .result - 1) (records at + begun at .args .rest - place at - c .span-at .result) (split (label at x) (x .f) .content) (encode (split (label at x) (x .f) .after) ++ x .q) (counted at x .free)
+    inner x = step-holds (x .f) _ (x .holds .used) (short at) (counted at x) _ (span x) _ (x .field) (x .holds .siblings)
+
+    abbrev material : Asked at → CountingType
+    material x = raw (under (begun at .args .label)) (eqb (begun at .args .kind) recordKind) (x .vs)
 
   -- what is below it has been added
   module _ (c : add-item-lts.After-put32-arg (add-item-calls t) (add-item-at t) add-item.Post) where
     abbrev sp : add-item-lts.After-span-at (add-item-calls t) (add-item-at t) add-item.Post
     sp = c .before .before .before .before .before .before .before .before .before .before .before
 
-    abbrev X : List ℕ
-    X = c .before .before .before .before .before .before .before .before .add-run .last .0
+    abbrev inside : List ℕ
+    inside = c .before .before .before .before .before .before .before .before .add-run .last .0
 
-    same : length (putMid (16 * P (at sp) + 16) (length (B (at sp)) - (16 * P (at sp) + 16)) (B (at sp)) X) ≡ length (B (at sp))
-    same = same-len-mid (16 * P (at sp) + 16) (length (B (at sp)) - (16 * P (at sp) + 16)) (B (at sp)) X (c .before .before .before .before .before .before .before .before .add-run .kept .0)
+    same : length (putMid (16 * place (at sp) + 16) (length (arena (at sp)) - (16 * place (at sp) + 16)) (arena (at sp)) inside) ≡ length (arena (at sp))
+    same = same-len-mid (16 * place (at sp) + 16) (length (arena (at sp)) - (16 * place (at sp) + 16)) (arena (at sp)) inside (c .before .before .before .before .before .before .before .before .add-run .kept .0)
 
-    grown : (field : Bool) (f : CountingType) (q free : List ℕ) (vs : Values) (h : IsHeld (at sp) field f q free) → IsStart (at sp) f → IsRun (at sp) vs →
-        Grown (add Counting (raw (E (at sp)) (eqb (c .before .before .before .before .before .before .before .before .before .before .before .before .before .before .before .before .before .before .before .before .before .before .before .before .before .before .args .kind) recordKind) vs) (split (L (at sp) vs) f .content)) (encode (split (L (at sp) vs) f .after) ++ q) (c .before .before .size .given .0 .0) X
-    grown field f q free vs h s r =
-        added-records (add Counting (raw (E (at sp)) (eqb (c .before .before .before .before .before .before .before .before .before .before .before .before .before .before .before .before .before .before .before .before .before .before .before .before .before .before .args .kind) recordKind) vs) (split (L (at sp) vs) f .content)) (encode (split (L (at sp) vs) f .after) ++ q) _ X _ _ (c .before .before .size .given .1)
-        (c .before .before .before .before .before .before .before .before .add-run .ensures _ _ _ vs (inner sp field f q free vs h s r) r)
+    grown : (x : Asked (at sp)) → Grown (add Counting (material sp x) (split (label (at sp) x) (x .f) .content)) (encode (split (label (at sp) x) (x .f) .after) ++ x .q) (c .before .before .size .given .0 .0) inside
+    grown x = added-records _ _ _ inside _ _ (c .before .before .size .given .1) (c .before .before .before .before .before .before .before .before .add-run .ensures _ _ _ (x .vs) (inner sp x) (x .run))
 
-    small : (c .before .before .size .given .0 .0 + 1 < 4294967296) × (16 * P (at sp) + 8 ≤ length (B (at sp)))
+    small : (c .before .before .size .given .0 .0 + 1 < 4294967296) × (16 * place (at sp) + 8 ≤ length (arena (at sp)))
     small =
-        let g = given (at sp) in
-        let r = source (at sp) in
-        let n : length X ≡ length (take (length (B (at sp)) - (16 * P (at sp) + 16)) (drop (16 * P (at sp) + 16) (B (at sp)))) = c .before .before .before .before .before .before .before .before .add-run .kept .0 in
-        omega (arith, grown-length (grown (g .field) (g .f) (g .q) (g .free) (r .values) (g .holds) (g .starts) (r .run)), simp (length-take, length-drop) at n, bound (at sp))
+        let n : length inside ≡ length (take (length (arena (at sp)) - (16 * place (at sp) + 16)) (drop (16 * place (at sp) + 16) (arena (at sp)))) = c .before .before .before .before .before .before .before .before .add-run .kept .0 in
+        omega (arith, grown-length (grown (asked (at sp))), simp (length-take, length-drop) at n, bound (at sp))
 
   add-item-locate-requires : add-item-lts.Need-locate-requires (add-item-calls t) (add-item-at t) add-item.Post
   add-item-locate-requires c κs = c .before .before .before .before .before .pre .1
@@ -190,14 +170,10 @@ module _ (t : ℕ) where
   add-item-add-run-requires : add-item-lts.Need-add-run-requires (add-item-calls t) (add-item-at t) add-item.Post
   add-item-add-run-requires c κs =
       let sp = c .before .before in
-      let g = given (at sp) in
-      let r = source (at sp) in (
-        omega (arith, c .before .before .before .before .before .before .before .before .before .before .before .before .before .before .before .before .before .pre .0),
-        (
-          record { f = _; q = _; free = _; holds = inner sp (g .field) (g .f) (g .q) (g .free) (r .values) (g .holds) (g .starts) (r .run) },
-          r,
-          simp (length-take, length-drop) (omega (arith, c .before .before .before .before .before .before .before .before .before .before .before .before .before .before .before .before .before .pre .1 .2, c .before .before .before .before .before .before .before .before .before .before .before .locate .kept .0, c .before .before .before .before .before .before .before .before .before .before .before .locate .kept .1 .1 .1 .1 .1 .1 .1 .1 .0)),
-        ),
+      let s = begun (at sp) in
+      let k = c .before .before .before .before .before .before .before .before .before .before .before .locate in (
+        omega (arith, s .pre .0),
+        (record { f = _; q = _; free = _; holds = inner sp (asked (at sp)) }, s .pre .1 .1, simp (length-take, length-drop) (omega (arith, s .pre .1 .2, k .kept .0, k .kept .1 .1 .1 .1 .1 .1 .1 .1 .0))),
       )
 
   add-item-enum-told-2 : add-item-lts.Need-enum-told-2 (add-item-calls t) (add-item-at t) add-item.Post
@@ -216,19 +192,13 @@ module _ (t : ℕ) where
   add-item-put32-requires c κs = omega (arith, small c, same c)
 
   add-item-add-t40 : add-item-lts.Need-add-t40 (add-item-calls t) (add-item-at t) add-item.Post
-  add-item-add-t40 c =
-      let i = c .before .before .before in
-      omega (arith, small i, numbers (sp i), bound (at (sp i)))
+  add-item-add-t40 c = let i = c .before .before .before in omega (arith, small i, numbers (sp i), bound (at (sp i)))
 
   add-item-add-t41 : add-item-lts.Need-add-t41 (add-item-calls t) (add-item-at t) add-item.Post
-  add-item-add-t41 c =
-      let i = c .before .before .before in
-      omega (arith, small i, numbers (sp i), bound (at (sp i)))
+  add-item-add-t41 c = let i = c .before .before .before in omega (arith, small i, numbers (sp i), bound (at (sp i)))
 
   add-item-sub-t42 : add-item-lts.Need-sub-t42 (add-item-calls t) (add-item-at t) add-item.Post
-  add-item-sub-t42 c =
-      let i = c .before .before .before in
-      omega (arith, small i, numbers (sp i), bound (at (sp i)))
+  add-item-sub-t42 c = let i = c .before .before .before in omega (arith, small i, numbers (sp i), bound (at (sp i)))
 
   add-item-same-length : add-item-lts.Need-same-length (add-item-calls t) (add-item-at t) add-item.Post
   add-item-same-length c = c .before .before .before .before .before .before .locate .kept .0
@@ -242,7 +212,7 @@ module _ (t : ℕ) where
   add-item-same-length-3 : add-item-lts.Need-same-length-3 (add-item-calls t) (add-item-at t) add-item.Post
   add-item-same-length-3 c =
       let i = at (c .before .before .before .before .before .before .before .before .before) in
-      same-len-mid (16 * P i + 16) (length (B i) - (16 * P i + 16)) (B i) (c .before .before .before .before .before .before .add-run .last .0) (c .before .before .before .before .before .before .add-run .kept .0) ∙ c .before .before .before .before .before .before .before .before .before .before .before .before .before .before .before .before .before .before .locate .kept .0
+      same-len-mid (16 * place i + 16) (length (arena i) - (16 * place i + 16)) (arena i) (c .before .before .before .before .before .before .add-run .last .0) (c .before .before .before .before .before .before .add-run .kept .0) ∙ c .before .before .before .before .before .before .before .before .before .before .before .before .before .before .before .before .before .before .locate .kept .0
 
   add-item-same-length-4 : add-item-lts.Need-same-length-4 (add-item-calls t) (add-item-at t) add-item.Post
   add-item-same-length-4 c = c .before .before .before .before .before .before .add-run .kept .1 .1 .1 .1 .1 .1 .0 ∙ c .before .before .before .before .before .before .before .before .before .before .before .before .before .before .before .before .before .before .locate .kept .1 .1 .1 .1 .1 .1 .1 .1 .0
@@ -250,16 +220,13 @@ module _ (t : ℕ) where
   add-item-returns-2 : add-item-lts.Need-returns-2 (add-item-calls t) (add-item-at t) add-item.Post
   add-item-returns-2 c field f q free vs h s r =
       let i = c .before .before .before .before .before .before .before .before .before in
-      let j = at i in
       let k = c .before .before .before .before .before .before .add-run in
-      let below = raw (E j) (eqb (c .before .before .before .before .before .before .before .before .before .before .before .before .before .before .before .before .before .before .before .before .before .before .before .before .args .kind) recordKind) vs in
-      step-full (L j vs) f q (R j) (h .used) (B j) (short j field f q free h) (P j) (M j) (counted j field f q free vs h s r) _ (span i field f q free vs h s r) (add Counting below) (k .last .0)
-      (added-full (add Counting below (split (L j vs) f .content)) (encode (split (L j vs) f .after) ++ q) _ (k .last .0) _ (c .enum-told2 .given .1) (k .ensures _ _ _ vs (inner i field f q free vs h s r) r))
+      let x : Asked (at i) = record { field = field; f = f; q = q; free = free; vs = vs; holds = h; starts = s; run = r } in
+      step-full f _ (h .used) (short (at i)) (counted (at i) x) _ (span i x) (add Counting (material i x)) (k .last .0)
+      (added-full _ _ _ (k .last .0) _ (c .enum-told2 .given .1) (k .ensures _ _ _ vs (inner i x) r))
 
   add-item-same-length-5 : add-item-lts.Need-same-length-5 (add-item-calls t) (add-item-at t) add-item.Post
-  add-item-same-length-5 c =
-      let i = c .before .before .before in
-      c .before .before .put32 .kept .0 ∙ same i ∙ c .before .before .before .before .before .before .before .before .before .before .before .before .before .before .before .before .before .before .before .before .before .before .before .locate .kept .0
+  add-item-same-length-5 c = c .before .before .put32 .kept .0 ∙ same (c .before .before .before) ∙ c .before .before .before .before .before .before .before .before .before .before .before .before .before .before .before .before .before .before .before .before .before .before .before .locate .kept .0
 
   add-item-same-length-6 : add-item-lts.Need-same-length-6 (add-item-calls t) (add-item-at t) add-item.Post
   add-item-same-length-6 c = c .before .before .before .before .before .before .before .before .before .before .before .add-run .kept .1 .1 .1 .1 .1 .1 .0 ∙ c .before .before .before .before .before .before .before .before .before .before .before .before .before .before .before .before .before .before .before .before .before .before .before .locate .kept .1 .1 .1 .1 .1 .1 .1 .1 .0
@@ -268,7 +235,8 @@ module _ (t : ℕ) where
   add-item-returns-3 c field f q free vs h s r =
       let i = c .before .before .before in
       let j = at (sp i) in
-      (step-grown (L j vs) f q (R j) (h .used) (B j) (short j field f q free h) (P j) (M j) (counted j field f q free vs h s r) _ (span (sp i) field f q free vs h s r) (add Counting (raw (E j) (eqb (c .before .before .before .before .before .before .before .before .before .before .before .before .before .before .before .before .before .before .before .before .before .before .before .before .before .before .before .before .before .args .kind) recordKind) vs)) _ _ _ (grown i field f q free vs h s r) (c .before .before .put32 .ensures), counted j field f q free vs h s r .place)
+      let x : Asked j = record { field = field; f = f; q = q; free = free; vs = vs; holds = h; starts = s; run = r } in
+      (step-grown f _ (h .used) (short j) (counted j x) _ (span (sp i) x) (add Counting (material (sp i) x)) _ _ _ (grown i x) (c .before .before .put32 .ensures), counted j x .place)
 
 abbrev add-run-Inv-loop : add-run-lts.InvT-loop
 add-run-Inv-loop a₀ n rest t field label work₀ end m₀ i₀ from₀ a work m i from = (end ≡ length t / 8) × (length a ≡ length a₀) × (length work ≡ length work₀) × ((f : CountingType) (q free : List ℕ) (vs : Values) → Holds (under label) field a₀ n rest f q free → TableRun field t vs → Ran (under label) field vs f q a t m i from)
@@ -282,44 +250,46 @@ add-run-calls t = (read-item-reads.Asked, read-item-reads.Learnt, add-item-below
 module _ (t : ℕ) where
   -- the item at the loop's head
   module _ (c : add-run-lts.In-loop (add-run-calls t) (add-run-at t) add-run.Post add-run-Inv-loop add-run-μ-loop) where
-    abbrev RanAt : Values → CountingType → List ℕ → Type 0
-    RanAt vs f q = Ran (under (c .before .before .before .before .before .args .label)) (c .before .before .before .before .before .args .field) vs f q (c .before .loop .a) (c .before .before .before .before .before .args .t .now) (c .before .loop .m) (c .before .loop .i) (c .before .loop .from)
+    abbrev start : add-run-lts.Start (add-run-calls t) (add-run-at t) add-run.Post add-run-Inv-loop add-run-μ-loop
+    start = c .before .before .before .before .before
 
-    abbrev held : HeldRun (under (c .before .before .before .before .before .args .label)) (c .before .before .before .before .before .args .field) (c .before .before .before .before .before .args .a .now) (c .before .before .before .before .before .args .n) (c .before .before .before .before .before .args .rest)
-    held = c .before .before .before .before .before .pre .1 .0
+    abbrev state : add-run-lts.At-loop (add-run-calls t) (add-run-at t) add-run.Post add-run-Inv-loop add-run-μ-loop
+    state = c .before
 
-    abbrev values : SomeRun (c .before .before .before .before .before .args .field) (c .before .before .before .before .before .args .t .now)
-    values = c .before .before .before .before .before .pre .1 .1
+    abbrev short-table : length (start .args .t .now) ≤ 65536
+    short-table = start .pre .1 .1 .run .short
 
-    one : RanAt (values .values) (held .f) (held .q)
-    one = c .before .loop .inv .3 (held .f) (held .q) (held .free) (values .values) (held .holds) (values .run)
+    one : Ran (under (start .args .label)) (start .args .field) (start .pre .1 .1 .values) (start .pre .1 .0 .f) (start .pre .1 .0 .q) (state .loop .a) (start .args .t .now) (state .loop .m) (state .loop .i) (state .loop .from)
+    one = let g = start .pre .1 .0 in state .loop .inv .3 (g .f) (g .q) (g .free) (start .pre .1 .1 .values) (g .holds) (start .pre .1 .1 .run)
 
-    more : 8 * c .before .loop .i < length (c .before .before .before .before .before .args .t .now)
-    more = omega (arith, c .before .loop .inv .0, c .loop-test .taken)
+    more : 8 * state .loop .i < length (start .args .t .now)
+    more = omega (arith, state .loop .inv .0, c .loop-test .taken)
 
-    room : 8 * c .before .loop .i + 8 ≤ length (c .before .before .before .before .before .args .t .now)
-    room = let v = ran-first one (values .run .short) more in omega (arith, v .within, v .span-is)
+    room : 8 * state .loop .i + 8 ≤ length (start .args .t .now)
+    room = let v = ran-first one short-table more in omega (arith, v .within, v .span-is)
 
   -- the order of its numbers
   module _ (c : add-run-lts.After-read-item (add-run-calls t) (add-run-at t) add-run.Post add-run-Inv-loop add-run-μ-loop) where
-    abbrev order : (c .read-item .result .start ≤ 8 * c .read-item .result .next) × (8 * c .read-item .result .next ≤ length (c .before .before .before .before .before .before .args .t .now)) × (c .before .before .loop .i < c .read-item .result .next)
-    order = turn-order (one (c .before)) (values (c .before) .run .short) (more (c .before)) (c .read-item .ensures)
+    abbrev order : (c .read-item .result .start ≤ 8 * c .read-item .result .next) × (8 * c .read-item .result .next ≤ length (start (c .before) .args .t .now)) × (c .before .before .loop .i < c .read-item .result .next)
+    order = turn-order (one (c .before)) (short-table (c .before)) (more (c .before)) (c .read-item .ensures)
 
-  -- one item more
-  module _ (c : add-run-lts.After-known-told (add-run-calls t) (add-run-at t) add-run.Post add-run-Inv-loop add-run-μ-loop) where
-    again : (f : CountingType) (q free : List ℕ) (vs : Values) → Holds (under (c .before .before .before .before .before .before .before .before .before .before .before .before .before .before .before .before .before .args .label)) (c .before .before .before .before .before .before .before .before .before .before .before .before .before .before .before .before .before .args .field) (c .before .before .before .before .before .before .before .before .before .before .before .before .before .before .before .before .before .args .a .now) (c .before .before .before .before .before .before .before .before .before .before .before .before .before .before .before .before .before .args .n) (c .before .before .before .before .before .before .before .before .before .before .before .before .before .before .before .before .before .args .rest) f q free →
-        TableRun (c .before .before .before .before .before .before .before .before .before .before .before .before .before .before .before .before .before .args .field) (c .before .before .before .before .before .before .before .before .before .before .before .before .before .before .before .before .before .args .t .now) vs →
-        Ran (under (c .before .before .before .before .before .before .before .before .before .before .before .before .before .before .before .before .before .args .label)) (c .before .before .before .before .before .before .before .before .before .before .before .before .before .before .before .before .before .args .field) vs f q (c .before .before .before .before .before .before .before .add-item .last .0) (c .before .before .before .before .before .before .before .before .before .before .before .before .before .before .before .before .before .args .t .now) (c .before .p .given .0 .1 .0) (c .before .before .before .before .before .before .before .before .before .before .before .read-item .result .next) (c .before .p .given .0 .0)
-    again f q free vs h r =
-        let j = c .before .before .before .before .before .before .before .before .before .before .before in
-        let i = j .before in
-        let v = i .before .loop .inv in
+  -- what is said of the siblings after it
+  module _ (c : add-run-lts.After-add-item (add-run-calls t) (add-run-at t) add-run.Post add-run-Inv-loop add-run-μ-loop) where
+    abbrev read : add-run-lts.After-read-item (add-run-calls t) (add-run-at t) add-run.Post add-run-Inv-loop add-run-μ-loop
+    read = c .before .before .before .before
+
+    added : (f : CountingType) (q free : List ℕ) (vs : Values) (h : Holds (under (start (read .before) .args .label)) (start (read .before) .args .field) (start (read .before) .args .a .now) (start (read .before) .args .n) (start (read .before) .args .rest) f q free)
+        (r : TableRun (start (read .before) .args .field) (start (read .before) .args .t .now) vs) →
+        let x = state (read .before) .loop .inv .3 f q free vs h r in
+        let under-item = below x (r .short) (more (read .before)) (read .read-item .ensures) in
+        let kind = read .read-item .result .kind in let key = read .read-item .result .key in
+        AddedAt (withItem (under (start (read .before) .args .label)) kind key under-item (x .g)) (size (split (labelFor (under (start (read .before) .args .label)) kind key under-item) (x .g) .before))
+        q (start (read .before) .args .rest) (c .add-item .result) (c .add-item .last .0)
+    added f q free vs h r =
+        let i = read .before in
+        let v = state i .loop .inv in
         let x = v .3 f q free vs h r in
-        let y = j .read-item .ensures in
-        let d = c .before .before .before .before .before .before .before .add-item .ensures (c .before .before .before .before .before .before .before .before .before .before .before .before .before .before .before .before .before .args .field) (x .g) q (x .free) (below x (r .short) (more i) y) (ran-holds x _ (h .used) (omega (arith, h .short, v .1))) (x .starts) (below-run x (r .short) (more i) y) in
-        let w : Grown (withItem (under (c .before .before .before .before .before .before .before .before .before .before .before .before .before .before .before .before .before .args .label)) (c .before .before .before .before .before .before .before .before .before .before .before .read-item .result .kind) (c .before .before .before .before .before .before .before .before .before .before .before .read-item .result .key) (below x (r .short) (more i) y) (x .g)) q (c .before .p .given .0 .1 .0) (c .before .before .before .before .before .before .before .add-item .last .0)
-        × (c .before .p .given .0 .0 ≡ size (split (labelFor (under (c .before .before .before .before .before .before .before .before .before .before .before .before .before .before .before .before .before .args .label)) (c .before .before .before .before .before .before .before .before .before .before .before .read-item .result .kind) (c .before .before .before .before .before .before .before .before .before .before .before .read-item .result .key) (below x (r .short) (more i) y)) (x .g) .before)) = rw (c .before .p .given .1) at d in
-        turn-next x (r .short) (more i) y _ _ _ (w .0) (w .1)
+        c .add-item .ensures (start i .args .field) (x .g) q (x .free) _ (ran-holds x _ (h .used) (omega (arith, h .short, v .1))) (x .starts) (below-run x (r .short) (more i) (read .read-item .ensures))
 
   add-run-loop-holds : add-run-lts.Need-loop-holds (add-run-calls t) (add-run-at t) add-run.Post add-run-Inv-loop add-run-μ-loop
   add-run-loop-holds c = (refl, refl, refl, λ f q free vs h r. ran-start h r)
@@ -328,7 +298,7 @@ module _ (t : ℕ) where
   add-run-read-item-requires c κs = room c
 
   add-run-mul-stop : add-run-lts.Need-mul-stop (add-run-calls t) (add-run-at t) add-run.Post add-run-Inv-loop add-run-μ-loop
-  add-run-mul-stop c = omega (arith, order c, values (c .before) .run .short)
+  add-run-mul-stop c = omega (arith, order c, short-table (c .before))
 
   add-run-sub-add-item : add-run-lts.Need-sub-add-item (add-run-calls t) (add-run-at t) add-run.Post add-run-Inv-loop add-run-μ-loop
   add-run-sub-add-item c = omega (arith, order (c .before))
@@ -343,14 +313,14 @@ module _ (t : ℕ) where
   add-run-add-item-requires c κs =
       let j = c .before .before .before in
       let i = j .before in
+      let g = start i .pre in
       let x = one i in
-      let z = values i .run .short in
-      let v = i .before .loop .inv in (
-        rw (c .before .before .before .before .before .before .before .before .before .pre .0) at (turn-measure x z (more i) (j .read-item .ensures)),
+      let v = state i .loop .inv in (
+        rw (g .0) at (turn-measure x (short-table i) (more i) (j .read-item .ensures)),
         (
-          record { field = _; f = x .g; q = held i .q; free = x .free; holds = ran-holds x _ (held i .holds .used) (omega (arith, held i .holds .short, v .1)); starts = x .starts },
-          record { values = below x z (more i) (j .read-item .ensures); run = below-run x z (more i) (j .read-item .ensures) },
-          omega (arith, v .1, v .2, c .before .before .before .before .before .before .before .before .before .pre .1 .2),
+          record { field = _; f = x .g; q = g .1 .0 .q; free = x .free; holds = ran-holds x _ (g .1 .0 .holds .used) (omega (arith, g .1 .0 .holds .short, v .1)); starts = x .starts },
+          record { values = _; run = below-run x (short-table i) (more i) (j .read-item .ensures) },
+          omega (arith, v .1, v .2, g .1 .2),
         ),
       )
 
@@ -365,13 +335,9 @@ module _ (t : ℕ) where
 
   add-run-returns : add-run-lts.Need-returns (add-run-calls t) (add-run-at t) add-run.Post add-run-Inv-loop add-run-μ-loop
   add-run-returns c f q free vs h r =
-      let j = c .before .before .before .before .before .before .before .before .before .before in
-      let i = j .before in
-      let v = i .before .loop .inv in
-      let x = v .3 f q free vs h r in
-      let y = j .read-item .ensures in
-      let d = c .before .before .before .before .before .before .add-item .ensures (c .before .before .before .before .before .before .before .before .before .before .before .before .before .before .before .before .args .field) (x .g) q (x .free) (below x (r .short) (more i) y) (ran-holds x _ (h .used) (omega (arith, h .short, v .1))) (x .starts) (below-run x (r .short) (more i) y) in
-      turn-full x (r .short) (more i) y _ _ (rw (c .enum-told .given .1) at d)
+      let k = c .before .before .before .before .before .before in
+      let j = read k in
+      turn-full (state (j .before) .loop .inv .3 f q free vs h r) (r .short) (more (j .before)) (j .read-item .ensures) _ _ _ (c .enum-told .given .1) (added k f q free vs h r)
 
   add-run-enum-known-p : add-run-lts.Need-enum-known-p (add-run-calls t) (add-run-at t) add-run.Post add-run-Inv-loop add-run-μ-loop
   add-run-enum-known-p c = search needs
@@ -381,8 +347,15 @@ module _ (t : ℕ) where
 
   add-run-loop-again : add-run-lts.Need-loop-again (add-run-calls t) (add-run-at t) add-run.Post add-run-Inv-loop add-run-μ-loop
   add-run-loop-again c =
-      let u = c .before .before .before .before .before .before .before .before .before .before .before .before .before .loop .inv in
-      (u .0, c .before .before .before .before .before .before .before .add-item .kept .0 ∙ u .1, c .before .before .before .before .before .before .before .add-item .kept .1 .1 .1 .1 .1 .1 .1 .1 .0 ∙ u .2, again c)
+      let k = c .before .before .before .before .before .before .before in
+      let j = read k in
+      let v = state (j .before) .loop .inv in (
+        v .0,
+        k .add-item .kept .0 ∙ v .1,
+        k .add-item .kept .1 .1 .1 .1 .1 .1 .1 .1 .0 ∙ v .2,
+        λ f q free vs h r.
+            turn-added (v .3 f q free vs h r) (r .short) (more (j .before)) (j .read-item .ensures) _ _ _ _ (c .before .p .given .1) (added k f q free vs h r),
+      )
 
   add-run-same-length-3 : add-run-lts.Need-same-length-3 (add-run-calls t) (add-run-at t) add-run.Post add-run-Inv-loop add-run-μ-loop
   add-run-same-length-3 c = c .before .loop .inv .1
