@@ -1,6 +1,6 @@
 -- A run of values is added item by item, and an item with the run below it.
-use mathlib.Core.Path.{_≡_, refl, _∙_}
-use mathlib.Core.Bool.{cond}
+use mathlib.Core.Path.{_≡_, refl, sym, ap, _∙_}
+use mathlib.Core.Bool.{Bool, cond}
 use mathlib.Core.List.{List, _++_}
 use Prim.Native.Nat.{ℕ, _+_, _*_, _-_, _/_, _≤_, _<_}
 use native.Mathlib.Omega.{arith}
@@ -10,7 +10,7 @@ use borrow.Author.Needs.{needs}
 use borrow.Rule.Slice.PartMut.{putMid, same-len-mid}
 use Rattle.value_table.specs.Value.{recordKind, Values}
 use Rattle.counting_type.specs.Trie.{size, add}
-use Rattle.counting_type.specs.Label.{Label, Counting, CountingType}
+use Rattle.counting_type.specs.Label.{Equivalence, Label, Counting, CountingType}
 use Rattle.counting_type.specs.Raw.{raw}
 use Rattle.counting_type.specs.Encoding.{encode}
 use Rattle.counting_type.specs.Checker.{under}
@@ -26,8 +26,8 @@ use Rattle.counting_type.proofs.inferring.+add_item+add_run.Lts-add_ite
 use Rattle.counting_type.proofs.inferring.add_run.Reads as add-run
 use Rattle.counting_type.proofs.inferring.add_run.Kinds as add-run-kinds
 use Rattle.counting_type.proofs.inferring.+add_item+add_run.Lts-add_run as add-run-lts
-use Rattle.counting_type.proofs.placing.locate.Reads as locate-reads
 use Rattle.counting_type.proofs.inferring.read_item.Reads as read-item-reads
+use Rattle.counting_type.proofs.placing.locate.Reads as locate-reads
 use Rattle.counting_type.proofs.type_record.span_at.Reads as span-at-reads
 use Rattle.counting_type.proofs.type_store.put32.Reads as put32-reads
 use Rattle.counting_type.proofs.inferring.+add_item+add_run.{statement}
@@ -131,11 +131,20 @@ module _ (t : ℕ) where
   add-item-locate-requires : add-item-lts.Need-locate-requires (add-item-calls t) (add-item-at t) add-item.Post
   add-item-locate-requires c κs = c .before .before .before .before .before .pre .1
 
+  add-item-enum-known-p : add-item-lts.Need-enum-known-p (add-item-calls t) (add-item-at t) add-item.Post
+  add-item-enum-known-p c = search needs
+
   add-item-enum-told : add-item-lts.Need-enum-told (add-item-calls t) (add-item-at t) add-item.Post
   add-item-enum-told c = search needs
 
-  add-item-enum-known-p : add-item-lts.Need-enum-known-p (add-item-calls t) (add-item-at t) add-item.Post
-  add-item-enum-known-p c = search needs
+  add-item-same-length : add-item-lts.Need-same-length (add-item-calls t) (add-item-at t) add-item.Post
+  add-item-same-length c = c .before .before .before .before .before .before .locate .kept .0
+
+  add-item-same-length-2 : add-item-lts.Need-same-length-2 (add-item-calls t) (add-item-at t) add-item.Post
+  add-item-same-length-2 c = c .before .before .before .before .before .before .locate .kept .1 .1 .1 .1 .1 .1 .1 .1 .0
+
+  add-item-returns : add-item-lts.Need-returns (add-item-calls t) (add-item-at t) add-item.Post
+  add-item-returns c field f q free vs h s r = rw (c .enum-told .given .1) at (c .before .before .before .before .before .before .locate .ensures field f q free vs h s r)
 
   add-item-span-at-requires : add-item-lts.Need-span-at-requires (add-item-calls t) (add-item-at t) add-item.Post
   add-item-span-at-requires c κs = omega (arith, bound (c .before))
@@ -145,6 +154,15 @@ module _ (t : ℕ) where
 
   add-item-add-inner : add-item-lts.Need-add-inner (add-item-calls t) (add-item-at t) add-item.Post
   add-item-add-inner c = omega (arith, bound (at c))
+
+  add-item-add-behind : add-item-lts.Need-add-behind (add-item-calls t) (add-item-at t) add-item.Post
+  add-item-add-behind c = omega (arith, bound (at c), numbers c)
+
+  add-item-sub-behind : add-item-lts.Need-sub-behind (add-item-calls t) (add-item-at t) add-item.Post
+  add-item-sub-behind c = omega (arith, bound (at c), numbers c)
+
+  add-item-sub-behind-2 : add-item-lts.Need-sub-behind-2 (add-item-calls t) (add-item-at t) add-item.Post
+  add-item-sub-behind-2 c = omega (arith, bound (at c), numbers c)
 
   add-item-sub-add-run : add-item-lts.Need-sub-add-run (add-item-calls t) (add-item-at t) add-item.Post
   add-item-sub-add-run c = omega (arith, bound (at c))
@@ -156,16 +174,7 @@ module _ (t : ℕ) where
   add-item-part-add-run-end c = omega (arith, bound (at c))
 
   add-item-sub-add-run-2 : add-item-lts.Need-sub-add-run-2 (add-item-calls t) (add-item-at t) add-item.Post
-  add-item-sub-add-run-2 c = omega (arith, bound (at (c .before)), numbers (c .before))
-
-  add-item-add-add-run : add-item-lts.Need-add-add-run (add-item-calls t) (add-item-at t) add-item.Post
-  add-item-add-add-run c = omega (arith, bound (at (c .before)), numbers (c .before))
-
-  add-item-sub-add-run-3 : add-item-lts.Need-sub-add-run-3 (add-item-calls t) (add-item-at t) add-item.Post
-  add-item-sub-add-run-3 c = omega (arith, bound (at (c .before)), numbers (c .before))
-
-  add-item-sub-add-run-4 : add-item-lts.Need-sub-add-run-4 (add-item-calls t) (add-item-at t) add-item.Post
-  add-item-sub-add-run-4 c = omega (arith, bound (at (c .before)), numbers (c .before))
+  add-item-sub-add-run-2 c = omega (arith, numbers (c .before))
 
   add-item-add-run-requires : add-item-lts.Need-add-run-requires (add-item-calls t) (add-item-at t) add-item.Post
   add-item-add-run-requires c κs =
@@ -176,38 +185,11 @@ module _ (t : ℕ) where
         (record { f = _; q = _; free = _; holds = inner sp (asked (at sp)) }, s .pre .1 .1, simp (length-take, length-drop) (omega (arith, s .pre .1 .2, k .kept .0, k .kept .1 .1 .1 .1 .1 .1 .1 .1 .0))),
       )
 
-  add-item-enum-told-2 : add-item-lts.Need-enum-told-2 (add-item-calls t) (add-item-at t) add-item.Post
-  add-item-enum-told-2 c = search needs
-
   add-item-enum-known-size : add-item-lts.Need-enum-known-size (add-item-calls t) (add-item-at t) add-item.Post
   add-item-enum-known-size c = search needs
 
-  add-item-add-put32 : add-item-lts.Need-add-put32 (add-item-calls t) (add-item-at t) add-item.Post
-  add-item-add-put32 c = omega (arith, small c, bound (at (sp c)))
-
-  add-item-add-put32-2 : add-item-lts.Need-add-put32-2 (add-item-calls t) (add-item-at t) add-item.Post
-  add-item-add-put32-2 c = omega (arith, small c, bound (at (sp c)))
-
-  add-item-put32-requires : add-item-lts.Need-put32-requires (add-item-calls t) (add-item-at t) add-item.Post
-  add-item-put32-requires c κs = omega (arith, small c, same c)
-
-  add-item-add-t40 : add-item-lts.Need-add-t40 (add-item-calls t) (add-item-at t) add-item.Post
-  add-item-add-t40 c = let i = c .before .before .before in omega (arith, small i, numbers (sp i), bound (at (sp i)))
-
-  add-item-add-t41 : add-item-lts.Need-add-t41 (add-item-calls t) (add-item-at t) add-item.Post
-  add-item-add-t41 c = let i = c .before .before .before in omega (arith, small i, numbers (sp i), bound (at (sp i)))
-
-  add-item-sub-t42 : add-item-lts.Need-sub-t42 (add-item-calls t) (add-item-at t) add-item.Post
-  add-item-sub-t42 c = let i = c .before .before .before in omega (arith, small i, numbers (sp i), bound (at (sp i)))
-
-  add-item-same-length : add-item-lts.Need-same-length (add-item-calls t) (add-item-at t) add-item.Post
-  add-item-same-length c = c .before .before .before .before .before .before .locate .kept .0
-
-  add-item-same-length-2 : add-item-lts.Need-same-length-2 (add-item-calls t) (add-item-at t) add-item.Post
-  add-item-same-length-2 c = c .before .before .before .before .before .before .locate .kept .1 .1 .1 .1 .1 .1 .1 .1 .0
-
-  add-item-returns : add-item-lts.Need-returns (add-item-calls t) (add-item-at t) add-item.Post
-  add-item-returns c field f q free vs h s r = rw (c .enum-told .given .1) at (c .before .before .before .before .before .before .locate .ensures field f q free vs h s r)
+  add-item-enum-told-2 : add-item-lts.Need-enum-told-2 (add-item-calls t) (add-item-at t) add-item.Post
+  add-item-enum-told-2 c = search needs
 
   add-item-same-length-3 : add-item-lts.Need-same-length-3 (add-item-calls t) (add-item-at t) add-item.Post
   add-item-same-length-3 c =
@@ -224,6 +206,24 @@ module _ (t : ℕ) where
       let x : Asked (at i) = record { field = field; f = f; q = q; free = free; vs = vs; holds = h; starts = s; run = r } in
       step-full f _ (h .used) (short (at i)) (counted (at i) x) _ (span i x) (add Counting (material i x)) (k .last .0)
       (added-full _ _ _ (k .last .0) _ (c .enum-told2 .given .1) (k .ensures _ _ _ vs (inner i x) r))
+
+  add-item-add-put32 : add-item-lts.Need-add-put32 (add-item-calls t) (add-item-at t) add-item.Post
+  add-item-add-put32 c = omega (arith, small c, bound (at (sp c)))
+
+  add-item-add-put32-2 : add-item-lts.Need-add-put32-2 (add-item-calls t) (add-item-at t) add-item.Post
+  add-item-add-put32-2 c = omega (arith, small c, bound (at (sp c)))
+
+  add-item-put32-requires : add-item-lts.Need-put32-requires (add-item-calls t) (add-item-at t) add-item.Post
+  add-item-put32-requires c κs = omega (arith, small c, same c)
+
+  add-item-add-t25 : add-item-lts.Need-add-t25 (add-item-calls t) (add-item-at t) add-item.Post
+  add-item-add-t25 c = let i = c .before .before .before in omega (arith, small i, numbers (sp i), bound (at (sp i)))
+
+  add-item-add-t26 : add-item-lts.Need-add-t26 (add-item-calls t) (add-item-at t) add-item.Post
+  add-item-add-t26 c = let i = c .before .before .before in omega (arith, small i, numbers (sp i), bound (at (sp i)))
+
+  add-item-sub-t36 : add-item-lts.Need-sub-t36 (add-item-calls t) (add-item-at t) add-item.Post
+  add-item-sub-t36 c = let i = c .before .before .before in omega (arith, small i, numbers (sp i), bound (at (sp i)))
 
   add-item-same-length-5 : add-item-lts.Need-same-length-5 (add-item-calls t) (add-item-at t) add-item.Post
   add-item-same-length-5 c = c .before .before .put32 .kept .0 ∙ same (c .before .before .before) ∙ c .before .before .before .before .before .before .before .before .before .before .before .before .before .before .before .before .before .before .before .before .before .before .before .locate .kept .0
@@ -324,6 +324,9 @@ module _ (t : ℕ) where
         ),
       )
 
+  add-run-enum-known-p : add-run-lts.Need-enum-known-p (add-run-calls t) (add-run-at t) add-run.Post add-run-Inv-loop add-run-μ-loop
+  add-run-enum-known-p c = search needs
+
   add-run-enum-told : add-run-lts.Need-enum-told (add-run-calls t) (add-run-at t) add-run.Post add-run-Inv-loop add-run-μ-loop
   add-run-enum-told c = search needs
 
@@ -339,9 +342,6 @@ module _ (t : ℕ) where
       let j = read k in
       turn-full (state (j .before) .loop .inv .3 f q free vs h r) (r .short) (more (j .before)) (j .read-item .ensures) _ _ _ (c .enum-told .given .1) (added k f q free vs h r)
 
-  add-run-enum-known-p : add-run-lts.Need-enum-known-p (add-run-calls t) (add-run-at t) add-run.Post add-run-Inv-loop add-run-μ-loop
-  add-run-enum-known-p c = search needs
-
   add-run-loop-less : add-run-lts.Need-loop-less (add-run-calls t) (add-run-at t) add-run.Post add-run-Inv-loop add-run-μ-loop
   add-run-loop-less c = omega (arith, order (c .before .before .before .before .before .before .before .before .before .before .before), c .before .before .before .before .before .before .before .before .before .before .before .before .before .loop .inv .0)
 
@@ -349,13 +349,9 @@ module _ (t : ℕ) where
   add-run-loop-again c =
       let k = c .before .before .before .before .before .before .before in
       let j = read k in
-      let v = state (j .before) .loop .inv in (
-        v .0,
-        k .add-item .kept .0 ∙ v .1,
-        k .add-item .kept .1 .1 .1 .1 .1 .1 .1 .1 .0 ∙ v .2,
-        λ f q free vs h r.
-            turn-added (v .3 f q free vs h r) (r .short) (more (j .before)) (j .read-item .ensures) _ _ _ _ (c .before .p .given .1) (added k f q free vs h r),
-      )
+      let v = state (j .before) .loop .inv in
+      (v .0, k .add-item .kept .0 ∙ v .1, k .add-item .kept .1 .1 .1 .1 .1 .1 .1 .1 .0 ∙ v .2, λ f q free vs h r.
+      turn-added (v .3 f q free vs h r) (r .short) (more (j .before)) (j .read-item .ensures) _ _ _ _ (c .before .p .given .1) (added k f q free vs h r))
 
   add-run-same-length-3 : add-run-lts.Need-same-length-3 (add-run-calls t) (add-run-at t) add-run.Post add-run-Inv-loop add-run-μ-loop
   add-run-same-length-3 c = c .before .loop .inv .1
@@ -371,5 +367,5 @@ module _ (t : ℕ) where
 pub +add-item+add-run-spec : {M : Type 1} → statement M
 +add-item+add-run-spec =
     close μ-add-item μ-add-run
-    (λ t. add-item-lts.spec (add-item-calls t) (add-item-at t) add-item.Post (add-item-locate-requires t) (add-item-enum-told t) (add-item-enum-known-p t) (add-item-span-at-requires t) (add-item-mul-o t) (add-item-add-inner t) (add-item-sub-add-run t) (add-item-part-add-run-start t) (add-item-part-add-run-end t) (add-item-sub-add-run-2 t) (add-item-add-add-run t) (add-item-sub-add-run-3 t) (add-item-sub-add-run-4 t) (add-item-add-run-requires t) (add-item-enum-told-2 t) (add-item-enum-known-size t) (add-item-add-put32 t) (add-item-add-put32-2 t) (add-item-put32-requires t) (add-item-add-t40 t) (add-item-add-t41 t) (add-item-sub-t42 t) (add-item-same-length t) (add-item-same-length-2 t) (add-item-returns t) (add-item-same-length-3 t) (add-item-same-length-4 t) (add-item-returns-2 t) (add-item-same-length-5 t) (add-item-same-length-6 t) (add-item-returns-3 t))
-    (λ t. add-run-lts.spec (add-run-calls t) (add-run-at t) add-run.Post add-run-Inv-loop add-run-μ-loop (add-run-loop-holds t) (add-run-read-item-requires t) (add-run-mul-stop t) (add-run-sub-add-item t) (add-run-part-add-item-start t) (add-run-part-add-item-end t) (add-run-add-item-requires t) (add-run-enum-told t) (add-run-same-length t) (add-run-same-length-2 t) (add-run-returns t) (add-run-enum-known-p t) (add-run-loop-less t) (add-run-loop-again t) (add-run-same-length-3 t) (add-run-same-length-4 t) (add-run-returns-2 t))
+    (λ t. add-item-lts.spec (add-item-calls t) (add-item-at t) add-item.Post (add-item-locate-requires t) (add-item-enum-known-p t) (add-item-enum-told t) (add-item-same-length t) (add-item-same-length-2 t) (add-item-returns t) (add-item-span-at-requires t) (add-item-mul-o t) (add-item-add-inner t) (add-item-add-behind t) (add-item-sub-behind t) (add-item-sub-behind-2 t) (add-item-sub-add-run t) (add-item-part-add-run-start t) (add-item-part-add-run-end t) (add-item-sub-add-run-2 t) (add-item-add-run-requires t) (add-item-enum-known-size t) (add-item-enum-told-2 t) (add-item-same-length-3 t) (add-item-same-length-4 t) (add-item-returns-2 t) (add-item-add-put32 t) (add-item-add-put32-2 t) (add-item-put32-requires t) (add-item-add-t25 t) (add-item-add-t26 t) (add-item-sub-t36 t) (add-item-same-length-5 t) (add-item-same-length-6 t) (add-item-returns-3 t))
+    (λ t. add-run-lts.spec (add-run-calls t) (add-run-at t) add-run.Post add-run-Inv-loop add-run-μ-loop (add-run-loop-holds t) (add-run-read-item-requires t) (add-run-mul-stop t) (add-run-sub-add-item t) (add-run-part-add-item-start t) (add-run-part-add-item-end t) (add-run-add-item-requires t) (add-run-enum-known-p t) (add-run-enum-told t) (add-run-same-length t) (add-run-same-length-2 t) (add-run-returns t) (add-run-loop-less t) (add-run-loop-again t) (add-run-same-length-3 t) (add-run-same-length-4 t) (add-run-returns-2 t))
