@@ -11,11 +11,10 @@ pub mod WellFormed
 pub mod Chain
 pub mod OnePass
 pub mod TypeMerge
+pub mod InPlace
 pub mod Equivalence
 pub mod Clear
 pub mod Exact
 pub mod Fronts
 pub mod Ways
 pub mod Trials
-pub mod Inferring
-pub mod InPlace

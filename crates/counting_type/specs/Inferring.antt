@@ -117,17 +117,7 @@ pub record Starts (from : ℕ) (f : CountingType) : Type 0 where
   pub whole : f ≡ append first last
   pub count : from ≡ size first
 
--- the same of some siblings, where one of them starts
-pub record Shown (e : Equivalence) (a : List ℕ) (n from : ℕ) : Type 0 where
-  pub field : Bool
-  pub rest : ℕ
-  pub f : CountingType
-  pub q : List ℕ
-  pub free : List ℕ
-  pub holds : Holds e field a n rest f q free
-  pub starts : Starts from f
-
--- the same with the records in use behind them: to be added to from where one of them starts, or from the first
+-- the same of some siblings, where one of them starts: to be added to, or only to be searched
 pub record HeldFrom (e : Equivalence) (a : List ℕ) (n rest from : ℕ) : Type 0 where
   pub field : Bool
   pub f : CountingType
@@ -136,6 +126,11 @@ pub record HeldFrom (e : Equivalence) (a : List ℕ) (n rest from : ℕ) : Type 
   pub holds : Holds e field a n rest f q free
   pub starts : Starts from f
 
+pub record Shown (e : Equivalence) (a : List ℕ) (n from : ℕ) : Type 0 where
+  pub rest : ℕ
+  pub held : HeldFrom e a n rest from
+
+-- some siblings to which a run of values, or of fields, is to be added
 pub record HeldRun (e : Equivalence) (field : Bool) (a : List ℕ) (n rest : ℕ) : Type 0 where
   pub f : CountingType
   pub q : List ℕ

@@ -2,13 +2,14 @@
 mod addend;
 mod checker;
 mod clearing;
-mod merging;
-mod store;
 mod inferring;
 mod key_list;
+mod merging;
 mod placing;
 mod search;
+mod store;
 mod type_record;
+mod type_store;
 
 use checker::well_formed;
 use clearing::clear_from;
@@ -160,4 +161,3 @@ pub fn merge(first: &[u8], second: &[u8], equivalence: u64, arena: &mut [u8]) ->
     clear_from(arena, bytes_written(answered));
     answered
 }
-mod type_store;

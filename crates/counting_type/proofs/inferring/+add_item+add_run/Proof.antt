@@ -1,6 +1,6 @@
 -- A run of values is added item by item, and an item with the run below it.
-use mathlib.Core.Path.{_≡_, refl, sym, ap, _∙_}
-use mathlib.Core.Bool.{Bool, cond}
+use mathlib.Core.Path.{_≡_, refl, _∙_}
+use mathlib.Core.Bool.{cond}
 use mathlib.Core.List.{List, _++_}
 use Prim.Native.Nat.{ℕ, _+_, _*_, _-_, _/_, _≤_, _<_}
 use native.Mathlib.Omega.{arith}
@@ -10,7 +10,7 @@ use borrow.Author.Needs.{needs}
 use borrow.Rule.Slice.PartMut.{putMid, same-len-mid}
 use Rattle.value_table.specs.Value.{recordKind, Values}
 use Rattle.counting_type.specs.Trie.{size, add}
-use Rattle.counting_type.specs.Label.{Equivalence, Label, Counting, CountingType}
+use Rattle.counting_type.specs.Label.{Label, Counting, CountingType}
 use Rattle.counting_type.specs.Raw.{raw}
 use Rattle.counting_type.specs.Encoding.{encode}
 use Rattle.counting_type.specs.Checker.{under}
@@ -349,9 +349,13 @@ module _ (t : ℕ) where
   add-run-loop-again c =
       let k = c .before .before .before .before .before .before .before in
       let j = read k in
-      let v = state (j .before) .loop .inv in
-      (v .0, k .add-item .kept .0 ∙ v .1, k .add-item .kept .1 .1 .1 .1 .1 .1 .1 .1 .0 ∙ v .2, λ f q free vs h r.
-      turn-added (v .3 f q free vs h r) (r .short) (more (j .before)) (j .read-item .ensures) _ _ _ _ (c .before .p .given .1) (added k f q free vs h r))
+      let v = state (j .before) .loop .inv in (
+        v .0,
+        k .add-item .kept .0 ∙ v .1,
+        k .add-item .kept .1 .1 .1 .1 .1 .1 .1 .1 .0 ∙ v .2,
+        λ f q free vs h r.
+            turn-added (v .3 f q free vs h r) (r .short) (more (j .before)) (j .read-item .ensures) _ _ _ _ (c .before .p .given .1) (added k f q free vs h r),
+      )
 
   add-run-same-length-3 : add-run-lts.Need-same-length-3 (add-run-calls t) (add-run-at t) add-run.Post add-run-Inv-loop add-run-μ-loop
   add-run-same-length-3 c = c .before .loop .inv .1

@@ -51,9 +51,7 @@ module _ (c : tie.After-known-told2) where
       omega (arith, missing-within (g .holds) missed-label _ _ (missed (g .field) (g .f) (g .q) (g .free) (g .holds) (g .starts)), holds-length (g .holds))
 
 search-requires : tie.Need-search-requires
-search-requires c κs =
-    let g = c .before .before .before .pre .0 in
-    (record { field = g .field; rest = _; f = g .f; q = g .q; free = g .free; holds = g .holds; starts = g .starts }, c .before .before .before .pre .1)
+search-requires c κs = let g = c .before .before .before .pre in (record { rest = _; held = g .0 }, g .1)
 
 enum-known-p : tie.Need-enum-known-p
 enum-known-p c = search needs

@@ -28,8 +28,8 @@ module _ (c : tie.In-loop Inv-loop μ-loop) where
       Starts (c .before .before .before .before .before .args .from) f → Stop (under (c .before .before .before .before .before .args .label)) (c .before .before .before .before .before .args .b .now) (c .before .before .before .before .before .args .n) l f (c .before .loop .resumed) (c .before .loop .at)
   all field rest f q free h s = stop (h .short) (c .before .loop .inv field rest f q free h s) (c .loop-test .taken)
 
-  one : Stop (under (c .before .before .before .before .before .args .label)) (c .before .before .before .before .before .args .b .now) (c .before .before .before .before .before .args .n) l (c .before .before .before .before .before .pre .0 .f) (c .before .loop .resumed) (c .before .loop .at)
-  one = let g = c .before .before .before .before .before .pre .0 in all (g .field) (g .rest) (g .f) (g .q) (g .free) (g .holds) (g .starts)
+  one : Stop (under (c .before .before .before .before .before .args .label)) (c .before .before .before .before .before .args .b .now) (c .before .before .before .before .before .args .n) l (c .before .before .before .before .before .pre .0 .held .f) (c .before .loop .resumed) (c .before .loop .at)
+  one = let g = c .before .before .before .before .before .pre .0 .held in all (g .field) _ (g .f) (g .q) (g .free) (g .holds) (g .starts)
 
 search-start-requires : tie.Need-search-start-requires Inv-loop μ-loop
 search-start-requires c κs = search needs
