@@ -46,8 +46,8 @@ unfoldable pub leading : ℕ → List ℕ → ℕ
 leading k [] = 0
 leading k (x ∷ xs) = cond (ltb x k) (suc (leading k xs)) 0
 
--- t is the part of a table with the values vs, read as a record's fields where `field` is true. A field's value may also be read by
--- itself; then its key makes no difference.
+-- t is the part of a table with the valid values vs, which stand there as a record's fields or not (asFields), and are read as fields
+-- where `field` is true. A field's value is also read as a run of its own; then its key makes no difference.
 pub record TableRun (field : Bool) (t : List ℕ) (vs : Values) : Type 0 where
   pub bytes : t ≡ table.encode vs
   pub short : length t ≤ maxLength
