@@ -206,6 +206,7 @@ def field_counts():
     yield "second-field-above-record", record(field(1, null(3)), field(2, null(4)), count=3)
     yield "inner-field-below-record", array(below)
     yield "empty-union", record(field(1, count=1))
+    yield "empty-union-count-0", record(field(1, count=0))
     yield "empty-union-before-field", record(field(1, count=1), field(2, null()))
 
 
@@ -270,6 +271,7 @@ def keys():
 def kinds():
     yield "all-zero", [Row(0, 0, 0, 0, 0)]
     yield "kind-0", addend(0, 1)
+    yield "kind-7", addend(FIELD, 1)
     yield "kind-8", addend(8, 1)
     yield "kind-255", addend(255, 1)
     yield "kind-0-in-array", array(addend(0, 1))
