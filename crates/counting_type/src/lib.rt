@@ -21,12 +21,12 @@ ghost use mathlib.Core.List.{[]};
 ghost use Prim.Native.Nat.{_*_, _^_, _<_};
 ghost use lib.ListN.{length};
 ghost use Rattle.value_table.specs.Outcome.{outcomeOfAnswer};
-ghost use Rattle.counting_type.specs.Trie.{reduce};
-ghost use Rattle.counting_type.specs.Label.{Counting};
-ghost use Rattle.counting_type.specs.Encoding.{typeSize, typeOf};
-ghost use Rattle.counting_type.specs.WellFormed.{badTypeLength, IsType};
+ghost use Rattle.counting_theory.specs.Trie.{reduce};
+ghost use Rattle.counting_theory.specs.Label.{Counting};
+ghost use Rattle.counting_theory.specs.Encoding.{typeSize, typeOf};
+ghost use Rattle.counting_theory.specs.WellFormed.{badTypeLength, IsType};
 ghost use Rattle.counting_type.specs.Checker.{under};
-ghost use Rattle.counting_type.specs.Answers.{judgedType, leaves, merged, mergedTypes};
+ghost use Rattle.counting_theory.specs.Answers.{judgedType, leaves, merged, mergedTypes};
 ghost use Rattle.counting_type.specs.Outcomes.{numberOfRefusal, outcomeOf, leftBy, Front};
 
 // Why a call is refused: a length, an unknown equivalence, a malformed first (or only) or second type, a total above the limit, or

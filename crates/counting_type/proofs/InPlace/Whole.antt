@@ -11,12 +11,12 @@ use Rattle.value_table.specs.Acceptance.{Table}
 use Rattle.value_table.proofs.Header as table
 use Rattle.counting_type.specs.declared.inferring.Inferred.{Inferred}
 use Rattle.counting_type.specs.declared.inferring.Inferred.the-variants.{Records, Full}
-use Rattle.counting_type.specs.Trie.{nil, size, add}
-use Rattle.counting_type.specs.Label.{Equivalence, Counting}
-use Rattle.counting_type.specs.Raw.{raw, profileOf}
-use Rattle.counting_type.specs.Encoding.{typeSize, encode}
+use Rattle.counting_theory.specs.Trie.{nil, size, add}
+use Rattle.counting_theory.specs.Label.{Equivalence, Counting}
+use Rattle.counting_theory.specs.Raw.{raw, profileOf}
+use Rattle.counting_theory.specs.Encoding.{typeSize, encode}
 use Rattle.counting_type.specs.Inferring.{TableRun, Holds, Added, InferredIn}
-use Rattle.counting_type.proofs.Encoding.Header.{length-encode}
+use Rattle.counting_theory.proofs.Encoding.Header.{length-encode}
 
 pub table-run : {t : List ℕ} {ms : Values} {n : ℕ} → Table t ms n → TableRun false t ms
 table-run {t} {ms} x =

@@ -2,7 +2,7 @@
 use mathlib.Core.List.{[]}
 use borrow.Author.Needs.{needs}
 use Rattle.counting_type.specs.Checker.{under}
-use Rattle.counting_type.specs.Trie.{nil}
+use Rattle.counting_theory.specs.Trie.{nil}
 use Rattle.counting_type.proofs.InPlace.Whole.{table-run, holds-nothing, inferred-in}
 use Rattle.counting_type.proofs.inferring.infer_type.Statement.{statement}
 use Rattle.counting_type.proofs.inferring.infer_type.Tie as tie
