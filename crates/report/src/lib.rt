@@ -1,11 +1,11 @@
 // The text of the profile program: the report of a type, one line per type record, or the line of a refusal.
 mod decimal;
 mod line;
-mod record;
 mod walk;
 
 use counting_type::answer_of;
 use counting_type::infer_default;
+use counting_type::type_record;
 use decimal::digit_count;
 use decimal::put_text;
 use line::put_number_and;
@@ -26,7 +26,7 @@ pub fn put_report(bytes: &[u8], out: &mut [u8]) -> usize
     requires { ⌜ IsType houseDefault (now bytes) (typeOf houseDefault (now bytes)) × (lineLimit * typeRecords (now bytes) ≤ length (now out)) ⌝ }
     ensures { λ r. ⌜ Front (now (out .entry)) (report (typeOf houseDefault (now (bytes .entry)))) (now (out .exit)) r ⌝ }
 {
-    let n = bytes.len() / record::SIZE;
+    let n = bytes.len() / type_record::SIZE;
     let width = digit_count(largest_count(bytes, n));
     let whole = union_total(bytes, 0, n);
     put_run(bytes, 0, n, 1, whole, width, out, 0)
@@ -50,7 +50,7 @@ pub fn put_profile(input: &[u8], out: &mut [u8; 303104]) -> usize
     let mut work = [0u8; 65536];
     let answer = answer_of(infer_default(input, &mut arena, &mut work));
     if answer.number == 0 {
-        let n = record::SIZE * (answer.count as usize);
+        let n = type_record::SIZE * (answer.count as usize);
         return put_report(&arena[..n], out);
     }
     put_refusal(answer.number as usize, answer.place as usize, out)

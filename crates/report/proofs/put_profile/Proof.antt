@@ -1,7 +1,5 @@
 -- `put_profile` meets its contract.
 use mathlib.Core.Path.{ap, _∙_}
-use mathlib.Core.List.{List}
-use Prim.Native.Nat.{ℕ}
 use native.Mathlib.Omega.{arith}
 use borrow.Author.Needs.{needs}
 use Rattle.report.proofs.Program.{Told, told, told-type, told-place, told-length, told-report, told-refusal, small-number}
