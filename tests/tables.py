@@ -1,7 +1,4 @@
-"""Document 01's trials of call 1, written without the crates: builds each table, judges it by recursive descent, prints a line.
-
-crates/trials/stdout was made by: (python3 tests/tables.py; python3 tests/types.py) > crates/trials/stdout
-"""
+"""Document 01's trials of call 1, written without the crates: builds each table, judges it by recursive descent, prints a line."""
 import struct
 
 NULL, BOOLEAN, NUMBER, STRING, RECORD, ARRAY = range(1, 7)
@@ -201,5 +198,6 @@ def trials():
     yield "wide-repeat", bytes_of(wide(1))
 
 
-for name, table in trials():
-    print(name, *judge(table))
+if __name__ == "__main__":
+    for name, table in trials():
+        print(name, *judge(table))
