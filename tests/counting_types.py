@@ -32,12 +32,16 @@ def judge(data, equivalence):
         return 1, 0, 0
     if equivalence not in (KIND, LABEL):
         return 2, 0, 0
-    rows = [Row(*numbers) for numbers in struct.iter_unpack("<BBHIQ", data)]
+    rows = rows_in(data)
     try:
         union_total(rows, 1, equivalence)
     except Malformed:
         return 8, 0, 0
     return 0, 0, len(rows)
+
+
+def rows_in(data):
+    return [Row(*numbers) for numbers in struct.iter_unpack("<BBHIQ", data)]
 
 
 def split(rows):
