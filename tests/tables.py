@@ -86,6 +86,11 @@ AFTER = messages(value(STRING), null(), value(BOOLEAN))
 FIELDS = record(null(1), value(BOOLEAN, key=2), value(NUMBER, key=3)) + AFTER
 ELEMENTS = array(null(), value(BOOLEAN), value(NUMBER)) + AFTER
 EVERY = value(NULL) + value(BOOLEAN) + value(NUMBER) + value(STRING) + value(RECORD) + value(ARRAY)
+NINE = messages(
+    record(value(NUMBER, key=1), array(value(NUMBER), value(NUMBER), key=2)),
+    record(null(1)),
+    record(array(key=2)),
+)
 EMPTY_ARRAY, EMPTY_RECORD, ONE_NULL = (ARRAY, 0, 1), (RECORD, 0, 1), (NULL, 0, 1)
 
 
@@ -95,14 +100,8 @@ def wide(last_key):
 
 
 def accepted():
-    number = value(NUMBER)
-    nine = messages(
-        record(value(NUMBER, key=1), array(number, number, key=2)),
-        record(null(1)),
-        record(array(key=2)),
-    )
     yield "one-null", null()
-    yield "nine-records", nine
+    yield "nine-records", NINE
     yield "every-kind", EVERY
     yield "keys-in-any-order", record(null(65535), null(1), null(256))
     yield "same-key-inside", record(record(null(1), key=1), null(2))

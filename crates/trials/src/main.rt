@@ -1,4 +1,4 @@
-// Document 01's trials of calls 1, 4 and 5, and every refusal of them: reads the trials, and prints the answer to each as a line.
+// Document 01's trials of the five calls, and every refusal of them: reads the trials, and prints the answer to each as a line.
 mod lines;
 mod notation;
 mod output;

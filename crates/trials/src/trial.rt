@@ -1,5 +1,5 @@
-// A trial builds tables or types, has a call work on them, and prints the answer as a line: name, refusal number, place, count,
-// and for a call that writes a type also how many bytes behind it are not zero, and its records.
+// A trial builds tables or types, has a call work on them, and prints the answer as a line: name, refusal number, place, count. A call
+// that writes a type adds how many bytes behind it and in its working buffer are not zero, and the type.
 use crate::notation::build;
 use crate::output::behind_type;
 use crate::output::nonzero;
@@ -14,6 +14,7 @@ use crate::text::find;
 use crate::text::number_or;
 use crate::text::part;
 use crate::text::word;
+use counting_type::Answered;
 
 // One type record more than a type may have.
 const ROOM: usize = 65552;
@@ -24,24 +25,49 @@ const LARGEST: usize = 65536;
 // What the buffers that a call writes hold beforehand.
 const DIRT: u8 = 165;
 
-fn print_name(head: &[u8], equivalence: u64) {
-    io::write_all(1, word(head, 0));
-    match equivalence {
-        0 => io::write_all(1, b"/kind"),
-        1 => io::write_all(1, b"/label"),
-        2 => io::write_all(1, b"/2"),
-        _ => io::write_all(1, b"/2^64-1"),
-    }
-    ;
-}
-
 // Call 1. The line may name the table's length.
 fn try_table(head: &[u8], records: &[u8]) {
     let mut bytes = [0u8; ROOM];
     let built = start_of(Layout::Value, build(&mut bytes, Layout::Value, records));
     let table = part(&bytes, 0, number_or(head, 1, built));
-    io::write_all(1, word(head, 0));
     print_answer(value_table::answer_of(value_table::judge(table)));
+}
+
+fn infer(call: u8, equivalence: u64, table: &[u8], arena: &mut [u8], work: &mut [u8]) -> Answered {
+    if call == b'3' {
+        return counting_type::infer_default(table, arena, work);
+    }
+    counting_type::infer(table, equivalence, arena, work)
+}
+
+fn infer_into(call: u8, equivalence: u64, table: &[u8], arena: &mut [u8], work: &mut [u8]) {
+    let answer = counting_type::answer_of(infer(call, equivalence, table, arena, work));
+    print_answer(answer);
+    print(nonzero(behind_type(arena, answer.count)));
+    print(nonzero(work));
+    print_type(type_in(arena, answer.count));
+}
+
+// Calls 2 and 3. The line may name the lengths of the arena, of the working buffer and of the table.
+fn try_inference(call: u8, equivalence: u64, head: &[u8], records: &[u8]) {
+    let mut bytes = [0u8; ROOM];
+    let mut arena = [DIRT; ROOM];
+    let mut work = [DIRT; ROOM];
+    let built = start_of(Layout::Value, build(&mut bytes, Layout::Value, records));
+    let table = part(&bytes, 0, number_or(head, 3, built));
+    let length = number_or(head, 1, LARGEST);
+    let work_length = number_or(head, 2, length);
+    if length <= ROOM {
+        if work_length <= ROOM {
+            infer_into(
+                call,
+                equivalence,
+                table,
+                &mut arena[0..length],
+                &mut work[0..work_length],
+            );
+        }
+    }
 }
 
 // Call 4. The line may name the type's length.
@@ -49,14 +75,12 @@ fn try_type(equivalence: u64, head: &[u8], records: &[u8]) {
     let mut bytes = [0u8; ROOM];
     let built = start_of(Layout::Type, build(&mut bytes, Layout::Type, records));
     let judged = part(&bytes, 0, number_or(head, 1, built));
-    print_name(head, equivalence);
     print_answer(counting_type::answer_of(counting_type::judge_type(judged, equivalence)));
 }
 
-fn merge_into(equivalence: u64, head: &[u8], first: &[u8], second: &[u8], arena: &mut [u8]) {
+fn merge_into(equivalence: u64, first: &[u8], second: &[u8], arena: &mut [u8]) {
     let answered = counting_type::merge(first, second, equivalence, arena);
     let answer = counting_type::answer_of(answered);
-    print_name(head, equivalence);
     print_answer(answer);
     print(nonzero(behind_type(arena, answer.count)));
     print_type(type_in(arena, answer.count));
@@ -66,7 +90,7 @@ fn merge_under(equivalence: u64, head: &[u8], first: &[u8], second: &[u8]) {
     let mut arena = [DIRT; ROOM];
     let length = number_or(head, 1, LARGEST);
     if length <= ROOM {
-        merge_into(equivalence, head, first, second, &mut arena[0..length]);
+        merge_into(equivalence, first, second, &mut arena[0..length]);
     }
 }
 
@@ -93,16 +117,38 @@ fn try_merge(equivalence: u64, head: &[u8], records: &[u8]) {
     );
 }
 
+fn takes_equivalence(call: u8) -> bool {
+    match call {
+        b'1' | b'3' => false,
+        _ => true,
+    }
+}
+
+fn print_equivalence(equivalence: u64) {
+    match equivalence {
+        0 => io::write_all(1, b"/kind"),
+        1 => io::write_all(1, b"/label"),
+        2 => io::write_all(1, b"/2"),
+        _ => io::write_all(1, b"/2^64-1"),
+    }
+    ;
+}
+
 fn try_under(call: u8, equivalence: u64, head: &[u8], records: &[u8]) {
+    io::write_all(1, word(head, 0));
+    if takes_equivalence(call) {
+        print_equivalence(equivalence);
+    }
     match call {
         b'1' => try_table(head, records),
         b'4' => try_type(equivalence, head, records),
-        _ => try_merge(equivalence, head, records),
+        b'5' => try_merge(equivalence, head, records),
+        _ => try_inference(call, equivalence, head, records),
     }
     io::write_all(1, b"\n");
 }
 
-// A call is tried under both equivalences, or under two that are unknown; call 1 has none.
+// A call that takes an equivalence is tried under both, or under two that are unknown.
 pub fn try_call(call: u8, equivalences: u8, head: &[u8], records: &[u8]) {
     if equivalences == b'u' {
         try_under(call, 2, head, records);
@@ -110,7 +156,7 @@ pub fn try_call(call: u8, equivalences: u8, head: &[u8], records: &[u8]) {
         return;
     }
     try_under(call, 0, head, records);
-    if call != b'1' {
+    if takes_equivalence(call) {
         try_under(call, 1, head, records);
     }
 }
