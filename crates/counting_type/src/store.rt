@@ -5,7 +5,7 @@ ghost use Prim.Native.Nat.{_+_, _-_, _%_, _^_, _≤_, _<_, min};
 ghost use lib.ListN.{length};
 ghost use lib.Seq.{sets};
 ghost use Rattle.value_table.specs.Number.{bytesOf};
-ghost use Rattle.counting_type.specs.Encoding.{typeSize};
+ghost use Rattle.counting_theory.specs.Encoding.{typeSize};
 ghost use Rattle.counting_type.specs.Merging.{headerOf};
 
 // The lowest byte of v.

@@ -6,8 +6,8 @@ ghost use Prim.Native.Nat.{ℕ, _+_, _≤_, _<_};
 ghost use lib.ListN.{length, take, drop};
 ghost use lib.Seq.{sets};
 ghost use Rattle.value_table.specs.Number.{bytesOf};
-ghost use Rattle.counting_type.specs.Label.{Label};
-ghost use Rattle.counting_type.specs.Encoding.{typeSize, header};
+ghost use Rattle.counting_theory.specs.Label.{Label};
+ghost use Rattle.counting_theory.specs.Encoding.{typeSize, header};
 
 // Stores x in two bytes from p.
 pub fn put16(b: &mut [u8], p: usize, x: usize)

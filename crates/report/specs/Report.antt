@@ -4,11 +4,11 @@ use mathlib.Core.List.{List, [], _++_}
 use Prim.Native.Nat.{ℕ, zero, suc, max}
 use lib.Dec.{eqb}
 use Rattle.value_table.specs.Value.{maxLength, recordKind}
-use Rattle.counting_type.specs.Trie.{nil, node, total}
-use Rattle.counting_type.specs.Label.{Label, Counting, CountingType}
-use Rattle.counting_type.specs.Encoding.{typeOf}
-use Rattle.counting_type.specs.WellFormed.{depthInside}
-use Rattle.counting_type.specs.Answers.{houseDefault, inferredDefault}
+use Rattle.counting_theory.specs.Trie.{nil, node, total}
+use Rattle.counting_theory.specs.Label.{Label, Counting, CountingType}
+use Rattle.counting_theory.specs.Encoding.{typeOf}
+use Rattle.counting_theory.specs.WellFormed.{depthInside}
+use Rattle.counting_theory.specs.Answers.{houseDefault, inferredDefault}
 use Rattle.report.specs.Decimal.{digitCount}
 use Rattle.report.specs.Line.{share, lineOf, refusalLine}
 

@@ -9,8 +9,8 @@ use lib.ListN.{length, drop, set}
 use lib.Seq.{sets, sets-eq}
 use Rattle.value_table.specs.Number.{bytesOf, numberOf, numberAt}
 use Rattle.value_table.proofs.Number.{length-bytesOf}
-use Rattle.counting_type.specs.Label.{Label}
-use Rattle.counting_type.specs.Encoding.{header}
+use Rattle.counting_theory.specs.Label.{Label}
+use Rattle.counting_theory.specs.Encoding.{header}
 
 sets-append : (l xs ys : List ℕ) (p q : ℕ) → q ≡ p + length xs → sets (sets l p xs) q ys ≡ sets l p (xs ++ ys)
 sets-append l [] ys p q e = ap (λ k. sets l k ys) (e ∙ add-zero p)

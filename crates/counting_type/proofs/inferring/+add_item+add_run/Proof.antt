@@ -9,10 +9,10 @@ use lib.ListN.{length, take, drop, length-take, length-drop}
 use borrow.Author.Needs.{needs}
 use borrow.Rule.Slice.PartMut.{putMid, same-len-mid}
 use Rattle.value_table.specs.Value.{recordKind, Values}
-use Rattle.counting_type.specs.Trie.{size, add}
-use Rattle.counting_type.specs.Label.{Label, Counting, CountingType}
-use Rattle.counting_type.specs.Raw.{raw}
-use Rattle.counting_type.specs.Encoding.{encode}
+use Rattle.counting_theory.specs.Trie.{size, add}
+use Rattle.counting_theory.specs.Label.{Label, Counting, CountingType}
+use Rattle.counting_theory.specs.Raw.{raw}
+use Rattle.counting_theory.specs.Encoding.{encode}
 use Rattle.counting_type.specs.Checker.{under}
 use Rattle.counting_type.specs.Inferring.{TableRun, Holds, split, Counted, Grown, labelFor, withItem, AddedAt}
 use Rattle.counting_type.proofs.InPlace.Steps.{Task, step-length, step-within, step-span, step-holds, step-full, step-grown, added-full, added-records, grown-length}

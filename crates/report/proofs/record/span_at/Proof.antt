@@ -1,6 +1,6 @@
 -- `span_at` meets its contract.
 use borrow.Author.Needs.{needs}
-use Rattle.counting_type.specs.Encoding.{typeSpan}
+use Rattle.counting_theory.specs.Encoding.{typeSpan}
 use Rattle.report.proofs.record.span_at.Statement.{statement}
 use Rattle.report.proofs.record.span_at.Tie as tie
 
