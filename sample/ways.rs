@@ -32,7 +32,7 @@ const WAYS: [Way; 6] = [
     Way {
         name: "one table",
         order: |_| {},
-        messages: LONGEST,
+        messages: usize::MAX,
         merges: Merges::AsInferred,
     },
     Way {
@@ -139,6 +139,14 @@ fn messages(mut table: &[u8]) -> Vec<&[u8]> {
     messages
 }
 
+/// Cuts messages into tables. A way has at least one.
+fn tables(messages: &[&[u8]], most: usize) -> Vec<Vec<u8>> {
+    if messages.is_empty() {
+        return vec![Vec::new()];
+    }
+    messages.chunks(most).map(<[_]>::concat).collect()
+}
+
 /// A short digest of some bytes (FNV-1a), to be compared by eye.
 fn digest(bytes: &[u8]) -> u64 {
     bytes.iter().fold(0xcbf2_9ce4_8422_2325, |digest, byte| {
@@ -150,7 +158,7 @@ fn digest(bytes: &[u8]) -> u64 {
 fn go(way: &Way, log: &[u8], fixed: Fixed) -> Result<Vec<u8>, Refusal> {
     let mut messages = messages(log);
     (way.order)(&mut messages);
-    let tables: Vec<Vec<u8>> = messages.chunks(way.messages).map(<[_]>::concat).collect();
+    let tables = tables(&messages, way.messages);
     let result = fixed.bring(&tables, way.merges);
     let number = result.as_ref().err().map_or(0, |refusal| refusal.number());
     let records = result.as_ref().map_or(0, |written| written.records);
@@ -169,14 +177,12 @@ fn compare(log: &[u8], fixed: Fixed) -> bool {
     let ends: Vec<_> = WAYS.iter().map(|way| go(way, log, fixed)).collect();
     let refused = ends.iter().all(Result::is_err);
     let same = ends.iter().all(|end| end.is_ok() && *end == ends[0]);
-    println!(
-        "{}\n",
-        match (same, refused) {
-            (true, _) => "the same bytes each time",
-            (_, true) => "refused each time",
-            _ => "THE WAYS DIFFER",
-        }
-    );
+    let verdict = match (same, refused) {
+        (true, _) => "the same bytes each time",
+        (_, true) => "refused each time",
+        _ => "THE WAYS DIFFER",
+    };
+    println!("{verdict}\n");
     same || refused
 }
 

@@ -3,7 +3,7 @@
 //! The directory of libct.a is a library search path of the compiler: `rustc -L native=target/staticlib`, or for cargo
 //! `RUSTFLAGS="-L native=$PWD/target/staticlib"`. The archive becomes part of this crate's rlib.
 //!
-//! Layouts, places and the profile are document 01's. No call keeps anything, and each answer depends on the call's inputs alone.
+//! Layouts, places and the profile are document 01's. No call keeps anything, and each answer depends on its inputs alone.
 //! Lengths are looked at first, then the equivalence, then the bytes.
 
 pub mod raw;
@@ -20,8 +20,8 @@ pub enum Equivalence {
 /// Why a call refuses its input. A `place` is the value record with the fault, counted from 0.
 #[derive(Clone, Copy, Debug, PartialEq, Eq)]
 pub enum Refusal {
-    /// A length is no multiple of its record size (8 in a table, 16 in a type) or is above 65,536, or the working buffer's length
-    /// is not the arena's.
+    /// A length is no multiple of its record size (8 in a table, 16 in a type) or is above 65,536, or the working buffer's
+    /// length is not the arena's.
     Length,
     /// The equivalence is neither 0 nor 1; only the forms in [`raw`] can be given such a number.
     Equivalence,
@@ -78,7 +78,8 @@ impl Refusal {
 
 /// Call 1. Gives the number of messages of a value table.
 ///
-/// A table with a fault is refused for its first record with one, and there for the smallest number. An empty table is accepted.
+/// A table with a fault is refused for its first record with one, and there for the smallest number. An empty table is
+/// accepted.
 pub fn judge_table(table: &[u8]) -> Result<usize, Refusal> {
     raw::judge_table(table).result()
 }
@@ -111,9 +112,9 @@ pub fn judge_type(bytes: &[u8], equivalence: Equivalence) -> Result<usize, Refus
 
 /// Call 5. Writes the merged type of two at the front of the arena, and gives its number of records.
 ///
-/// The types are just the records in use, and may be the same bytes. The arena may hold any bytes; accepted, it is zero behind the
-/// merged type, refused, all of it is. The first type comes before the second, then the totals, then the room, which is refused
-/// only where the merged type itself has more records than the arena.
+/// The types are just the records in use, and may be the same bytes. The arena may hold any bytes; accepted, it is zero behind
+/// the merged type, refused, all of it is. The first type is judged before the second, then the totals, then the room, which
+/// is refused only where the merged type itself has more records than the arena.
 pub fn merge(
     first: &[u8],
     second: &[u8],
