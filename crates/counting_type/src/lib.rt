@@ -8,7 +8,7 @@ mod merging;
 mod placing;
 mod search;
 mod store;
-mod type_record;
+pub mod type_record;
 mod type_store;
 
 use checker::well_formed;
