@@ -138,6 +138,11 @@ pub record HeldRun (e : Equivalence) (field : Bool) (a : List ℕ) (n rest : ℕ
   pub free : List ℕ
   pub holds : Holds e field a n rest f q free
 
+-- raw material with each count taken w times
+unfoldable pub times : ℕ → CountingType → CountingType
+times w nil = nil
+times w (node l n c s) = node l (w * n) (times w c) (times w s)
+
 -- the siblings around the label l: those before it, its count, its children, and those after it
 pub record Split : Type 0 where
   pub before : CountingType
@@ -154,21 +159,21 @@ unfoldable pub split : Label → CountingType → Split
 split l nil = record { before = nil; count = 0; content = nil; after = nil }
 split l (node k count c s) = splitHere (compareLabel l k) k count c s (split l s)
 
--- one more is counted at l, in record p of the n records of siblings in b
-pub record Counted (x : Split) (l : Label) (q : List ℕ) (p n : ℕ) (b : List ℕ) : Type 0 where
+-- w more are counted at l, in record p of the n records of siblings in b
+pub record Counted (x : Split) (l : Label) (w : ℕ) (q : List ℕ) (p n : ℕ) (b : List ℕ) : Type 0 where
   pub place : p ≡ size (x .before)
   pub count : n ≡ size (x .before) + (1 + (size (x .content) + size (x .after)))
   pub free : List ℕ
-  pub bytes : b ≡ encode (x .before) ++ (header l (1 + size (x .content)) (x .count + 1) ++ (encode (x .content) ++ (encode (x .after) ++ (q ++ free))))
+  pub bytes : b ≡ encode (x .before) ++ (header l (1 + size (x .content)) (x .count + w) ++ (encode (x .content) ++ (encode (x .after) ++ (q ++ free))))
 
 -- that, or b has fewer than the records that are needed
-abbrev pub CountedWithin : ℕ → Split → Label → List ℕ → Put → List ℕ → Type 0
-CountedWithin needed x l q (At p n) b = Counted x l q p n b
-CountedWithin needed x l q NoRoom b = length b < typeSize * needed
+abbrev pub CountedWithin : ℕ → Split → Label → ℕ → List ℕ → Put → List ℕ → Type 0
+CountedWithin needed x l w q (At p n) b = Counted x l w q p n b
+CountedWithin needed x l w q NoRoom b = length b < typeSize * needed
 
 -- with `rest` records in use behind the siblings f, and none yet below the label
-abbrev pub PlacedAt : Label → CountingType → List ℕ → ℕ → Put → List ℕ → Type 0
-PlacedAt l f q rest r b = let x = split l f in CountedWithin (size (x .before) + (1 + (size (x .content) + size (x .after))) + rest) x l q r b
+abbrev pub PlacedAt : Label → ℕ → CountingType → List ℕ → ℕ → Put → List ℕ → Type 0
+PlacedAt l w f q rest r b = let x = split l f in CountedWithin (size (x .before) + (1 + (size (x .content) + size (x .after))) + rest) x l w q r b
 
 -- the siblings g are there, or there is too little room for them
 pub record Grown (g : CountingType) (q : List ℕ) (n : ℕ) (b : List ℕ) : Type 0 where
@@ -188,9 +193,15 @@ Added g q rest (Records n) b = Grown g q n b
 abbrev pub labelFor : Equivalence → ℕ → ℕ → Values → Label
 labelFor e kind key vs = labelOf e kind key (ascending (keys vs))
 
--- the siblings f with that item added
-abbrev pub withItem : Equivalence → ℕ → ℕ → Values → CountingType → CountingType
-withItem e kind key vs f = insert Counting (labelFor e kind key vs) 1 (add Counting (raw e (eqb kind recordKind) vs)) f
+-- the siblings f with that item added w times
+abbrev pub withItem : Equivalence → ℕ → ℕ → ℕ → Values → CountingType → CountingType
+withItem e kind key w vs f = insert Counting (labelFor e kind key vs) w (add Counting (times w (raw e (eqb kind recordKind) vs))) f
+
+-- a weight is at least 1, and no more than a table has bytes, also with the bytes of the run t for each
+pub record Weighed (w : ℕ) (t : List ℕ) : Type 0 where
+  pub some : 1 ≤ w
+  pub small : w ≤ maxLength
+  pub bound : w * length t ≤ maxLength
 
 -- the key list that the label asks for is in w; or the record has more fields than w has room for type records
 abbrev pub LabelListed : Equivalence → ℕ → Values → Listed → List ℕ → Type 0

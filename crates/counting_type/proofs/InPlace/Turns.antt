@@ -3,6 +3,7 @@ use mathlib.Core.Path.{_≡_, refl, sym, _∙_, ap}
 use mathlib.Core.Bool.{Bool, true, false, cond, true≢false}
 use mathlib.Core.List.{List, _++_}
 use Prim.Native.Nat.{ℕ, suc, _+_, _-_, _*_, _≤_, _<_}
+use native.Mathlib.Nat.{mul-one, mul-le-mul-left, le-trans}
 use native.Mathlib.Omega.{arith}
 use lib.Dec.{eqb}
 use lib.ListN.{length, take, drop, length-take, length-drop}
@@ -17,13 +18,13 @@ use Rattle.counting_theory.specs.Label.{Equivalence, fieldKind, Counting, Count
 use Rattle.counting_theory.specs.Raw.{ascending, classOf, raw}
 use Rattle.counting_theory.specs.Encoding.{typeSize}
 use Rattle.counting_theory.specs.Encoding as bytes
-use Rattle.counting_type.specs.Inferring.{TableRun, Siblings, Holds, Starts, split, Grown, AddedAt, labelFor, withItem, ItemAt}
+use Rattle.counting_type.specs.Inferring.{TableRun, Siblings, Holds, Starts, split, Grown, AddedAt, labelFor, times, withItem, Weighed, ItemAt}
 use Rattle.counting_theory.proofs.Label.{counting-laws}
 use Rattle.counting_theory.proofs.Trie.Growth.{add-grows}
 use Rattle.counting_theory.proofs.Tagged.Parts.{listed-field}
 use Rattle.counting_type.proofs.InPlace.Runs.{FirstValue, first-of, none-left}
 use Rattle.counting_type.proofs.InPlace.Splits.{insert-split}
-use Rattle.counting_type.proofs.InPlace.Material.{add-siblings}
+use Rattle.counting_type.proofs.InPlace.Material.{times-siblings}
 
 -- the values below an item: a field's value by itself, or a value's content
 abbrev itemBelow : Bool → ℕ → ℕ → Values → Values
@@ -38,12 +39,22 @@ raw-item e true kind key content next =
     (sym (listed-field e (ascending (keys (value kind key content none)))))
 raw-item e false kind key content next = refl
 
+times-item : (e : Equivalence) (field : Bool) (w kind key : ℕ) (content next : Values) →
+    let k = cond field fieldKind kind in let below = itemBelow field kind key content in
+    times w (raw e field (value kind key content next)) ≡ node (labelFor e k (cond field key 0) below) w (times w (raw e (eqb k recordKind) below)) (times w (raw e field next))
+unfolding times
+times-item e field w kind key content next =
+    let k = cond field fieldKind kind in
+    let below = itemBelow field kind key content in
+    ap (times w) (raw-item e field kind key content next)
+    ∙ ap (λ n. node (labelFor e k (cond field key 0) below) n (times w (raw e (eqb k recordKind) below)) (times w (raw e field next))) (mul-one w)
+
 bit-small : (o : Bool) → cond o 1 0 ≤ 1
 bit-small true = omega arith
 bit-small false = omega arith
 
--- what is left of the run vs from record i on, and the siblings g that it is to be added to
-pub record Ran (e : Equivalence) (field : Bool) (vs : Values) (f : CountingType) (q a t : List ℕ) (m i from : ℕ) : Type 0 where
+-- what is left of the run vs from record i on, and the siblings g that it is to be added to, w times
+pub record Ran (e : Equivalence) (field : Bool) (w : ℕ) (vs : Values) (f : CountingType) (q a t : List ℕ) (m i from : ℕ) : Type 0 where
   pub asFields : Bool
   pub depth : ℕ
   pub left : Values
@@ -56,12 +67,13 @@ pub record Ran (e : Equivalence) (field : Bool) (vs : Values) (f : CountingType)
   pub count : m ≡ size g
   pub siblings : Siblings e field g
   pub starts : Starts from g
-  pub same : add Counting (raw e field left) g ≡ add Counting (raw e field vs) f
+  pub some : 1 ≤ w
+  pub same : add Counting (times w (raw e field left)) g ≡ add Counting (times w (raw e field vs)) f
 
-module _ {e : Equivalence} {field : Bool} {vs : Values} {f : CountingType} {q t : List ℕ} where
-  pub ran-start : {a free : List ℕ} {n rest : ℕ} → Holds e field a n rest f q free → TableRun field t vs → Ran e field vs f q a t n 0 0
+module _ {e : Equivalence} {field : Bool} {w : ℕ} {vs : Values} {f : CountingType} {q t : List ℕ} where
+  pub ran-start : {a free : List ℕ} {n rest : ℕ} → Holds e field a n rest f q free → TableRun field t vs → 1 ≤ w → Ran e field w vs f q a t n 0 0
   unfolding append size
-  ran-start {free = free} h r =
+  ran-start {free = free} h r o =
       record {
         asFields = r .asFields;
         depth = r .depth;
@@ -75,17 +87,18 @@ module _ {e : Equivalence} {field : Bool} {vs : Values} {f : CountingType} {q t 
         count = h .count;
         siblings = h .siblings;
         starts = record { first = nil; last = f; whole = refl; count = refl };
+        some = o;
         same = refl;
       }
 
-  module _ {a : List ℕ} {m i from : ℕ} (x : Ran e field vs f q a t m i from) where
+  module _ {a : List ℕ} {m i from : ℕ} (x : Ran e field w vs f q a t m i from) where
     pub ran-holds : (rest : ℕ) → length q ≡ typeSize * rest → length a ≤ maxLength → Holds e field a m rest (x .g) q (x .free)
     ran-holds rest u short = record { bytes = x .held; count = x .count; used = u; short = short; siblings = x .siblings }
 
-    pub ran-end : length t ≤ recordSize * i → Grown (add Counting (raw e field vs) f) q m a
-    unfolding raw add
+    pub ran-end : length t ≤ recordSize * i → Grown (add Counting (times w (raw e field vs)) f) q m a
+    unfolding raw times add
     ran-end h =
-        let z : x .g ≡ add Counting (raw e field vs) f = rw (none-left t i (x .left) h (x .left-bytes)) at (x .same) in
+        let z : x .g ≡ add Counting (times w (raw e field vs)) f = rw (none-left t i (x .left) h (x .left-bytes)) at (x .same) in
         record { count = x .count ∙ ap size z; free = x .free; bytes = x .held ∙ ap (λ g. bytes.encode g ++ (q ++ x .free)) z }
 
     module _ (short : length t ≤ maxLength) (more : recordSize * i < length t) where
@@ -105,30 +118,30 @@ module _ {e : Equivalence} {field : Bool} {vs : Values} {f : CountingType} {q t 
         item-key : item .key ≡ cond field (v .key) 0
         item-key = y .key-is ∙ ap (λ k. cond field k 0) (v .key-is)
 
-        material : (next : Values) → raw e field (value (v .kind) (v .key) (v .content) next)
-            ≡ node (labelFor e (item .kind) (item .key) below) 1 (raw e (eqb (item .kind) recordKind) below) (raw e field next)
-        material next = rw (item-kind, item-key) (raw-item e field (v .kind) (v .key) (v .content) next)
+        material : (next : Values) → times w (raw e field (value (v .kind) (v .key) (v .content) next))
+            ≡ node (labelFor e (item .kind) (item .key) below) w (times w (raw e (eqb (item .kind) recordKind) below)) (times w (raw e field next))
+        material next = rw (item-kind, item-key) (times-item e field w (v .kind) (v .key) (v .content) next)
 
         abbrev pub grown : CountingType
-        grown = withItem e (item .kind) (item .key) below (x .g)
+        grown = withItem e (item .kind) (item .key) w below (x .g)
 
         grown-siblings : Siblings e field grown
-        unfolding raw add ValidAt
+        unfolding raw times add ValidAt
         grown-siblings =
             rw (material none) at
-            (add-siblings e field (x .asFields) (x .depth) (value (v .kind) (v .key) (v .content) none) (v .proper, v .content-valid, tt) (x .fields) (x .g) (x .siblings))
+            (times-siblings e field (x .asFields) (x .depth) (value (v .kind) (v .key) (v .content) none) (v .proper, v .content-valid, tt) (x .fields) w (x .some) (x .g) (x .siblings))
 
-        grown-same : add Counting (raw e field (v .next)) grown ≡ add Counting (raw e field vs) f
+        grown-same : add Counting (times w (raw e field (v .next))) grown ≡ add Counting (times w (raw e field vs)) f
         unfolding add
-        grown-same = ap (λ r. add Counting r (x .g)) (sym (material (v .next))) ∙ ap (λ us. add Counting (raw e field us) (x .g)) (sym (v .is-value)) ∙ x .same
+        grown-same = ap (λ r. add Counting r (x .g)) (sym (material (v .next))) ∙ ap (λ us. add Counting (times w (raw e field us)) (x .g)) (sym (v .is-value)) ∙ x .same
 
-        pub turn-full : (rest w : ℕ) (a′ : List ℕ) {r : Put} → r ≡ NoRoom → AddedAt grown w q rest r a′ → length a′ < typeSize * (size (add Counting (raw e field vs) f) + rest)
-        turn-full rest w a′ z h =
+        pub turn-full : (rest p : ℕ) (a′ : List ℕ) {r : Put} → r ≡ NoRoom → AddedAt grown p q rest r a′ → length a′ < typeSize * (size (add Counting (times w (raw e field vs)) f) + rest)
+        turn-full rest p a′ z h =
             let k : length a′ < typeSize * (size grown + rest) = rw z at h in
-            omega (arith, add-grows counting-laws (raw e field (v .next)) grown .sizes, ap size grown-same)
+            omega (arith, add-grows counting-laws (times w (raw e field (v .next))) grown .sizes, ap size grown-same)
 
         turn-next : (p k : ℕ) (a′ : List ℕ) → Grown grown q k a′ → p ≡ size (split (labelFor e (item .kind) (item .key) below) (x .g) .before) →
-            Ran e field vs f q a′ t k (item .next) p
+            Ran e field w vs f q a′ t k (item .next) p
         turn-next p k a′ h z =
             record {
               asFields = x .asFields;
@@ -142,15 +155,16 @@ module _ {e : Equivalence} {field : Bool} {vs : Values} {f : CountingType} {q t 
               held = h .bytes;
               count = h .count;
               siblings = grown-siblings;
-              starts = record { first = _; last = _; whole = insert-split _ 1 _ (x .g); count = z };
+              starts = record { first = _; last = _; whole = insert-split _ w _ (x .g); count = z };
+              some = x .some;
               same = grown-same;
             }
 
         pub turn-added : (rest p k : ℕ) (a′ : List ℕ) {r : Put} → r ≡ At p k →
-            AddedAt grown (size (split (labelFor e (item .kind) (item .key) below) (x .g) .before)) q rest r a′ → Ran e field vs f q a′ t k (item .next) p
+            AddedAt grown (size (split (labelFor e (item .kind) (item .key) below) (x .g) .before)) q rest r a′ → Ran e field w vs f q a′ t k (item .next) p
         turn-added rest p k a′ z h =
-            let w : Grown grown q k a′ × (p ≡ size (split (labelFor e (item .kind) (item .key) below) (x .g) .before)) = rw z at h in
-            turn-next p k a′ (w .0) (w .1)
+            let u : Grown grown q k a′ × (p ≡ size (split (labelFor e (item .kind) (item .key) below) (x .g) .before)) = rw z at h in
+            turn-next p k a′ (u .0) (u .1)
 
         -- the part of the table below the item
         pub turn-order : (item .start ≤ recordSize * item .next) × (recordSize * item .next ≤ length t) × (i < item .next)
@@ -172,8 +186,8 @@ module _ {e : Equivalence} {field : Bool} {vs : Values} {f : CountingType} {q t 
               asFields = x .asFields;
               depth = x .depth;
               valid = (v .proper, v .content-valid, tt);
-              fields = λ w. absurd (true≢false (sym w));
-              distinct = λ w. absurd (true≢false (sym w));
+              fields = λ o. absurd (true≢false (sym o));
+              distinct = λ o. absurd (true≢false (sym o));
             })
         below-by false f k z =
             let n : recordSize * item .next - item .start ≡ recordSize * table.size (v .content) = omega (arith, y .next-is, v .span-is) in
@@ -183,8 +197,8 @@ module _ {e : Equivalence} {field : Bool} {vs : Values} {f : CountingType} {q t 
               asFields = eqb (v .kind) recordKind;
               depth = suc (x .depth);
               valid = v .content-valid;
-              fields = λ w. w;
-              distinct = λ w. v .proper .distinct (eqb-true (v .kind) recordKind w);
+              fields = λ o. o;
+              distinct = λ o. v .proper .distinct (eqb-true (v .kind) recordKind o);
             })
 
         pub below-run : TableRun (eqb (item .kind) recordKind) (take (recordSize * item .next - item .start) (drop (item .start) t)) below
@@ -198,3 +212,11 @@ module _ {e : Equivalence} {field : Bool} {vs : Values} {f : CountingType} {q t 
         -- less of the table is below it, or it is a field of which the value is next
         pub turn-measure : 2 * (2 * length (take (recordSize * item .next - item .start) (drop (item .start) t)) + cond (eqb (item .kind) recordKind) 1 0) + 1 < 2 * (2 * length t + cond field 1 0)
         turn-measure = simp (length-take, length-drop) (omega (arith, turn-order, measure-by field item-kind (y .start-is)))
+
+        pub turn-weighed : Weighed w t → Weighed w (take (recordSize * item .next - item .start) (drop (item .start) t))
+        turn-weighed y =
+            record {
+              some = y .some;
+              small = y .small;
+              bound = le-trans (mul-le-mul-left w (simp (length-take, length-drop) (omega (arith, turn-order)))) (y .bound);
+            }

@@ -14,9 +14,9 @@ use Rattle.counting_theory.specs.Label.{Label, Counting, CountingType}
 use Rattle.counting_theory.specs.Raw.{raw}
 use Rattle.counting_theory.specs.Encoding.{encode}
 use Rattle.counting_type.specs.Checker.{under}
-use Rattle.counting_type.specs.Inferring.{TableRun, Holds, split, Counted, Grown, labelFor, withItem, AddedAt}
+use Rattle.counting_type.specs.Inferring.{TableRun, Holds, split, Counted, Grown, labelFor, times, withItem, AddedAt}
 use Rattle.counting_type.proofs.InPlace.Steps.{Task, step-length, step-within, step-span, step-holds, step-full, step-grown, added-full, added-records, grown-length}
-use Rattle.counting_type.proofs.InPlace.Turns.{Ran, ran-start, ran-holds, ran-end, ran-first, below, below-run, turn-full, turn-added, turn-order, turn-measure}
+use Rattle.counting_type.proofs.InPlace.Turns.{Ran, ran-start, ran-holds, ran-end, ran-first, below, below-run, turn-full, turn-added, turn-order, turn-measure, turn-weighed}
 use Rattle.counting_type.proofs.InPlace.Runs.{whole-records}
 use borrow.Fn.Kinds.{In}
 use borrow.Fn.PlainCycle.{Measures, is, falls, and}
@@ -34,10 +34,10 @@ use Rattle.counting_type.proofs.inferring.+add_item+add_run.{statement}
 use Rattle.counting_type.proofs.inferring.+add_item+add_run.Tie.{close}
 
 abbrev μ-add-item : Measures 3 add-item-kinds.ps ℕ
-μ-add-item κs a = 2 * (2 * length (a .1 .1 .1 .1 .1 .1 .0 .now) + cond (eqb (a .1 .1 .1 .1 .0) recordKind) 1 0) + 1
+μ-add-item κs a = 2 * (2 * length (a .1 .1 .1 .1 .1 .1 .1 .0 .now) + cond (eqb (a .1 .1 .1 .1 .0) recordKind) 1 0) + 1
 
 abbrev μ-add-run : Measures 3 add-run-kinds.ps ℕ
-μ-add-run κs a = 2 * (2 * length (a .1 .1 .1 .0 .now) + cond (a .1 .1 .1 .1 .0) 1 0)
+μ-add-run κs a = 2 * (2 * length (a .1 .1 .1 .1 .0 .now) + cond (a .1 .1 .1 .1 .1 .0) 1 0)
 
 abbrev add-item-at : ℕ → In 3 add-item-kinds.ps
 add-item-at t = and 3 add-item-kinds.ps (is 3 add-item-kinds.ps μ-add-item t) add-item.Pre
@@ -80,7 +80,7 @@ module _ (t : ℕ) where
     abbrev arena : List ℕ
     arena = c .before .before .before .before .before .before .before .locate .last .0
 
-    counted : (x : Asked) → Counted (split (label x) (x .f)) (label x) (x .q) place records arena
+    counted : (x : Asked) → Counted (split (label x) (x .f)) (label x) (begun .args .weight) (x .q) place records arena
     counted x = rw (c .before .p .given .1) at (c .before .before .before .before .before .before .before .locate .ensures (x .field) (x .f) (x .q) (x .free) (x .vs) (x .holds) (x .starts) (x .run))
 
     short : length arena ≤ 65536
@@ -107,7 +107,7 @@ module _ (t : ℕ) where
     inner x = step-holds (x .f) _ (x .holds .used) (short at) (counted at x) _ (span x) _ (x .field) (x .holds .siblings)
 
     abbrev material : Asked at → CountingType
-    material x = raw (under (begun at .args .label)) (eqb (begun at .args .kind) recordKind) (x .vs)
+    material x = times (begun at .args .weight) (raw (under (begun at .args .label)) (eqb (begun at .args .kind) recordKind) (x .vs))
 
   -- what is below it has been added
   module _ (c : add-item-lts.After-store32-arg (add-item-calls t) (add-item-at t) add-item.Post) where
@@ -129,7 +129,7 @@ module _ (t : ℕ) where
         omega (arith, grown-length (grown (asked (at sp))), simp (length-take, length-drop) at n, bound (at sp))
 
   add-item-locate-requires : add-item-lts.Need-locate-requires (add-item-calls t) (add-item-at t) add-item.Post
-  add-item-locate-requires c κs = c .before .before .before .before .before .pre .1
+  add-item-locate-requires c κs = let g = c .before .before .before .before .before .pre .1 in (g .0, g .1, g .2, g .3 .some)
 
   add-item-enum-known-p : add-item-lts.Need-enum-known-p (add-item-calls t) (add-item-at t) add-item.Post
   add-item-enum-known-p c = search needs
@@ -141,7 +141,7 @@ module _ (t : ℕ) where
   add-item-same-length c = c .before .before .before .before .before .before .locate .kept .0
 
   add-item-same-length-2 : add-item-lts.Need-same-length-2 (add-item-calls t) (add-item-at t) add-item.Post
-  add-item-same-length-2 c = c .before .before .before .before .before .before .locate .kept .1 .1 .1 .1 .1 .1 .1 .1 .0
+  add-item-same-length-2 c = c .before .before .before .before .before .before .locate .kept .1 .1 .1 .1 .1 .1 .1 .1 .1 .0
 
   add-item-returns : add-item-lts.Need-returns (add-item-calls t) (add-item-at t) add-item.Post
   add-item-returns c field f q free vs h s r = rw (c .enum-told .given .1) at (c .before .before .before .before .before .before .locate .ensures field f q free vs h s r)
@@ -182,7 +182,7 @@ module _ (t : ℕ) where
       let s = begun (at sp) in
       let k = c .before .before .before .before .before .before .before .before .before .before .before .locate in (
         omega (arith, s .pre .0),
-        (record { f = _; q = _; free = _; holds = inner sp (asked (at sp)) }, s .pre .1 .1, simp (length-take, length-drop) (omega (arith, s .pre .1 .2, k .kept .0, k .kept .1 .1 .1 .1 .1 .1 .1 .1 .0))),
+        (record { f = _; q = _; free = _; holds = inner sp (asked (at sp)) }, s .pre .1 .1, simp (length-take, length-drop) (omega (arith, s .pre .1 .2, k .kept .0, k .kept .1 .1 .1 .1 .1 .1 .1 .1 .1 .0)), s .pre .1 .3),
       )
 
   add-item-enum-known-size : add-item-lts.Need-enum-known-size (add-item-calls t) (add-item-at t) add-item.Post
@@ -197,7 +197,7 @@ module _ (t : ℕ) where
       same-len-mid (16 * place i + 16) (length (arena i) - (16 * place i + 16)) (arena i) (c .before .before .before .before .before .before .add-run .last .0) (c .before .before .before .before .before .before .add-run .kept .0) ∙ c .before .before .before .before .before .before .before .before .before .before .before .before .before .before .before .before .before .before .locate .kept .0
 
   add-item-same-length-4 : add-item-lts.Need-same-length-4 (add-item-calls t) (add-item-at t) add-item.Post
-  add-item-same-length-4 c = c .before .before .before .before .before .before .add-run .kept .1 .1 .1 .1 .1 .1 .0 ∙ c .before .before .before .before .before .before .before .before .before .before .before .before .before .before .before .before .before .before .locate .kept .1 .1 .1 .1 .1 .1 .1 .1 .0
+  add-item-same-length-4 c = c .before .before .before .before .before .before .add-run .kept .1 .1 .1 .1 .1 .1 .1 .0 ∙ c .before .before .before .before .before .before .before .before .before .before .before .before .before .before .before .before .before .before .locate .kept .1 .1 .1 .1 .1 .1 .1 .1 .1 .0
 
   add-item-returns-2 : add-item-lts.Need-returns-2 (add-item-calls t) (add-item-at t) add-item.Post
   add-item-returns-2 c field f q free vs h s r =
@@ -216,20 +216,20 @@ module _ (t : ℕ) where
   add-item-store32-requires : add-item-lts.Need-store32-requires (add-item-calls t) (add-item-at t) add-item.Post
   add-item-store32-requires c κs = omega (arith, small c, same c)
 
-  add-item-add-t25 : add-item-lts.Need-add-t25 (add-item-calls t) (add-item-at t) add-item.Post
-  add-item-add-t25 c = let i = c .before .before .before in omega (arith, small i, numbers (sp i), bound (at (sp i)))
-
   add-item-add-t26 : add-item-lts.Need-add-t26 (add-item-calls t) (add-item-at t) add-item.Post
   add-item-add-t26 c = let i = c .before .before .before in omega (arith, small i, numbers (sp i), bound (at (sp i)))
 
-  add-item-sub-t36 : add-item-lts.Need-sub-t36 (add-item-calls t) (add-item-at t) add-item.Post
-  add-item-sub-t36 c = let i = c .before .before .before in omega (arith, small i, numbers (sp i), bound (at (sp i)))
+  add-item-add-t27 : add-item-lts.Need-add-t27 (add-item-calls t) (add-item-at t) add-item.Post
+  add-item-add-t27 c = let i = c .before .before .before in omega (arith, small i, numbers (sp i), bound (at (sp i)))
+
+  add-item-sub-t37 : add-item-lts.Need-sub-t37 (add-item-calls t) (add-item-at t) add-item.Post
+  add-item-sub-t37 c = let i = c .before .before .before in omega (arith, small i, numbers (sp i), bound (at (sp i)))
 
   add-item-same-length-5 : add-item-lts.Need-same-length-5 (add-item-calls t) (add-item-at t) add-item.Post
   add-item-same-length-5 c = c .before .before .store32 .kept .0 ∙ same (c .before .before .before) ∙ c .before .before .before .before .before .before .before .before .before .before .before .before .before .before .before .before .before .before .before .before .before .before .before .locate .kept .0
 
   add-item-same-length-6 : add-item-lts.Need-same-length-6 (add-item-calls t) (add-item-at t) add-item.Post
-  add-item-same-length-6 c = c .before .before .before .before .before .before .before .before .before .before .before .add-run .kept .1 .1 .1 .1 .1 .1 .0 ∙ c .before .before .before .before .before .before .before .before .before .before .before .before .before .before .before .before .before .before .before .before .before .before .before .locate .kept .1 .1 .1 .1 .1 .1 .1 .1 .0
+  add-item-same-length-6 c = c .before .before .before .before .before .before .before .before .before .before .before .add-run .kept .1 .1 .1 .1 .1 .1 .1 .0 ∙ c .before .before .before .before .before .before .before .before .before .before .before .before .before .before .before .before .before .before .before .before .before .before .before .locate .kept .1 .1 .1 .1 .1 .1 .1 .1 .1 .0
 
   add-item-returns-3 : add-item-lts.Need-returns-3 (add-item-calls t) (add-item-at t) add-item.Post
   add-item-returns-3 c field f q free vs h s r =
@@ -239,10 +239,10 @@ module _ (t : ℕ) where
       (step-grown f _ (h .used) (short j) (counted j x) _ (span (sp i) x) (add Counting (material (sp i) x)) _ _ _ (grown i x) (c .before .before .store32 .ensures), counted j x .place)
 
 abbrev add-run-Inv-loop : add-run-lts.InvT-loop
-add-run-Inv-loop a₀ n rest t field label work₀ end m₀ i₀ from₀ a work m i from = (end ≡ length t / 8) × (length a ≡ length a₀) × (length work ≡ length work₀) × ((f : CountingType) (q free : List ℕ) (vs : Values) → Holds (under label) field a₀ n rest f q free → TableRun field t vs → Ran (under label) field vs f q a t m i from)
+add-run-Inv-loop a₀ n rest weight t field label work₀ end m₀ i₀ from₀ a work m i from = (end ≡ length t / 8) × (length a ≡ length a₀) × (length work ≡ length work₀) × ((f : CountingType) (q free : List ℕ) (vs : Values) → Holds (under label) field a₀ n rest f q free → TableRun field t vs → Ran (under label) field weight vs f q a t m i from)
 
 abbrev add-run-μ-loop : add-run-lts.MeasureT-loop
-add-run-μ-loop a₀ n rest t field label work₀ end m₀ i₀ from₀ a work m i from = end - i
+add-run-μ-loop a₀ n rest weight t field label work₀ end m₀ i₀ from₀ a work m i from = end - i
 
 abbrev add-run-calls : ℕ → add-run-lts.Claims
 add-run-calls t = (read-item-reads.Asked, read-item-reads.Learnt, add-item-below t, add-item.Post)
@@ -259,7 +259,7 @@ module _ (t : ℕ) where
     abbrev short-table : length (start .args .t .now) ≤ 65536
     short-table = start .pre .1 .1 .run .short
 
-    one : Ran (under (start .args .label)) (start .args .field) (start .pre .1 .1 .values) (start .pre .1 .0 .f) (start .pre .1 .0 .q) (state .loop .a) (start .args .t .now) (state .loop .m) (state .loop .i) (state .loop .from)
+    one : Ran (under (start .args .label)) (start .args .field) (start .args .weight) (start .pre .1 .1 .values) (start .pre .1 .0 .f) (start .pre .1 .0 .q) (state .loop .a) (start .args .t .now) (state .loop .m) (state .loop .i) (state .loop .from)
     one = let g = start .pre .1 .0 in state .loop .inv .3 (g .f) (g .q) (g .free) (start .pre .1 .1 .values) (g .holds) (start .pre .1 .1 .run)
 
     more : 8 * state .loop .i < length (start .args .t .now)
@@ -283,7 +283,7 @@ module _ (t : ℕ) where
         let x = state (read .before) .loop .inv .3 f q free vs h r in
         let under-item = below x (r .short) (more (read .before)) (read .read-item .ensures) in
         let kind = read .read-item .result .kind in let key = read .read-item .result .key in
-        AddedAt (withItem (under (start (read .before) .args .label)) kind key under-item (x .g)) (size (split (labelFor (under (start (read .before) .args .label)) kind key under-item) (x .g) .before))
+        AddedAt (withItem (under (start (read .before) .args .label)) kind key (start (read .before) .args .weight) under-item (x .g)) (size (split (labelFor (under (start (read .before) .args .label)) kind key under-item) (x .g) .before))
         q (start (read .before) .args .rest) (c .add-item .result) (c .add-item .last .0)
     added f q free vs h r =
         let i = read .before in
@@ -292,7 +292,7 @@ module _ (t : ℕ) where
         c .add-item .ensures (start i .args .field) (x .g) q (x .free) _ (ran-holds x _ (h .used) (omega (arith, h .short, v .1))) (x .starts) (below-run x (r .short) (more i) (read .read-item .ensures))
 
   add-run-loop-holds : add-run-lts.Need-loop-holds (add-run-calls t) (add-run-at t) add-run.Post add-run-Inv-loop add-run-μ-loop
-  add-run-loop-holds c = (refl, refl, refl, λ f q free vs h r. ran-start h r)
+  add-run-loop-holds c = (refl, refl, refl, λ f q free vs h r. ran-start h r (c .before .before .before .pre .1 .3 .some))
 
   add-run-read-item-requires : add-run-lts.Need-read-item-requires (add-run-calls t) (add-run-at t) add-run.Post add-run-Inv-loop add-run-μ-loop
   add-run-read-item-requires c κs = room c
@@ -321,6 +321,7 @@ module _ (t : ℕ) where
           record { field = _; f = x .g; q = g .1 .0 .q; free = x .free; holds = ran-holds x _ (g .1 .0 .holds .used) (omega (arith, g .1 .0 .holds .short, v .1)); starts = x .starts },
           record { values = _; run = below-run x (short-table i) (more i) (j .read-item .ensures) },
           omega (arith, v .1, v .2, g .1 .2),
+          turn-weighed x (short-table i) (more i) (j .read-item .ensures) (g .1 .3),
         ),
       )
 
@@ -334,7 +335,7 @@ module _ (t : ℕ) where
   add-run-same-length c = c .before .before .before .before .before .before .add-item .kept .0 ∙ c .before .before .before .before .before .before .before .before .before .before .before .before .loop .inv .1
 
   add-run-same-length-2 : add-run-lts.Need-same-length-2 (add-run-calls t) (add-run-at t) add-run.Post add-run-Inv-loop add-run-μ-loop
-  add-run-same-length-2 c = c .before .before .before .before .before .before .add-item .kept .1 .1 .1 .1 .1 .1 .1 .1 .0 ∙ c .before .before .before .before .before .before .before .before .before .before .before .before .loop .inv .2
+  add-run-same-length-2 c = c .before .before .before .before .before .before .add-item .kept .1 .1 .1 .1 .1 .1 .1 .1 .1 .0 ∙ c .before .before .before .before .before .before .before .before .before .before .before .before .loop .inv .2
 
   add-run-returns : add-run-lts.Need-returns (add-run-calls t) (add-run-at t) add-run.Post add-run-Inv-loop add-run-μ-loop
   add-run-returns c f q free vs h r =
@@ -352,7 +353,7 @@ module _ (t : ℕ) where
       let v = state (j .before) .loop .inv in (
         v .0,
         k .add-item .kept .0 ∙ v .1,
-        k .add-item .kept .1 .1 .1 .1 .1 .1 .1 .1 .0 ∙ v .2,
+        k .add-item .kept .1 .1 .1 .1 .1 .1 .1 .1 .1 .0 ∙ v .2,
         λ f q free vs h r.
             turn-added (v .3 f q free vs h r) (r .short) (more (j .before)) (j .read-item .ensures) _ _ _ _ (c .before .p .given .1) (added k f q free vs h r),
       )
@@ -371,5 +372,5 @@ module _ (t : ℕ) where
 pub +add-item+add-run-spec : {M : Type 1} → statement M
 +add-item+add-run-spec =
     close μ-add-item μ-add-run
-    (λ t. add-item-lts.spec (add-item-calls t) (add-item-at t) add-item.Post (add-item-locate-requires t) (add-item-enum-known-p t) (add-item-enum-told t) (add-item-same-length t) (add-item-same-length-2 t) (add-item-returns t) (add-item-span-at-requires t) (add-item-mul-o t) (add-item-add-inner t) (add-item-add-behind t) (add-item-sub-behind t) (add-item-sub-behind-2 t) (add-item-sub-add-run t) (add-item-part-add-run-start t) (add-item-part-add-run-end t) (add-item-sub-add-run-2 t) (add-item-add-run-requires t) (add-item-enum-known-size t) (add-item-enum-told-2 t) (add-item-same-length-3 t) (add-item-same-length-4 t) (add-item-returns-2 t) (add-item-add-store32 t) (add-item-add-store32-2 t) (add-item-store32-requires t) (add-item-add-t25 t) (add-item-add-t26 t) (add-item-sub-t36 t) (add-item-same-length-5 t) (add-item-same-length-6 t) (add-item-returns-3 t))
+    (λ t. add-item-lts.spec (add-item-calls t) (add-item-at t) add-item.Post (add-item-locate-requires t) (add-item-enum-known-p t) (add-item-enum-told t) (add-item-same-length t) (add-item-same-length-2 t) (add-item-returns t) (add-item-span-at-requires t) (add-item-mul-o t) (add-item-add-inner t) (add-item-add-behind t) (add-item-sub-behind t) (add-item-sub-behind-2 t) (add-item-sub-add-run t) (add-item-part-add-run-start t) (add-item-part-add-run-end t) (add-item-sub-add-run-2 t) (add-item-add-run-requires t) (add-item-enum-known-size t) (add-item-enum-told-2 t) (add-item-same-length-3 t) (add-item-same-length-4 t) (add-item-returns-2 t) (add-item-add-store32 t) (add-item-add-store32-2 t) (add-item-store32-requires t) (add-item-add-t26 t) (add-item-add-t27 t) (add-item-sub-t37 t) (add-item-same-length-5 t) (add-item-same-length-6 t) (add-item-returns-3 t))
     (λ t. add-run-lts.spec (add-run-calls t) (add-run-at t) add-run.Post add-run-Inv-loop add-run-μ-loop (add-run-loop-holds t) (add-run-read-item-requires t) (add-run-mul-stop t) (add-run-sub-add-item t) (add-run-part-add-item-start t) (add-run-part-add-item-end t) (add-run-add-item-requires t) (add-run-enum-known-p t) (add-run-enum-told t) (add-run-same-length t) (add-run-same-length-2 t) (add-run-returns t) (add-run-loop-less t) (add-run-loop-again t) (add-run-same-length-3 t) (add-run-same-length-4 t) (add-run-returns-2 t))

@@ -2,7 +2,7 @@
 use mathlib.Core.List.{[]}
 use borrow.Author.Needs.{needs}
 use Rattle.counting_theory.specs.Trie.{nil}
-use Rattle.counting_type.proofs.InPlace.Whole.{table-run, holds-nothing, inferred-room, inferred-stored}
+use Rattle.counting_type.proofs.InPlace.Whole.{table-run, holds-nothing, weighed-once, inferred-room, inferred-stored}
 use Rattle.counting_type.proofs.InPlace.Steps.{added-full, added-records}
 use Rattle.counting_type.proofs.inferring.infer_type.Statement.{statement}
 use Rattle.counting_type.proofs.inferring.infer_type.Tie as tie
@@ -13,6 +13,7 @@ add-run-requires c κs =
       record { f = nil; q = []; free = _; holds = holds-nothing _ _ (s .pre .1) },
       record { values = _; run = table-run (s .pre .0 .is-table) },
       s .pre .2,
+      weighed-once _ (table-run (s .pre .0 .is-table) .short),
     )
 
 enum-known-n : tie.Need-enum-known-n
