@@ -14,9 +14,9 @@ use Rattle.counting_theory.specs.Label.{Label, Counting, CountingType}
 use Rattle.counting_theory.specs.Raw.{raw}
 use Rattle.counting_theory.specs.Encoding.{encode}
 use Rattle.counting_type.specs.Checker.{under}
-use Rattle.counting_type.specs.Inferring.{TableRun, Holds, split, Counted, Grown, labelFor, times, withItem, AddedAt}
+use Rattle.counting_type.specs.Inferring.{TableRun, Holds, split, Counted, Grown, labelFor, times, withItem, Weighed, AddedAt}
 use Rattle.counting_type.proofs.InPlace.Steps.{Task, step-length, step-within, step-span, step-holds, step-full, step-grown, added-full, added-records, grown-length}
-use Rattle.counting_type.proofs.InPlace.Turns.{Ran, ran-start, ran-holds, ran-end, ran-first, below, below-run, turn-full, turn-added, turn-order, turn-measure, turn-weighed}
+use Rattle.counting_type.proofs.InPlace.Turns.{Ran, ran-start, ran-holds, ran-end, ran-first, below, below-run, turn-full, turn-added, turn-order, turn-measure, turn-few, turn-weighed}
 use Rattle.counting_type.proofs.InPlace.Runs.{whole-records}
 use borrow.Fn.Kinds.{In}
 use borrow.Fn.PlainCycle.{Measures, is, falls, and}
@@ -27,6 +27,7 @@ use Rattle.counting_type.proofs.inferring.add_run.Reads as add-run
 use Rattle.counting_type.proofs.inferring.add_run.Kinds as add-run-kinds
 use Rattle.counting_type.proofs.inferring.+add_item+add_run.Lts-add_run as add-run-lts
 use Rattle.counting_type.proofs.inferring.read_item.Reads as read-item-reads
+use Rattle.counting_type.proofs.repeats.equal_values.Reads as equal-values-reads
 use Rattle.counting_type.proofs.placing.locate.Reads as locate-reads
 use Rattle.counting_type.proofs.type_record.span_at.Reads as span-at-reads
 use Rattle.counting_type.proofs.store.store32.Reads as store32-reads
@@ -245,7 +246,7 @@ abbrev add-run-μ-loop : add-run-lts.MeasureT-loop
 add-run-μ-loop a₀ n rest weight t field label work₀ end m₀ i₀ from₀ a work m i from = end - i
 
 abbrev add-run-calls : ℕ → add-run-lts.Claims
-add-run-calls t = (read-item-reads.Asked, read-item-reads.Learnt, add-item-below t, add-item.Post)
+add-run-calls t = (read-item-reads.Asked, read-item-reads.Learnt, equal-values-reads.Asked, equal-values-reads.Learnt, add-item-below t, add-item.Post)
 
 module _ (t : ℕ) where
   -- the item at the loop's head
@@ -270,20 +271,36 @@ module _ (t : ℕ) where
 
   -- the order of its numbers
   module _ (c : add-run-lts.After-read-item (add-run-calls t) (add-run-at t) add-run.Post add-run-Inv-loop add-run-μ-loop) where
-    abbrev order : (c .read-item .result .start ≤ 8 * c .read-item .result .next) × (8 * c .read-item .result .next ≤ length (start (c .before) .args .t .now)) × (c .before .before .loop .i < c .read-item .result .next)
+    abbrev order : (c .read-item .result .start ≤ 8 * c .read-item .result .next) × (8 * c .read-item .result .next ≤ length (start (c .before) .args .t .now)) × (c .before .before .loop .i < c .read-item .result .next) × (8 * c .before .before .loop .i ≤ c .read-item .result .start)
     order = turn-order (one (c .before)) (short-table (c .before)) (more (c .before)) (c .read-item .ensures)
+
+  -- the values that equal it
+  module _ (c : add-run-lts.After-equal-values (add-run-calls t) (add-run-at t) add-run.Post add-run-Inv-loop add-run-μ-loop) where
+    abbrev weight : ℕ
+    weight = start (c .before .before) .args .weight * (1 + c .equal-values .result)
+
+    weighed : let x = c .before .read-item .result in Weighed weight (take (8 * x .next - x .start) (drop (x .start) (start (c .before .before) .args .t .now)))
+    weighed =
+        let i = c .before .before in
+        turn-weighed (one i) (short-table i) (more i) (c .before .read-item .ensures) (c .equal-values .result) (c .equal-values .ensures) (start i .pre .1 .3)
+
+    few : 1 + c .equal-values .result ≤ weight
+    few = let i = c .before .before in turn-few (one i) (short-table i) (more i) (c .before .read-item .ensures) (c .equal-values .result) (c .equal-values .ensures)
 
   -- what is said of the siblings after it
   module _ (c : add-run-lts.After-add-item (add-run-calls t) (add-run-at t) add-run.Post add-run-Inv-loop add-run-μ-loop) where
+    abbrev group : add-run-lts.After-equal-values (add-run-calls t) (add-run-at t) add-run.Post add-run-Inv-loop add-run-μ-loop
+    group = c .before .before .before .before
+
     abbrev read : add-run-lts.After-read-item (add-run-calls t) (add-run-at t) add-run.Post add-run-Inv-loop add-run-μ-loop
-    read = c .before .before .before .before
+    read = group .before
 
     added : (f : CountingType) (q free : List ℕ) (vs : Values) (h : Holds (under (start (read .before) .args .label)) (start (read .before) .args .field) (start (read .before) .args .a .now) (start (read .before) .args .n) (start (read .before) .args .rest) f q free)
         (r : TableRun (start (read .before) .args .field) (start (read .before) .args .t .now) vs) →
         let x = state (read .before) .loop .inv .3 f q free vs h r in
         let under-item = below x (r .short) (more (read .before)) (read .read-item .ensures) in
         let kind = read .read-item .result .kind in let key = read .read-item .result .key in
-        AddedAt (withItem (under (start (read .before) .args .label)) kind key (start (read .before) .args .weight) under-item (x .g)) (size (split (labelFor (under (start (read .before) .args .label)) kind key under-item) (x .g) .before))
+        AddedAt (withItem (under (start (read .before) .args .label)) kind key (weight group) under-item (x .g)) (size (split (labelFor (under (start (read .before) .args .label)) kind key under-item) (x .g) .before))
         q (start (read .before) .args .rest) (c .add-item .result) (c .add-item .last .0)
     added f q free vs h r =
         let i = read .before in
@@ -297,21 +314,31 @@ module _ (t : ℕ) where
   add-run-read-item-requires : add-run-lts.Need-read-item-requires (add-run-calls t) (add-run-at t) add-run.Post add-run-Inv-loop add-run-μ-loop
   add-run-read-item-requires c κs = room c
 
+  add-run-equal-values-requires : add-run-lts.Need-equal-values-requires (add-run-calls t) (add-run-at t) add-run.Post add-run-Inv-loop add-run-μ-loop
+  add-run-equal-values-requires c κs = (order c .2, order c .1)
+
   add-run-mul-stop : add-run-lts.Need-mul-stop (add-run-calls t) (add-run-at t) add-run.Post add-run-Inv-loop add-run-μ-loop
-  add-run-mul-stop c = omega (arith, order c, short-table (c .before))
+  add-run-mul-stop c = omega (arith, order (c .before), short-table (c .before .before))
+
+  add-run-add-add-item : add-run-lts.Need-add-add-item (add-run-calls t) (add-run-at t) add-run.Post add-run-Inv-loop add-run-μ-loop
+  add-run-add-add-item c = omega (arith, weighed (c .before) .small, few (c .before))
+
+  add-run-mul-add-item : add-run-lts.Need-mul-add-item (add-run-calls t) (add-run-at t) add-run.Post add-run-Inv-loop add-run-μ-loop
+  add-run-mul-add-item c = omega (arith, weighed (c .before) .small)
 
   add-run-sub-add-item : add-run-lts.Need-sub-add-item (add-run-calls t) (add-run-at t) add-run.Post add-run-Inv-loop add-run-μ-loop
-  add-run-sub-add-item c = omega (arith, order (c .before))
+  add-run-sub-add-item c = omega (arith, order (c .before .before))
 
   add-run-part-add-item-start : add-run-lts.Need-part-add-item-start (add-run-calls t) (add-run-at t) add-run.Post add-run-Inv-loop add-run-μ-loop
-  add-run-part-add-item-start c = omega (arith, order (c .before))
+  add-run-part-add-item-start c = omega (arith, order (c .before .before))
 
   add-run-part-add-item-end : add-run-lts.Need-part-add-item-end (add-run-calls t) (add-run-at t) add-run.Post add-run-Inv-loop add-run-μ-loop
-  add-run-part-add-item-end c = omega (arith, order (c .before))
+  add-run-part-add-item-end c = omega (arith, order (c .before .before))
 
   add-run-add-item-requires : add-run-lts.Need-add-item-requires (add-run-calls t) (add-run-at t) add-run.Post add-run-Inv-loop add-run-μ-loop
   add-run-add-item-requires c κs =
-      let j = c .before .before .before in
+      let k = c .before .before .before in
+      let j = k .before in
       let i = j .before in
       let g = start i .pre in
       let x = one i in
@@ -321,7 +348,7 @@ module _ (t : ℕ) where
           record { field = _; f = x .g; q = g .1 .0 .q; free = x .free; holds = ran-holds x _ (g .1 .0 .holds .used) (omega (arith, g .1 .0 .holds .short, v .1)); starts = x .starts },
           record { values = _; run = below-run x (short-table i) (more i) (j .read-item .ensures) },
           omega (arith, v .1, v .2, g .1 .2),
-          turn-weighed x (short-table i) (more i) (j .read-item .ensures) (g .1 .3),
+          weighed k,
         ),
       )
 
@@ -332,19 +359,30 @@ module _ (t : ℕ) where
   add-run-enum-told c = search needs
 
   add-run-same-length : add-run-lts.Need-same-length (add-run-calls t) (add-run-at t) add-run.Post add-run-Inv-loop add-run-μ-loop
-  add-run-same-length c = c .before .before .before .before .before .before .add-item .kept .0 ∙ c .before .before .before .before .before .before .before .before .before .before .before .before .loop .inv .1
+  add-run-same-length c = let k = c .before .before .before .before .before .before in k .add-item .kept .0 ∙ state (read k .before) .loop .inv .1
 
   add-run-same-length-2 : add-run-lts.Need-same-length-2 (add-run-calls t) (add-run-at t) add-run.Post add-run-Inv-loop add-run-μ-loop
-  add-run-same-length-2 c = c .before .before .before .before .before .before .add-item .kept .1 .1 .1 .1 .1 .1 .1 .1 .1 .0 ∙ c .before .before .before .before .before .before .before .before .before .before .before .before .loop .inv .2
+  add-run-same-length-2 c = let k = c .before .before .before .before .before .before in k .add-item .kept .1 .1 .1 .1 .1 .1 .1 .1 .1 .0 ∙ state (read k .before) .loop .inv .2
 
   add-run-returns : add-run-lts.Need-returns (add-run-calls t) (add-run-at t) add-run.Post add-run-Inv-loop add-run-μ-loop
   add-run-returns c f q free vs h r =
       let k = c .before .before .before .before .before .before in
       let j = read k in
-      turn-full (state (j .before) .loop .inv .3 f q free vs h r) (r .short) (more (j .before)) (j .read-item .ensures) _ _ _ (c .enum-told .given .1) (added k f q free vs h r)
+      turn-full (state (j .before) .loop .inv .3 f q free vs h r) (r .short) (more (j .before)) (j .read-item .ensures) (group k .equal-values .result) (group k .equal-values .ensures) _ _ _ (c .enum-told .given .1) (added k f q free vs h r)
+
+  add-run-sub-i : add-run-lts.Need-sub-i (add-run-calls t) (add-run-at t) add-run.Post add-run-Inv-loop add-run-μ-loop
+  add-run-sub-i c = let k = c .before .before .before .before .before .before .before in omega (arith, order (read k))
+
+  add-run-mul-i : add-run-lts.Need-mul-i (add-run-calls t) (add-run-at t) add-run.Post add-run-Inv-loop add-run-μ-loop
+  add-run-mul-i c = let k = c .before .before .before .before .before .before .before in omega (arith, group k .equal-values .ensures .within, short-table (read k .before))
+
+  add-run-add-i : add-run-lts.Need-add-i (add-run-calls t) (add-run-at t) add-run.Post add-run-Inv-loop add-run-μ-loop
+  add-run-add-i c = let k = c .before .before .before .before .before .before .before in omega (arith, group k .equal-values .ensures .within, short-table (read k .before))
 
   add-run-loop-less : add-run-lts.Need-loop-less (add-run-calls t) (add-run-at t) add-run.Post add-run-Inv-loop add-run-μ-loop
-  add-run-loop-less c = omega (arith, order (c .before .before .before .before .before .before .before .before .before .before .before), c .before .before .before .before .before .before .before .before .before .before .before .before .before .loop .inv .0)
+  add-run-loop-less c =
+      let k = c .before .before .before .before .before .before .before in
+      omega (arith, order (read k), group k .equal-values .ensures .within, state (read k .before) .loop .inv .0)
 
   add-run-loop-again : add-run-lts.Need-loop-again (add-run-calls t) (add-run-at t) add-run.Post add-run-Inv-loop add-run-μ-loop
   add-run-loop-again c =
@@ -355,7 +393,7 @@ module _ (t : ℕ) where
         k .add-item .kept .0 ∙ v .1,
         k .add-item .kept .1 .1 .1 .1 .1 .1 .1 .1 .1 .0 ∙ v .2,
         λ f q free vs h r.
-            turn-added (v .3 f q free vs h r) (r .short) (more (j .before)) (j .read-item .ensures) _ _ _ _ (c .before .p .given .1) (added k f q free vs h r),
+            turn-added (v .3 f q free vs h r) (r .short) (more (j .before)) (j .read-item .ensures) (group k .equal-values .result) (group k .equal-values .ensures) _ _ _ _ (c .before .p .given .1) (added k f q free vs h r),
       )
 
   add-run-same-length-3 : add-run-lts.Need-same-length-3 (add-run-calls t) (add-run-at t) add-run.Post add-run-Inv-loop add-run-μ-loop
@@ -373,4 +411,4 @@ pub +add-item+add-run-spec : {M : Type 1} → statement M
 +add-item+add-run-spec =
     close μ-add-item μ-add-run
     (λ t. add-item-lts.spec (add-item-calls t) (add-item-at t) add-item.Post (add-item-locate-requires t) (add-item-enum-known-p t) (add-item-enum-told t) (add-item-same-length t) (add-item-same-length-2 t) (add-item-returns t) (add-item-span-at-requires t) (add-item-mul-o t) (add-item-add-inner t) (add-item-add-behind t) (add-item-sub-behind t) (add-item-sub-behind-2 t) (add-item-sub-add-run t) (add-item-part-add-run-start t) (add-item-part-add-run-end t) (add-item-sub-add-run-2 t) (add-item-add-run-requires t) (add-item-enum-known-size t) (add-item-enum-told-2 t) (add-item-same-length-3 t) (add-item-same-length-4 t) (add-item-returns-2 t) (add-item-add-store32 t) (add-item-add-store32-2 t) (add-item-store32-requires t) (add-item-add-t26 t) (add-item-add-t27 t) (add-item-sub-t37 t) (add-item-same-length-5 t) (add-item-same-length-6 t) (add-item-returns-3 t))
-    (λ t. add-run-lts.spec (add-run-calls t) (add-run-at t) add-run.Post add-run-Inv-loop add-run-μ-loop (add-run-loop-holds t) (add-run-read-item-requires t) (add-run-mul-stop t) (add-run-sub-add-item t) (add-run-part-add-item-start t) (add-run-part-add-item-end t) (add-run-add-item-requires t) (add-run-enum-known-p t) (add-run-enum-told t) (add-run-same-length t) (add-run-same-length-2 t) (add-run-returns t) (add-run-loop-less t) (add-run-loop-again t) (add-run-same-length-3 t) (add-run-same-length-4 t) (add-run-returns-2 t))
+    (λ t. add-run-lts.spec (add-run-calls t) (add-run-at t) add-run.Post add-run-Inv-loop add-run-μ-loop (add-run-loop-holds t) (add-run-read-item-requires t) (add-run-equal-values-requires t) (add-run-mul-stop t) (add-run-add-add-item t) (add-run-mul-add-item t) (add-run-sub-add-item t) (add-run-part-add-item-start t) (add-run-part-add-item-end t) (add-run-add-item-requires t) (add-run-enum-known-p t) (add-run-enum-told t) (add-run-same-length t) (add-run-same-length-2 t) (add-run-returns t) (add-run-sub-i t) (add-run-mul-i t) (add-run-add-i t) (add-run-loop-less t) (add-run-loop-again t) (add-run-same-length-3 t) (add-run-same-length-4 t) (add-run-returns-2 t))
