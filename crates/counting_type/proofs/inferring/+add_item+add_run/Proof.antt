@@ -15,7 +15,7 @@ use Rattle.counting_theory.specs.Raw.{raw}
 use Rattle.counting_theory.specs.Encoding.{encode}
 use Rattle.counting_type.specs.Checker.{under}
 use Rattle.counting_type.specs.Inferring.{TableRun, Holds, split, Counted, Grown, labelFor, times, withItem, Weighed, AddedAt}
-use Rattle.counting_type.proofs.InPlace.Steps.{Task, step-length, step-within, step-span, step-holds, step-full, step-grown, added-full, added-records, grown-length}
+use Rattle.counting_type.proofs.InPlace.Steps.{Task, step-length, step-within, step-span, step-empty, nothing-added, step-holds, step-full, step-grown, added-full, added-records, grown-length}
 use Rattle.counting_type.proofs.InPlace.Turns.{Ran, ran-start, ran-holds, ran-end, ran-first, below, below-run, turn-full, turn-added, turn-order, turn-measure, turn-few, turn-weighed}
 use Rattle.counting_type.proofs.InPlace.Runs.{whole-records}
 use borrow.Fn.Kinds.{In}
@@ -84,8 +84,14 @@ module _ (t : ℕ) where
     counted : (x : Asked) → Counted (split (label x) (x .f)) (label x) (begun .args .weight) (x .q) place records arena
     counted x = rw (c .before .p .given .1) at (c .before .before .before .before .before .before .before .locate .ensures (x .field) (x .f) (x .q) (x .free) (x .vs) (x .holds) (x .starts) (x .run))
 
+    same-arena : length arena ≡ length (begun .args .a .now)
+    same-arena = c .before .before .before .before .before .before .before .locate .kept .0
+
+    same-work : length (c .before .before .before .before .before .before .before .locate .last .1 .1 .1 .1 .1 .1 .1 .1 .1 .0) ≡ length (begun .args .work .now)
+    same-work = c .before .before .before .before .before .before .before .locate .kept .1 .1 .1 .1 .1 .1 .1 .1 .1 .0
+
     short : length arena ≤ 65536
-    short = omega (arith, asked .holds .short, c .before .before .before .before .before .before .before .locate .kept .0)
+    short = omega (arith, asked .holds .short, same-arena)
 
     bound : (place + 1 ≤ records) × (16 * (records + begun .args .rest) ≤ length arena) × (length arena ≤ 65536)
     bound =
@@ -95,7 +101,7 @@ module _ (t : ℕ) where
   -- its span is read
   module _ (c : add-item-lts.After-span-at (add-item-calls t) (add-item-at t) add-item.Post) where
     abbrev at : add-item-lts.After-known-told (add-item-calls t) (add-item-at t) add-item.Post
-    at = c .before .before
+    at = c .before .before .before
 
     span : (x : Asked at) → c .span-at .result ≡ 1 + size (split (label at x) (x .f) .content)
     span x = c .span-at .ensures .0 ∙ step-span (x .f) _ (x .holds .used) (short at) (counted at x)
@@ -147,8 +153,20 @@ module _ (t : ℕ) where
   add-item-returns : add-item-lts.Need-returns (add-item-calls t) (add-item-at t) add-item.Post
   add-item-returns c field f q free vs h s r = rw (c .enum-told .given .1) at (c .before .before .before .before .before .before .locate .ensures field f q free vs h s r)
 
+  add-item-same-length-3 : add-item-lts.Need-same-length-3 (add-item-calls t) (add-item-at t) add-item.Post
+  add-item-same-length-3 c = same-arena (c .before)
+
+  add-item-same-length-4 : add-item-lts.Need-same-length-4 (add-item-calls t) (add-item-at t) add-item.Post
+  add-item-same-length-4 c = same-work (c .before)
+
+  add-item-returns-2 : add-item-lts.Need-returns-2 (add-item-calls t) (add-item-at t) add-item.Post
+  add-item-returns-2 c field f q free vs h s r =
+      let i = c .before in
+      let x : Asked i = record { field = field; f = f; q = q; free = free; vs = vs; holds = h; starts = s; run = r } in
+      (step-empty f _ (h .used) (short i) (counted i x) _ (nothing-added _ _ (c .if1 .taken) r _ _), counted i x .place)
+
   add-item-span-at-requires : add-item-lts.Need-span-at-requires (add-item-calls t) (add-item-at t) add-item.Post
-  add-item-span-at-requires c κs = omega (arith, bound (c .before))
+  add-item-span-at-requires c κs = omega (arith, bound (c .before .before))
 
   add-item-mul-o : add-item-lts.Need-mul-o (add-item-calls t) (add-item-at t) add-item.Post
   add-item-mul-o c = omega (arith, bound (at c))
@@ -180,10 +198,9 @@ module _ (t : ℕ) where
   add-item-add-run-requires : add-item-lts.Need-add-run-requires (add-item-calls t) (add-item-at t) add-item.Post
   add-item-add-run-requires c κs =
       let sp = c .before .before in
-      let s = begun (at sp) in
-      let k = c .before .before .before .before .before .before .before .before .before .before .before .locate in (
+      let s = begun (at sp) in (
         omega (arith, s .pre .0),
-        (record { f = _; q = _; free = _; holds = inner sp (asked (at sp)) }, s .pre .1 .1, simp (length-take, length-drop) (omega (arith, s .pre .1 .2, k .kept .0, k .kept .1 .1 .1 .1 .1 .1 .1 .1 .1 .0)), s .pre .1 .3),
+        (record { f = _; q = _; free = _; holds = inner sp (asked (at sp)) }, s .pre .1 .1, simp (length-take, length-drop) (omega (arith, s .pre .1 .2, same-arena (at sp), same-work (at sp))), s .pre .1 .3),
       )
 
   add-item-enum-known-size : add-item-lts.Need-enum-known-size (add-item-calls t) (add-item-at t) add-item.Post
@@ -192,16 +209,16 @@ module _ (t : ℕ) where
   add-item-enum-told-2 : add-item-lts.Need-enum-told-2 (add-item-calls t) (add-item-at t) add-item.Post
   add-item-enum-told-2 c = search needs
 
-  add-item-same-length-3 : add-item-lts.Need-same-length-3 (add-item-calls t) (add-item-at t) add-item.Post
-  add-item-same-length-3 c =
+  add-item-same-length-5 : add-item-lts.Need-same-length-5 (add-item-calls t) (add-item-at t) add-item.Post
+  add-item-same-length-5 c =
       let i = at (c .before .before .before .before .before .before .before .before .before) in
-      same-len-mid (16 * place i + 16) (length (arena i) - (16 * place i + 16)) (arena i) (c .before .before .before .before .before .before .add-run .last .0) (c .before .before .before .before .before .before .add-run .kept .0) ∙ c .before .before .before .before .before .before .before .before .before .before .before .before .before .before .before .before .before .before .locate .kept .0
+      same-len-mid (16 * place i + 16) (length (arena i) - (16 * place i + 16)) (arena i) (c .before .before .before .before .before .before .add-run .last .0) (c .before .before .before .before .before .before .add-run .kept .0) ∙ same-arena i
 
-  add-item-same-length-4 : add-item-lts.Need-same-length-4 (add-item-calls t) (add-item-at t) add-item.Post
-  add-item-same-length-4 c = c .before .before .before .before .before .before .add-run .kept .1 .1 .1 .1 .1 .1 .1 .0 ∙ c .before .before .before .before .before .before .before .before .before .before .before .before .before .before .before .before .before .before .locate .kept .1 .1 .1 .1 .1 .1 .1 .1 .1 .0
+  add-item-same-length-6 : add-item-lts.Need-same-length-6 (add-item-calls t) (add-item-at t) add-item.Post
+  add-item-same-length-6 c = c .before .before .before .before .before .before .add-run .kept .1 .1 .1 .1 .1 .1 .1 .0 ∙ same-work (at (c .before .before .before .before .before .before .before .before .before))
 
-  add-item-returns-2 : add-item-lts.Need-returns-2 (add-item-calls t) (add-item-at t) add-item.Post
-  add-item-returns-2 c field f q free vs h s r =
+  add-item-returns-3 : add-item-lts.Need-returns-3 (add-item-calls t) (add-item-at t) add-item.Post
+  add-item-returns-3 c field f q free vs h s r =
       let i = c .before .before .before .before .before .before .before .before .before in
       let k = c .before .before .before .before .before .before .add-run in
       let x : Asked (at i) = record { field = field; f = f; q = q; free = free; vs = vs; holds = h; starts = s; run = r } in
@@ -217,23 +234,23 @@ module _ (t : ℕ) where
   add-item-store32-requires : add-item-lts.Need-store32-requires (add-item-calls t) (add-item-at t) add-item.Post
   add-item-store32-requires c κs = omega (arith, small c, same c)
 
-  add-item-add-t26 : add-item-lts.Need-add-t26 (add-item-calls t) (add-item-at t) add-item.Post
-  add-item-add-t26 c = let i = c .before .before .before in omega (arith, small i, numbers (sp i), bound (at (sp i)))
+  add-item-add-t24 : add-item-lts.Need-add-t24 (add-item-calls t) (add-item-at t) add-item.Post
+  add-item-add-t24 c = let i = c .before .before .before in omega (arith, small i, numbers (sp i), bound (at (sp i)))
 
-  add-item-add-t27 : add-item-lts.Need-add-t27 (add-item-calls t) (add-item-at t) add-item.Post
-  add-item-add-t27 c = let i = c .before .before .before in omega (arith, small i, numbers (sp i), bound (at (sp i)))
+  add-item-add-t28 : add-item-lts.Need-add-t28 (add-item-calls t) (add-item-at t) add-item.Post
+  add-item-add-t28 c = let i = c .before .before .before in omega (arith, small i, numbers (sp i), bound (at (sp i)))
 
-  add-item-sub-t37 : add-item-lts.Need-sub-t37 (add-item-calls t) (add-item-at t) add-item.Post
-  add-item-sub-t37 c = let i = c .before .before .before in omega (arith, small i, numbers (sp i), bound (at (sp i)))
+  add-item-sub-t38 : add-item-lts.Need-sub-t38 (add-item-calls t) (add-item-at t) add-item.Post
+  add-item-sub-t38 c = let i = c .before .before .before in omega (arith, small i, numbers (sp i), bound (at (sp i)))
 
-  add-item-same-length-5 : add-item-lts.Need-same-length-5 (add-item-calls t) (add-item-at t) add-item.Post
-  add-item-same-length-5 c = c .before .before .store32 .kept .0 ∙ same (c .before .before .before) ∙ c .before .before .before .before .before .before .before .before .before .before .before .before .before .before .before .before .before .before .before .before .before .before .before .locate .kept .0
+  add-item-same-length-7 : add-item-lts.Need-same-length-7 (add-item-calls t) (add-item-at t) add-item.Post
+  add-item-same-length-7 c = let i = c .before .before .before in c .before .before .store32 .kept .0 ∙ same i ∙ same-arena (at (sp i))
 
-  add-item-same-length-6 : add-item-lts.Need-same-length-6 (add-item-calls t) (add-item-at t) add-item.Post
-  add-item-same-length-6 c = c .before .before .before .before .before .before .before .before .before .before .before .add-run .kept .1 .1 .1 .1 .1 .1 .1 .0 ∙ c .before .before .before .before .before .before .before .before .before .before .before .before .before .before .before .before .before .before .before .before .before .before .before .locate .kept .1 .1 .1 .1 .1 .1 .1 .1 .1 .0
+  add-item-same-length-8 : add-item-lts.Need-same-length-8 (add-item-calls t) (add-item-at t) add-item.Post
+  add-item-same-length-8 c = let i = c .before .before .before in i .before .before .before .before .before .before .before .before .add-run .kept .1 .1 .1 .1 .1 .1 .1 .0 ∙ same-work (at (sp i))
 
-  add-item-returns-3 : add-item-lts.Need-returns-3 (add-item-calls t) (add-item-at t) add-item.Post
-  add-item-returns-3 c field f q free vs h s r =
+  add-item-returns-4 : add-item-lts.Need-returns-4 (add-item-calls t) (add-item-at t) add-item.Post
+  add-item-returns-4 c field f q free vs h s r =
       let i = c .before .before .before in
       let j = at (sp i) in
       let x : Asked j = record { field = field; f = f; q = q; free = free; vs = vs; holds = h; starts = s; run = r } in
@@ -318,22 +335,22 @@ module _ (t : ℕ) where
   add-run-equal-values-requires c κs = (order c .2, order c .1)
 
   add-run-mul-stop : add-run-lts.Need-mul-stop (add-run-calls t) (add-run-at t) add-run.Post add-run-Inv-loop add-run-μ-loop
-  add-run-mul-stop c = omega (arith, order (c .before), short-table (c .before .before))
+  add-run-mul-stop c = omega (arith, order c, short-table (c .before))
 
-  add-run-add-add-item : add-run-lts.Need-add-add-item (add-run-calls t) (add-run-at t) add-run.Post add-run-Inv-loop add-run-μ-loop
-  add-run-add-add-item c = omega (arith, weighed (c .before) .small, few (c .before))
+  add-run-add-w : add-run-lts.Need-add-w (add-run-calls t) (add-run-at t) add-run.Post add-run-Inv-loop add-run-μ-loop
+  add-run-add-w c = omega (arith, weighed c .small, few c)
 
-  add-run-mul-add-item : add-run-lts.Need-mul-add-item (add-run-calls t) (add-run-at t) add-run.Post add-run-Inv-loop add-run-μ-loop
-  add-run-mul-add-item c = omega (arith, weighed (c .before) .small)
+  add-run-mul-w : add-run-lts.Need-mul-w (add-run-calls t) (add-run-at t) add-run.Post add-run-Inv-loop add-run-μ-loop
+  add-run-mul-w c = omega (arith, weighed c .small)
 
-  add-run-sub-add-item : add-run-lts.Need-sub-add-item (add-run-calls t) (add-run-at t) add-run.Post add-run-Inv-loop add-run-μ-loop
-  add-run-sub-add-item c = omega (arith, order (c .before .before))
+  add-run-sub-below : add-run-lts.Need-sub-below (add-run-calls t) (add-run-at t) add-run.Post add-run-Inv-loop add-run-μ-loop
+  add-run-sub-below c = omega (arith, order (c .before))
 
-  add-run-part-add-item-start : add-run-lts.Need-part-add-item-start (add-run-calls t) (add-run-at t) add-run.Post add-run-Inv-loop add-run-μ-loop
-  add-run-part-add-item-start c = omega (arith, order (c .before .before))
+  add-run-part-below-start : add-run-lts.Need-part-below-start (add-run-calls t) (add-run-at t) add-run.Post add-run-Inv-loop add-run-μ-loop
+  add-run-part-below-start c = omega (arith, order (c .before))
 
-  add-run-part-add-item-end : add-run-lts.Need-part-add-item-end (add-run-calls t) (add-run-at t) add-run.Post add-run-Inv-loop add-run-μ-loop
-  add-run-part-add-item-end c = omega (arith, order (c .before .before))
+  add-run-part-below-end : add-run-lts.Need-part-below-end (add-run-calls t) (add-run-at t) add-run.Post add-run-Inv-loop add-run-μ-loop
+  add-run-part-below-end c = omega (arith, order (c .before))
 
   add-run-add-item-requires : add-run-lts.Need-add-item-requires (add-run-calls t) (add-run-at t) add-run.Post add-run-Inv-loop add-run-μ-loop
   add-run-add-item-requires c κs =
@@ -410,5 +427,5 @@ module _ (t : ℕ) where
 pub +add-item+add-run-spec : {M : Type 1} → statement M
 +add-item+add-run-spec =
     close μ-add-item μ-add-run
-    (λ t. add-item-lts.spec (add-item-calls t) (add-item-at t) add-item.Post (add-item-locate-requires t) (add-item-enum-known-p t) (add-item-enum-told t) (add-item-same-length t) (add-item-same-length-2 t) (add-item-returns t) (add-item-span-at-requires t) (add-item-mul-o t) (add-item-add-inner t) (add-item-add-behind t) (add-item-sub-behind t) (add-item-sub-behind-2 t) (add-item-sub-add-run t) (add-item-part-add-run-start t) (add-item-part-add-run-end t) (add-item-sub-add-run-2 t) (add-item-add-run-requires t) (add-item-enum-known-size t) (add-item-enum-told-2 t) (add-item-same-length-3 t) (add-item-same-length-4 t) (add-item-returns-2 t) (add-item-add-store32 t) (add-item-add-store32-2 t) (add-item-store32-requires t) (add-item-add-t26 t) (add-item-add-t27 t) (add-item-sub-t37 t) (add-item-same-length-5 t) (add-item-same-length-6 t) (add-item-returns-3 t))
-    (λ t. add-run-lts.spec (add-run-calls t) (add-run-at t) add-run.Post add-run-Inv-loop add-run-μ-loop (add-run-loop-holds t) (add-run-read-item-requires t) (add-run-equal-values-requires t) (add-run-mul-stop t) (add-run-add-add-item t) (add-run-mul-add-item t) (add-run-sub-add-item t) (add-run-part-add-item-start t) (add-run-part-add-item-end t) (add-run-add-item-requires t) (add-run-enum-known-p t) (add-run-enum-told t) (add-run-same-length t) (add-run-same-length-2 t) (add-run-returns t) (add-run-sub-i t) (add-run-mul-i t) (add-run-add-i t) (add-run-loop-less t) (add-run-loop-again t) (add-run-same-length-3 t) (add-run-same-length-4 t) (add-run-returns-2 t))
+    (λ t. add-item-lts.spec (add-item-calls t) (add-item-at t) add-item.Post (add-item-locate-requires t) (add-item-enum-known-p t) (add-item-enum-told t) (add-item-same-length t) (add-item-same-length-2 t) (add-item-returns t) (add-item-same-length-3 t) (add-item-same-length-4 t) (add-item-returns-2 t) (add-item-span-at-requires t) (add-item-mul-o t) (add-item-add-inner t) (add-item-add-behind t) (add-item-sub-behind t) (add-item-sub-behind-2 t) (add-item-sub-add-run t) (add-item-part-add-run-start t) (add-item-part-add-run-end t) (add-item-sub-add-run-2 t) (add-item-add-run-requires t) (add-item-enum-known-size t) (add-item-enum-told-2 t) (add-item-same-length-5 t) (add-item-same-length-6 t) (add-item-returns-3 t) (add-item-add-store32 t) (add-item-add-store32-2 t) (add-item-store32-requires t) (add-item-add-t24 t) (add-item-add-t28 t) (add-item-sub-t38 t) (add-item-same-length-7 t) (add-item-same-length-8 t) (add-item-returns-4 t))
+    (λ t. add-run-lts.spec (add-run-calls t) (add-run-at t) add-run.Post add-run-Inv-loop add-run-μ-loop (add-run-loop-holds t) (add-run-read-item-requires t) (add-run-mul-stop t) (add-run-equal-values-requires t) (add-run-add-w t) (add-run-mul-w t) (add-run-sub-below t) (add-run-part-below-start t) (add-run-part-below-end t) (add-run-add-item-requires t) (add-run-enum-known-p t) (add-run-enum-told t) (add-run-same-length t) (add-run-same-length-2 t) (add-run-returns t) (add-run-sub-i t) (add-run-mul-i t) (add-run-add-i t) (add-run-loop-less t) (add-run-loop-again t) (add-run-same-length-3 t) (add-run-same-length-4 t) (add-run-returns-2 t))
