@@ -25,7 +25,7 @@ use Rattle.counting_type.specs.declared.inferring.Item.{Item}
 use Rattle.counting_theory.specs.Trie.{nil, node, append, size, insert, add, Sorted}
 use Rattle.counting_theory.specs.Label.{Equivalence, Label, fieldKind, listed, labelOf, compareLabel, Counting, CountingType}
 use Rattle.counting_theory.specs.Raw.{ascending, raw}
-use Rattle.counting_theory.specs.Encoding.{typeSize, typeKind, header, encode, Tagged}
+use Rattle.counting_theory.specs.Encoding.{typeSize, typeKind, typeSpan, header, encode, Tagged}
 use Rattle.counting_type.specs.Checker.{InTable, FieldsInside}
 
 -- the first n keys of a key list in bytes, two bytes a key
@@ -117,6 +117,10 @@ pub record Starts (from : ℕ) (f : CountingType) : Type 0 where
   pub last : CountingType
   pub whole : f ≡ append first last
   pub count : from ≡ size first
+
+-- where a search may begin after a label was found at record p of n: there, or behind it among fields, if a sibling is there
+abbrev pub resumed : Bool → List ℕ → ℕ → ℕ → ℕ
+resumed field a p n = cond field (cond (ltb (p + typeSpan a p) n) (p + typeSpan a p) p) p
 
 -- the same of some siblings, where one of them starts: to be added to, or only to be searched
 pub record HeldFrom (e : Equivalence) (a : List ℕ) (n rest from : ℕ) : Type 0 where

@@ -18,12 +18,16 @@ use Rattle.counting_theory.specs.Label.{Equivalence, fieldKind, Counting, Count
 use Rattle.counting_theory.specs.Raw.{ascending, classOf, raw}
 use Rattle.counting_theory.specs.Encoding.{typeSize}
 use Rattle.counting_theory.specs.Encoding as bytes
-use Rattle.counting_type.specs.Inferring.{TableRun, Siblings, Holds, Starts, split, Grown, AddedAt, labelFor, times, withItem, Weighed, ItemAt, EqualRecords}
+use Rattle.counting_type.specs.Checker.{InTable}
+use Rattle.counting_type.specs.Inferring.{TableRun, Siblings, Holds, Starts, split, Grown, AddedAt, labelFor, times, withItem, Weighed, ItemAt, EqualRecords, resumed}
 use Rattle.counting_theory.proofs.Label.{counting-laws}
 use Rattle.counting_theory.proofs.Trie.Growth.{add-grows}
 use Rattle.counting_theory.proofs.Tagged.Parts.{listed-field}
 use Rattle.counting_type.proofs.InPlace.Runs.{FirstValue, first-of, none-left}
 use Rattle.counting_type.proofs.InPlace.Splits.{insert-split}
+use Rattle.counting_type.proofs.InPlace.Seeking.{starts-resumed}
+use Rattle.counting_type.proofs.InPlace.Items.{insert-size}
+use Rattle.counting_type.proofs.InPlace.Steps.{grown-length}
 use Rattle.counting_type.proofs.InPlace.Material.{times-siblings}
 use Rattle.counting_type.proofs.InPlace.Repeats.{Copied, copied, add-copies}
 
@@ -219,7 +223,7 @@ module _ {e : Equivalence} {field : Bool} {w : ℕ} {vs : Values} {f : CountingT
               let k : length a′ < typeSize * (size grown + rest) = rw o at h in
               omega (arith, add-grows counting-laws (times w (raw e field (again .rest))) grown .sizes, ap size grown-same)
 
-          turn-next : (p k : ℕ) (a′ : List ℕ) → Grown grown q k a′ → p ≡ size (split (labelFor e (item .kind) (item .key) below) (x .g) .before) →
+          turn-next : (p k : ℕ) (a′ : List ℕ) → Grown grown q k a′ → Starts p grown →
               Ran e field w vs f q a′ t k (item .next + (item .next - i) * n) p
           turn-next p k a′ h o =
               record {
@@ -234,16 +238,25 @@ module _ {e : Equivalence} {field : Bool} {w : ℕ} {vs : Values} {f : CountingT
                 held = h .bytes;
                 count = h .count;
                 siblings = grown-siblings;
-                starts = record { first = _; last = _; whole = insert-split _ heavy _ (x .g); count = o };
+                starts = o;
                 some = x .some;
                 same = grown-same;
               }
 
-          pub turn-added : (rest p k : ℕ) (a′ : List ℕ) {r : Put} → r ≡ At p k →
-              AddedAt grown (size (split (labelFor e (item .kind) (item .key) below) (x .g) .before)) q rest r a′ → Ran e field w vs f q a′ t k (item .next + (item .next - i) * n) p
-          turn-added rest p k a′ o h =
-              let u : Grown grown q k a′ × (p ≡ size (split (labelFor e (item .kind) (item .key) below) (x .g) .before)) = rw o at h in
-              turn-next p k a′ (u .0) (u .1)
+          module _ (rest p k : ℕ) (a′ : List ℕ) {r : Put} (o : r ≡ At p k)
+              (h : AddedAt grown (size (split (labelFor e (item .kind) (item .key) below) (x .g) .before)) q rest r a′) (small : length a′ ≤ maxLength) where
+            placed : Grown grown q k a′ × (p ≡ size (split (labelFor e (item .kind) (item .key) below) (x .g) .before))
+            placed = rw o at h
+
+            -- the item has its record
+            pub turn-room : InTable a′ p
+            turn-room = record { whole = omega (arith, grown-length (placed .0), placed .0 .count, insert-size (labelFor e (item .kind) (item .key) below) heavy (add Counting (times heavy (raw e (eqb (item .kind) recordKind) below))) (x .g), placed .1); short = small }
+
+            pub turn-added : length q ≡ typeSize * rest → (from′ : ℕ) → from′ ≡ resumed field a′ p k → Ran e field w vs f q a′ t k (item .next + (item .next - i) * n) from′
+            turn-added used from′ z =
+                let held : Holds e field a′ k rest grown q (placed .0 .free) = record { bytes = placed .0 .bytes; count = placed .0 .count; used = used; short = small; siblings = grown-siblings } in
+                let here : Starts p grown = record { first = _; last = _; whole = insert-split _ heavy _ (x .g); count = placed .1 } in
+                turn-next from′ k a′ (placed .0) (rw z (starts-resumed held field p here))
 
           -- all of them are in the run
           heavy-bound : Weighed w t → heavy * (recordSize * (item .next - i)) ≤ maxLength

@@ -16,7 +16,7 @@ use Rattle.counting_theory.specs.Encoding.{encode}
 use Rattle.counting_type.specs.Checker.{under}
 use Rattle.counting_type.specs.Inferring.{TableRun, Holds, split, Counted, Grown, labelFor, times, withItem, Weighed, AddedAt}
 use Rattle.counting_type.proofs.InPlace.Steps.{Task, step-length, step-within, step-span, step-empty, nothing-added, step-holds, step-full, step-grown, added-full, added-records, grown-length}
-use Rattle.counting_type.proofs.InPlace.Turns.{Ran, ran-start, ran-holds, ran-end, ran-first, below, below-run, turn-full, turn-added, turn-order, turn-measure, turn-few, turn-weighed}
+use Rattle.counting_type.proofs.InPlace.Turns.{Ran, ran-start, ran-holds, ran-end, ran-first, below, below-run, turn-full, turn-room, turn-added, turn-order, turn-measure, turn-few, turn-weighed}
 use Rattle.counting_type.proofs.InPlace.Runs.{whole-records}
 use borrow.Fn.Kinds.{In}
 use borrow.Fn.PlainCycle.{Measures, is, falls, and}
@@ -28,6 +28,7 @@ use Rattle.counting_type.proofs.inferring.add_run.Kinds as add-run-kind
 use Rattle.counting_type.proofs.inferring.+add_item+add_run.Lts-add_run as add-run-lts
 use Rattle.counting_type.proofs.inferring.read_item.Reads as read-item-reads
 use Rattle.counting_type.proofs.repeats.equal_values.Reads as equal-values-reads
+use Rattle.counting_type.proofs.search.resume_at.Reads as resume-at-reads
 use Rattle.counting_type.proofs.placing.locate.Reads as locate-reads
 use Rattle.counting_type.proofs.type_record.span_at.Reads as span-at-reads
 use Rattle.counting_type.proofs.store.store32.Reads as store32-reads
@@ -127,10 +128,10 @@ module _ (t : ℕ) where
     same : length (putMid (16 * place (at sp) + 16) (length (arena (at sp)) - (16 * place (at sp) + 16)) (arena (at sp)) inside) ≡ length (arena (at sp))
     same = same-len-mid (16 * place (at sp) + 16) (length (arena (at sp)) - (16 * place (at sp) + 16)) (arena (at sp)) inside (c .before .before .before .before .before .before .before .before .add-run .kept .0)
 
-    grown : (x : Asked (at sp)) → Grown (add Counting (material sp x) (split (label (at sp) x) (x .f) .content)) (encode (split (label (at sp) x) (x .f) .after) ++ x .q) (c .before .before .size .given .0 .0) inside
-    grown x = added-records _ _ _ inside _ _ (c .before .before .size .given .1) (c .before .before .before .before .before .before .before .before .add-run .ensures _ _ _ (x .vs) (inner sp x) (x .run))
+    grown : (x : Asked (at sp)) → Grown (add Counting (material sp x) (split (label (at sp) x) (x .f) .content)) (encode (split (label (at sp) x) (x .f) .after) ++ x .q) (c .before .before .added .given .0 .0) inside
+    grown x = added-records _ _ _ inside _ _ (c .before .before .added .given .1) (c .before .before .before .before .before .before .before .before .add-run .ensures _ _ _ (x .vs) (inner sp x) (x .run))
 
-    small : (c .before .before .size .given .0 .0 + 1 < 4294967296) × (16 * place (at sp) + 8 ≤ length (arena (at sp)))
+    small : (c .before .before .added .given .0 .0 + 1 < 4294967296) × (16 * place (at sp) + 8 ≤ length (arena (at sp)))
     small =
         let n : length inside ≡ length (take (length (arena (at sp)) - (16 * place (at sp) + 16)) (drop (16 * place (at sp) + 16) (arena (at sp)))) = c .before .before .before .before .before .before .before .before .add-run .kept .0 in
         omega (arith, grown-length (grown (asked (at sp))), simp (length-take, length-drop) at n, bound (at sp))
@@ -203,8 +204,8 @@ module _ (t : ℕ) where
         (record { f = _; q = _; free = _; holds = inner sp (asked (at sp)) }, s .pre .1 .1, simp (length-take, length-drop) (omega (arith, s .pre .1 .2, same-arena (at sp), same-work (at sp))), s .pre .1 .3),
       )
 
-  add-item-enum-known-size : add-item-lts.Need-enum-known-size (add-item-calls t) (add-item-at t) add-item.Post
-  add-item-enum-known-size c = search needs
+  add-item-enum-known-added : add-item-lts.Need-enum-known-added (add-item-calls t) (add-item-at t) add-item.Post
+  add-item-enum-known-added c = search needs
 
   add-item-enum-told-2 : add-item-lts.Need-enum-told-2 (add-item-calls t) (add-item-at t) add-item.Post
   add-item-enum-told-2 c = search needs
@@ -234,11 +235,11 @@ module _ (t : ℕ) where
   add-item-store32-requires : add-item-lts.Need-store32-requires (add-item-calls t) (add-item-at t) add-item.Post
   add-item-store32-requires c κs = omega (arith, small c, same c)
 
-  add-item-add-t24 : add-item-lts.Need-add-t24 (add-item-calls t) (add-item-at t) add-item.Post
-  add-item-add-t24 c = let i = c .before .before .before in omega (arith, small i, numbers (sp i), bound (at (sp i)))
+  add-item-add-t25 : add-item-lts.Need-add-t25 (add-item-calls t) (add-item-at t) add-item.Post
+  add-item-add-t25 c = let i = c .before .before .before in omega (arith, small i, numbers (sp i), bound (at (sp i)))
 
-  add-item-add-t28 : add-item-lts.Need-add-t28 (add-item-calls t) (add-item-at t) add-item.Post
-  add-item-add-t28 c = let i = c .before .before .before in omega (arith, small i, numbers (sp i), bound (at (sp i)))
+  add-item-add-t29 : add-item-lts.Need-add-t29 (add-item-calls t) (add-item-at t) add-item.Post
+  add-item-add-t29 c = let i = c .before .before .before in omega (arith, small i, numbers (sp i), bound (at (sp i)))
 
   add-item-sub-t38 : add-item-lts.Need-sub-t38 (add-item-calls t) (add-item-at t) add-item.Post
   add-item-sub-t38 c = let i = c .before .before .before in omega (arith, small i, numbers (sp i), bound (at (sp i)))
@@ -263,7 +264,7 @@ abbrev add-run-μ-loop : add-run-lts.MeasureT-loop
 add-run-μ-loop a₀ n rest weight t field label work₀ end m₀ i₀ from₀ a work m i from = end - i
 
 abbrev add-run-calls : ℕ → add-run-lts.Claims
-add-run-calls t = (read-item-reads.Asked, read-item-reads.Learnt, equal-values-reads.Asked, equal-values-reads.Learnt, add-item-below t, add-item.Post)
+add-run-calls t = (read-item-reads.Asked, read-item-reads.Learnt, equal-values-reads.Asked, equal-values-reads.Learnt, add-item-below t, add-item.Post, resume-at-reads.Asked, resume-at-reads.Learnt)
 
 module _ (t : ℕ) where
   -- the item at the loop's head
@@ -324,6 +325,9 @@ module _ (t : ℕ) where
         let v = state i .loop .inv in
         let x = v .3 f q free vs h r in
         c .add-item .ensures (start i .args .field) (x .g) q (x .free) _ (ran-holds x _ (h .used) (omega (arith, h .short, v .1))) (x .starts) (below-run x (r .short) (more i) (read .read-item .ensures))
+
+    short-arena : length (c .add-item .last .0) ≤ 65536
+    short-arena = let i = read .before in omega (arith, start i .pre .1 .0 .holds .short, state i .loop .inv .1, c .add-item .kept .0)
 
   add-run-loop-holds : add-run-lts.Need-loop-holds (add-run-calls t) (add-run-at t) add-run.Post add-run-Inv-loop add-run-μ-loop
   add-run-loop-holds c = (refl, refl, refl, λ f q free vs h r. ran-start h r (c .before .before .before .pre .1 .3 .some))
@@ -387,30 +391,39 @@ module _ (t : ℕ) where
       let j = read k in
       turn-full (state (j .before) .loop .inv .3 f q free vs h r) (r .short) (more (j .before)) (j .read-item .ensures) (group k .equal-values .result) (group k .equal-values .ensures) _ _ _ (c .enum-told .given .1) (added k f q free vs h r)
 
+  add-run-resume-at-requires : add-run-lts.Need-resume-at-requires (add-run-calls t) (add-run-at t) add-run.Post add-run-Inv-loop add-run-μ-loop
+  add-run-resume-at-requires c κs =
+      let k = c .before .before .before .before .before .before .before .before in
+      let i = read k .before in
+      let g = start i .pre .1 in
+      turn-room (state i .loop .inv .3 (g .0 .f) (g .0 .q) (g .0 .free) (g .1 .values) (g .0 .holds) (g .1 .run)) (g .1 .run .short) (more i) (read k .read-item .ensures)
+      (group k .equal-values .result) (group k .equal-values .ensures) _ _ _ _ (c .before .before .p .given .1) (added k (g .0 .f) (g .0 .q) (g .0 .free) (g .1 .values) (g .0 .holds) (g .1 .run)) (short-arena k)
+
   add-run-sub-i : add-run-lts.Need-sub-i (add-run-calls t) (add-run-at t) add-run.Post add-run-Inv-loop add-run-μ-loop
-  add-run-sub-i c = let k = c .before .before .before .before .before .before .before in omega (arith, order (read k))
+  add-run-sub-i c = let k = c .before .before .before .before .before .before .before .before .before in omega (arith, order (read k))
 
   add-run-mul-i : add-run-lts.Need-mul-i (add-run-calls t) (add-run-at t) add-run.Post add-run-Inv-loop add-run-μ-loop
-  add-run-mul-i c = let k = c .before .before .before .before .before .before .before in omega (arith, group k .equal-values .ensures .within, short-table (read k .before))
+  add-run-mul-i c = let k = c .before .before .before .before .before .before .before .before .before in omega (arith, group k .equal-values .ensures .within, short-table (read k .before))
 
   add-run-add-i : add-run-lts.Need-add-i (add-run-calls t) (add-run-at t) add-run.Post add-run-Inv-loop add-run-μ-loop
-  add-run-add-i c = let k = c .before .before .before .before .before .before .before in omega (arith, group k .equal-values .ensures .within, short-table (read k .before))
+  add-run-add-i c = let k = c .before .before .before .before .before .before .before .before .before in omega (arith, group k .equal-values .ensures .within, short-table (read k .before))
 
   add-run-loop-less : add-run-lts.Need-loop-less (add-run-calls t) (add-run-at t) add-run.Post add-run-Inv-loop add-run-μ-loop
   add-run-loop-less c =
-      let k = c .before .before .before .before .before .before .before in
+      let k = c .before .before .before .before .before .before .before .before .before in
       omega (arith, order (read k), group k .equal-values .ensures .within, state (read k .before) .loop .inv .0)
 
   add-run-loop-again : add-run-lts.Need-loop-again (add-run-calls t) (add-run-at t) add-run.Post add-run-Inv-loop add-run-μ-loop
   add-run-loop-again c =
-      let k = c .before .before .before .before .before .before .before in
+      let k = c .before .before .before .before .before .before .before .before .before in
       let j = read k in
       let v = state (j .before) .loop .inv in (
         v .0,
         k .add-item .kept .0 ∙ v .1,
         k .add-item .kept .1 .1 .1 .1 .1 .1 .1 .1 .1 .0 ∙ v .2,
         λ f q free vs h r.
-            turn-added (v .3 f q free vs h r) (r .short) (more (j .before)) (j .read-item .ensures) (group k .equal-values .result) (group k .equal-values .ensures) _ _ _ _ (c .before .p .given .1) (added k f q free vs h r),
+            turn-added (v .3 f q free vs h r) (r .short) (more (j .before)) (j .read-item .ensures) (group k .equal-values .result) (group k .equal-values .ensures) _ _ _ _ (c .before .before .before .p .given .1) (added k f q free vs h r) (short-arena k)
+            (h .used) _ (c .resume-at .ensures),
       )
 
   add-run-same-length-3 : add-run-lts.Need-same-length-3 (add-run-calls t) (add-run-at t) add-run.Post add-run-Inv-loop add-run-μ-loop
@@ -427,5 +440,5 @@ module _ (t : ℕ) where
 pub +add-item+add-run-spec : {M : Type 1} → statement M
 +add-item+add-run-spec =
     close μ-add-item μ-add-run
-    (λ t. add-item-lts.spec (add-item-calls t) (add-item-at t) add-item.Post (add-item-locate-requires t) (add-item-enum-known-p t) (add-item-enum-told t) (add-item-same-length t) (add-item-same-length-2 t) (add-item-returns t) (add-item-same-length-3 t) (add-item-same-length-4 t) (add-item-returns-2 t) (add-item-span-at-requires t) (add-item-mul-o t) (add-item-add-inner t) (add-item-add-behind t) (add-item-sub-behind t) (add-item-sub-behind-2 t) (add-item-sub-add-run t) (add-item-part-add-run-start t) (add-item-part-add-run-end t) (add-item-sub-add-run-2 t) (add-item-add-run-requires t) (add-item-enum-known-size t) (add-item-enum-told-2 t) (add-item-same-length-5 t) (add-item-same-length-6 t) (add-item-returns-3 t) (add-item-add-store32 t) (add-item-add-store32-2 t) (add-item-store32-requires t) (add-item-add-t24 t) (add-item-add-t28 t) (add-item-sub-t38 t) (add-item-same-length-7 t) (add-item-same-length-8 t) (add-item-returns-4 t))
-    (λ t. add-run-lts.spec (add-run-calls t) (add-run-at t) add-run.Post add-run-Inv-loop add-run-μ-loop (add-run-loop-holds t) (add-run-read-item-requires t) (add-run-mul-stop t) (add-run-equal-values-requires t) (add-run-add-w t) (add-run-mul-w t) (add-run-sub-below t) (add-run-part-below-start t) (add-run-part-below-end t) (add-run-add-item-requires t) (add-run-enum-known-p t) (add-run-enum-told t) (add-run-same-length t) (add-run-same-length-2 t) (add-run-returns t) (add-run-sub-i t) (add-run-mul-i t) (add-run-add-i t) (add-run-loop-less t) (add-run-loop-again t) (add-run-same-length-3 t) (add-run-same-length-4 t) (add-run-returns-2 t))
+    (λ t. add-item-lts.spec (add-item-calls t) (add-item-at t) add-item.Post (add-item-locate-requires t) (add-item-enum-known-p t) (add-item-enum-told t) (add-item-same-length t) (add-item-same-length-2 t) (add-item-returns t) (add-item-same-length-3 t) (add-item-same-length-4 t) (add-item-returns-2 t) (add-item-span-at-requires t) (add-item-mul-o t) (add-item-add-inner t) (add-item-add-behind t) (add-item-sub-behind t) (add-item-sub-behind-2 t) (add-item-sub-add-run t) (add-item-part-add-run-start t) (add-item-part-add-run-end t) (add-item-sub-add-run-2 t) (add-item-add-run-requires t) (add-item-enum-known-added t) (add-item-enum-told-2 t) (add-item-same-length-5 t) (add-item-same-length-6 t) (add-item-returns-3 t) (add-item-add-store32 t) (add-item-add-store32-2 t) (add-item-store32-requires t) (add-item-add-t25 t) (add-item-add-t29 t) (add-item-sub-t38 t) (add-item-same-length-7 t) (add-item-same-length-8 t) (add-item-returns-4 t))
+    (λ t. add-run-lts.spec (add-run-calls t) (add-run-at t) add-run.Post add-run-Inv-loop add-run-μ-loop (add-run-loop-holds t) (add-run-read-item-requires t) (add-run-mul-stop t) (add-run-equal-values-requires t) (add-run-add-w t) (add-run-mul-w t) (add-run-sub-below t) (add-run-part-below-start t) (add-run-part-below-end t) (add-run-add-item-requires t) (add-run-enum-known-p t) (add-run-enum-told t) (add-run-same-length t) (add-run-same-length-2 t) (add-run-returns t) (add-run-resume-at-requires t) (add-run-sub-i t) (add-run-mul-i t) (add-run-add-i t) (add-run-loop-less t) (add-run-loop-again t) (add-run-same-length-3 t) (add-run-same-length-4 t) (add-run-returns-2 t))
