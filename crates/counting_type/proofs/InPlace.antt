@@ -16,5 +16,6 @@ pub mod Placing
 pub mod Material
 pub mod Items
 pub mod Steps
+pub mod Repeats
 pub mod Turns
 pub mod Whole

@@ -6,7 +6,7 @@ use mathlib.Core.List.{List, [], _∷_, _++_}
 use Prim.Native.Nat.{ℕ, zero, suc, _+_, _*_, _≤_, _<_, Ordering, Ordering·lt as lt, Ordering·eq as eq, Ordering·gt as gt}
 use lib.Dec.{eqb, ltb}
 use lib.ListN.{length, take, drop}
-use Rattle.value_table.specs.Number.{numberOf}
+use Rattle.value_table.specs.Number.{numberOf, numberAt}
 use Rattle.value_table.specs.Value.{maxLength, recordKind, Values, keys, Distinct, ValidAt}
 use Rattle.value_table.specs.Value as table
 use Rattle.value_table.specs.Judged.{messages}
@@ -25,7 +25,7 @@ use Rattle.counting_type.specs.declared.inferring.Item.{Item}
 use Rattle.counting_theory.specs.Trie.{nil, node, append, size, insert, add, Sorted}
 use Rattle.counting_theory.specs.Label.{Equivalence, Label, fieldKind, listed, labelOf, compareLabel, Counting, CountingType}
 use Rattle.counting_theory.specs.Raw.{ascending, raw}
-use Rattle.counting_theory.specs.Encoding.{typeSize, typeKind, header, encode, Tagged}
+use Rattle.counting_theory.specs.Encoding.{typeSize, typeKind, typeSpan, header, encode, Tagged}
 use Rattle.counting_type.specs.Checker.{InTable, FieldsInside}
 
 -- the first n keys of a key list in bytes, two bytes a key
@@ -117,6 +117,10 @@ pub record Starts (from : ℕ) (f : CountingType) : Type 0 where
   pub last : CountingType
   pub whole : f ≡ append first last
   pub count : from ≡ size first
+
+-- where a search may begin after a label was found at record p of n: there, or behind it among fields, if a sibling is there
+abbrev pub resumed : Bool → List ℕ → ℕ → ℕ → ℕ
+resumed field a p n = cond field (cond (ltb (p + typeSpan a p) n) (p + typeSpan a p) p) p
 
 -- the same of some siblings, where one of them starts: to be added to, or only to be searched
 pub record HeldFrom (e : Equivalence) (a : List ℕ) (n rest from : ℕ) : Type 0 where
@@ -215,6 +219,11 @@ pub record ItemAt (field : Bool) (t : List ℕ) (i : ℕ) (x : Item) : Type 0 wh
   pub key-is : x .key ≡ cond field (table.keyAt t i) 0
   pub start-is : x .start ≡ cond field (table.recordSize * i) (table.recordSize * (i + 1))
   pub next-is : x .next ≡ i + table.spanAt t i
+
+-- n records of t from i on have the bytes of those from j on
+pub record EqualRecords (t : List ℕ) (i j n : ℕ) : Type 0 where
+  pub within : table.recordSize * (j + n) ≤ length t
+  pub same : (x : ℕ) → x < n → numberAt 8 t (table.recordSize * (i + x)) ≡ numberAt 8 t (table.recordSize * (j + x))
 
 -- t is the table of its messages, as call 1 accepts it
 pub record AcceptedTable (t : List ℕ) : Type 0 where

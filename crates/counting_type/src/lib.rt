@@ -7,6 +7,7 @@ mod inferring;
 mod key_list;
 mod merging;
 mod placing;
+mod repeats;
 mod search;
 mod store;
 pub mod type_record;

@@ -14,11 +14,13 @@ use Rattle.value_table.specs.Value.{maxLength, recordKind, Values}
 use Rattle.value_table.proofs.Number.{numberOf-bytesOf}
 use Rattle.counting_type.specs.declared.inferring.Inferred.{Inferred}
 use Rattle.counting_type.specs.declared.inferring.Inferred.the-variants.{Records, Full}
-use Rattle.counting_theory.specs.Trie.{size, insert}
+use Rattle.counting_theory.specs.Trie.{size, insert, add}
 use Rattle.counting_theory.specs.Label.{Equivalence, Label, Counting, CountingType}
+use Rattle.counting_theory.specs.Raw.{raw}
 use Rattle.counting_theory.specs.Encoding.{typeSize, typeSpan, header, encode}
-use Rattle.counting_type.specs.Inferring.{TableRun, Siblings, Holds, Starts, Split, split, Counted, Grown, Added}
+use Rattle.counting_type.specs.Inferring.{TableRun, Siblings, Holds, Starts, Split, split, Counted, Grown, Added, times}
 use Rattle.counting_theory.proofs.Encoding.Header.{length-encode}
+use Rattle.counting_type.proofs.InPlace.Runs.{none-left}
 use Rattle.counting_type.proofs.InPlace.Part.{tail-drop, tail-part, tail-put}
 use Rattle.counting_type.proofs.InPlace.Append.{encode-append}
 use Rattle.counting_type.proofs.InPlace.Splits.{insert-split, content-siblings}
@@ -88,6 +90,15 @@ module _ {l : Label} {w : ℕ} (f : CountingType) {q : List ℕ} (rest : ℕ) (u
       span-read b p l (1 + size (x .content)) (x .count + w) _ (omega (arith, step-length, step-within))
       (tail-drop b (encode (x .before)) _ (typeSize * p) (y .bytes) before-length)
 
+  -- nothing is below the item
+  pub step-empty : (g : CountingType → CountingType) → ((c : CountingType) → g c ≡ c) → Grown (insert Counting l w g f) q m b
+  step-empty g e =
+      record {
+        count = omega (arith, insert-size l w g f, ap size (e (x .content)), y .count);
+        free = y .free;
+        bytes = y .bytes ∙ rw (insert-split l w g f, e (x .content)) (simp (encode-append, encode-node, append-assoc));
+      }
+
   module _ (s : ℕ) (es : s ≡ 1 + size (x .content)) where
     pub step-holds : (e : Equivalence) (field : Bool) → Siblings e field f →
         Holds e (eqb (l .kind) recordKind) (take (length b - (typeSize * p + typeSize)) (drop (typeSize * p + typeSize) b)) (s - 1) (m + rest - p - s) (x .content) (encode (x .after) ++ q) (y .free)
@@ -121,6 +132,11 @@ module _ {l : Label} {w : ℕ} (f : CountingType) {q : List ℕ} (rest : ℕ) (u
                 ∙ rw (u, ← before-length, sets-behind (encode (x .before)) (header l (1 + size (x .content)) (x .count + w) ++ z) (bytesOf 4 (k + 1)) 4, span-stored, i, v .bytes, insert-split l w g f)
                 (simp (encode-append, encode-node, append-assoc));
           }
+
+-- an empty run adds nothing
+pub nothing-added : (field : Bool) (t : List ℕ) → length t ≡ 0 → {vs : Values} → TableRun field t vs → (e : Equivalence) (w : ℕ) (c : CountingType) → add Counting (times w (raw e field vs)) c ≡ c
+unfolding raw times add
+nothing-added field t z {vs} r e w c = rw (none-left t 0 vs (omega arith) (r .bytes)) refl
 
 -- the two answers on what is below
 module _ (g : CountingType) (q : List ℕ) (rest : ℕ) (b : List ℕ) where
