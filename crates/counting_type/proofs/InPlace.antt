@@ -11,9 +11,11 @@ pub mod Nodes
 pub mod Append
 pub mod Seeking
 pub mod Splits
+pub mod Times
 pub mod Placing
 pub mod Material
 pub mod Items
 pub mod Steps
+pub mod Repeats
 pub mod Turns
 pub mod Whole

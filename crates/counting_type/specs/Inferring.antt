@@ -6,7 +6,7 @@ use mathlib.Core.List.{List, [], _∷_, _++_}
 use Prim.Native.Nat.{ℕ, zero, suc, _+_, _*_, _≤_, _<_, Ordering, Ordering·lt as lt, Ordering·eq as eq, Ordering·gt as gt}
 use lib.Dec.{eqb, ltb}
 use lib.ListN.{length, take, drop}
-use Rattle.value_table.specs.Number.{numberOf}
+use Rattle.value_table.specs.Number.{numberOf, numberAt}
 use Rattle.value_table.specs.Value.{maxLength, recordKind, Values, keys, Distinct, ValidAt}
 use Rattle.value_table.specs.Value as table
 use Rattle.value_table.specs.Judged.{messages}
@@ -25,7 +25,7 @@ use Rattle.counting_type.specs.declared.inferring.Item.{Item}
 use Rattle.counting_theory.specs.Trie.{nil, node, append, size, insert, add, Sorted}
 use Rattle.counting_theory.specs.Label.{Equivalence, Label, fieldKind, listed, labelOf, compareLabel, Counting, CountingType}
 use Rattle.counting_theory.specs.Raw.{ascending, raw}
-use Rattle.counting_theory.specs.Encoding.{typeSize, typeKind, header, encode, Tagged}
+use Rattle.counting_theory.specs.Encoding.{typeSize, typeKind, typeSpan, header, encode, Tagged}
 use Rattle.counting_type.specs.Checker.{InTable, FieldsInside}
 
 -- the first n keys of a key list in bytes, two bytes a key
@@ -118,6 +118,10 @@ pub record Starts (from : ℕ) (f : CountingType) : Type 0 where
   pub whole : f ≡ append first last
   pub count : from ≡ size first
 
+-- where a search may begin after a label was found at record p of n: there, or behind it among fields, if a sibling is there
+abbrev pub resumed : Bool → List ℕ → ℕ → ℕ → ℕ
+resumed field a p n = cond field (cond (ltb (p + typeSpan a p) n) (p + typeSpan a p) p) p
+
 -- the same of some siblings, where one of them starts: to be added to, or only to be searched
 pub record HeldFrom (e : Equivalence) (a : List ℕ) (n rest from : ℕ) : Type 0 where
   pub field : Bool
@@ -138,6 +142,11 @@ pub record HeldRun (e : Equivalence) (field : Bool) (a : List ℕ) (n rest : ℕ
   pub free : List ℕ
   pub holds : Holds e field a n rest f q free
 
+-- raw material with each count taken w times
+unfoldable pub times : ℕ → CountingType → CountingType
+times w nil = nil
+times w (node l n c s) = node l (w * n) (times w c) (times w s)
+
 -- the siblings around the label l: those before it, its count, its children, and those after it
 pub record Split : Type 0 where
   pub before : CountingType
@@ -154,21 +163,21 @@ unfoldable pub split : Label → CountingType → Split
 split l nil = record { before = nil; count = 0; content = nil; after = nil }
 split l (node k count c s) = splitHere (compareLabel l k) k count c s (split l s)
 
--- one more is counted at l, in record p of the n records of siblings in b
-pub record Counted (x : Split) (l : Label) (q : List ℕ) (p n : ℕ) (b : List ℕ) : Type 0 where
+-- w more are counted at l, in record p of the n records of siblings in b
+pub record Counted (x : Split) (l : Label) (w : ℕ) (q : List ℕ) (p n : ℕ) (b : List ℕ) : Type 0 where
   pub place : p ≡ size (x .before)
   pub count : n ≡ size (x .before) + (1 + (size (x .content) + size (x .after)))
   pub free : List ℕ
-  pub bytes : b ≡ encode (x .before) ++ (header l (1 + size (x .content)) (x .count + 1) ++ (encode (x .content) ++ (encode (x .after) ++ (q ++ free))))
+  pub bytes : b ≡ encode (x .before) ++ (header l (1 + size (x .content)) (x .count + w) ++ (encode (x .content) ++ (encode (x .after) ++ (q ++ free))))
 
 -- that, or b has fewer than the records that are needed
-abbrev pub CountedWithin : ℕ → Split → Label → List ℕ → Put → List ℕ → Type 0
-CountedWithin needed x l q (At p n) b = Counted x l q p n b
-CountedWithin needed x l q NoRoom b = length b < typeSize * needed
+abbrev pub CountedWithin : ℕ → Split → Label → ℕ → List ℕ → Put → List ℕ → Type 0
+CountedWithin needed x l w q (At p n) b = Counted x l w q p n b
+CountedWithin needed x l w q NoRoom b = length b < typeSize * needed
 
 -- with `rest` records in use behind the siblings f, and none yet below the label
-abbrev pub PlacedAt : Label → CountingType → List ℕ → ℕ → Put → List ℕ → Type 0
-PlacedAt l f q rest r b = let x = split l f in CountedWithin (size (x .before) + (1 + (size (x .content) + size (x .after))) + rest) x l q r b
+abbrev pub PlacedAt : Label → ℕ → CountingType → List ℕ → ℕ → Put → List ℕ → Type 0
+PlacedAt l w f q rest r b = let x = split l f in CountedWithin (size (x .before) + (1 + (size (x .content) + size (x .after))) + rest) x l w q r b
 
 -- the siblings g are there, or there is too little room for them
 pub record Grown (g : CountingType) (q : List ℕ) (n : ℕ) (b : List ℕ) : Type 0 where
@@ -188,9 +197,15 @@ Added g q rest (Records n) b = Grown g q n b
 abbrev pub labelFor : Equivalence → ℕ → ℕ → Values → Label
 labelFor e kind key vs = labelOf e kind key (ascending (keys vs))
 
--- the siblings f with that item added
-abbrev pub withItem : Equivalence → ℕ → ℕ → Values → CountingType → CountingType
-withItem e kind key vs f = insert Counting (labelFor e kind key vs) 1 (add Counting (raw e (eqb kind recordKind) vs)) f
+-- the siblings f with that item added w times
+abbrev pub withItem : Equivalence → ℕ → ℕ → ℕ → Values → CountingType → CountingType
+withItem e kind key w vs f = insert Counting (labelFor e kind key vs) w (add Counting (times w (raw e (eqb kind recordKind) vs))) f
+
+-- a weight is at least 1, and no more than a table has bytes, also with the bytes of the run t for each
+pub record Weighed (w : ℕ) (t : List ℕ) : Type 0 where
+  pub some : 1 ≤ w
+  pub small : w ≤ maxLength
+  pub bound : w * length t ≤ maxLength
 
 -- the key list that the label asks for is in w; or the record has more fields than w has room for type records
 abbrev pub LabelListed : Equivalence → ℕ → Values → Listed → List ℕ → Type 0
@@ -204,6 +219,11 @@ pub record ItemAt (field : Bool) (t : List ℕ) (i : ℕ) (x : Item) : Type 0 wh
   pub key-is : x .key ≡ cond field (table.keyAt t i) 0
   pub start-is : x .start ≡ cond field (table.recordSize * i) (table.recordSize * (i + 1))
   pub next-is : x .next ≡ i + table.spanAt t i
+
+-- n records of t from i on have the bytes of those from j on
+pub record EqualRecords (t : List ℕ) (i j n : ℕ) : Type 0 where
+  pub within : table.recordSize * (j + n) ≤ length t
+  pub same : (x : ℕ) → x < n → numberAt 8 t (table.recordSize * (i + x)) ≡ numberAt 8 t (table.recordSize * (j + x))
 
 -- t is the table of its messages, as call 1 accepts it
 pub record AcceptedTable (t : List ℕ) : Type 0 where

@@ -1,10 +1,10 @@
-// Counts one at a label among siblings in an arena: in its record, or in a new one.
+// Counts at a label among siblings in an arena: in its record, or in a new one.
 use crate::key_list::Listed;
 use crate::key_list::list_label;
 use crate::search::Found;
 use crate::search::search;
 use crate::type_record;
-use crate::type_store::count_one;
+use crate::type_store::count_more;
 use crate::type_store::insert_record;
 ghost use mathlib.Core.Bool.{Bool};
 ghost use mathlib.Core.List.{List};
@@ -23,7 +23,7 @@ pub enum Put {
     NoRoom,
 }
 
-// Counts one at a label among n records of siblings, with `rest` records in use behind them.
+// Counts `weight` at a label among n records of siblings, with `rest` records in use behind them.
 fn place(
     a: &mut [u8],
     from: usize,
@@ -31,18 +31,19 @@ fn place(
     rest: usize,
     kind: u8,
     key: usize,
+    weight: usize,
     work: &[u8],
     keys: usize,
     label: bool,
 ) -> Put
     requires { ⌜ HeldFrom (under label) (now a) n rest from × (2 * keys ≤ length (now work)) ⌝ }
     ensures { λ r. ⌜ ((field : Bool) (f : CountingType) (q free : List ℕ) → Holds (under label) field (now (a .entry)) n rest f q free → Starts from f →
-        PlacedAt (wanted (under label) kind key keys (now (work .entry))) f q rest r (now (a .exit))) ⌝ }
+        PlacedAt (wanted (under label) kind key keys (now (work .entry))) weight f q rest r (now (a .exit))) ⌝ }
 {
     match search(a, from, n, kind, key, work, keys, label) {
         Found::Here(p) => {
             let o = type_record::SIZE * p;
-            count_one(&mut a[o..]);
+            count_more(&mut a[o..], weight);
             Put::At(p, n)
         }
         Found::Missing(p) => {
@@ -51,13 +52,13 @@ fn place(
                 return Put::NoRoom;
             }
             let o = type_record::SIZE * p;
-            insert_record(&mut a[o..], used - o, kind, key);
+            insert_record(&mut a[o..], used - o, kind, key, weight);
             Put::At(p, n + 1)
         }
     }
 }
 
-// Counts one at the label of an item that has t below it.
+// Counts `weight` at the label of an item that has t below it.
 pub fn locate(
     a: &mut [u8],
     from: usize,
@@ -65,17 +66,18 @@ pub fn locate(
     rest: usize,
     kind: u8,
     key: usize,
+    weight: usize,
     t: &[u8],
     label: bool,
     work: &mut [u8],
 ) -> Put
-    requires { ⌜ HeldFrom (under label) (now a) n rest from × SomeRun (eqb kind recordKind) (now t) × (length (now a) ≤ length (now work)) ⌝ }
+    requires { ⌜ HeldFrom (under label) (now a) n rest from × SomeRun (eqb kind recordKind) (now t) × (length (now a) ≤ length (now work)) × (1 ≤ weight) ⌝ }
     ensures { λ r. ⌜ ((field : Bool) (f : CountingType) (q free : List ℕ) (vs : Values) → Holds (under label) field (now (a .entry)) n rest f q free → Starts from f →
         TableRun (eqb kind recordKind) (now (t .entry)) vs →
-        CountedWithin (size (withItem (under label) kind key vs f) + rest) (split (labelFor (under label) kind key vs) f) (labelFor (under label) kind key vs) q r (now (a .exit))) ⌝ }
+        CountedWithin (size (withItem (under label) kind key weight vs f) + rest) (split (labelFor (under label) kind key vs) f) (labelFor (under label) kind key vs) weight q r (now (a .exit))) ⌝ }
 {
     match list_label(t, kind, label, work) {
         Listed::TooMany => Put::NoRoom,
-        Listed::Keys(keys) => place(a, from, n, rest, kind, key, work, keys, label),
+        Listed::Keys(keys) => place(a, from, n, rest, kind, key, weight, work, keys, label),
     }
 }

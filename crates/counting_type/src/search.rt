@@ -12,8 +12,8 @@ ghost use lib.Dec.{ltb};
 ghost use lib.ListN.{length};
 ghost use Rattle.counting_theory.specs.Order.{compareList};
 ghost use Rattle.counting_theory.specs.Label.{compareLabel, CountingType};
-ghost use Rattle.counting_type.specs.Checker.{under, keysIn, labelAt, FieldsInside};
-ghost use Rattle.counting_type.specs.Inferring.{keysOf, comparedOf, Comparable, wanted, spot, Holds, Starts, Shown};
+ghost use Rattle.counting_type.specs.Checker.{under, keysIn, labelAt, InTable, FieldsInside};
+ghost use Rattle.counting_type.specs.Inferring.{keysOf, comparedOf, Comparable, wanted, spot, Holds, Starts, resumed, Shown};
 
 // A label against that of a record.
 pub enum Compared {
@@ -101,6 +101,19 @@ fn search_start(from: usize, n: usize) -> usize
     ensures { λ r. ⌜ r ≡ cond (ltb from n) from 0 ⌝ }
 {
     if from < n { from } else { 0 }
+}
+
+// Where the search for the next label may begin, after one was found at record p of n records of siblings: there, or behind it among
+// fields, since their keys differ, if a sibling is there.
+pub fn resume_at(b: &[u8], p: usize, n: usize, field: bool) -> usize
+    requires { ⌜ InTable (now b) p ⌝ }
+    ensures { λ r. ⌜ r ≡ resumed field (now (b .entry)) p n ⌝ }
+{
+    if !field {
+        return p;
+    }
+    let next = p + span_at(b, p);
+    if next < n { next } else { p }
 }
 
 // Where the label stands among n records of siblings, or would. The search begins where the last one ended, at `from`, and starts again

@@ -33,7 +33,7 @@ module _ {T : TrieOps} (W : TrieLaws T) where
   node-cong l a F G h (x ∷ q) = ap (λ y. whenEqual (compare x l) (atEnd a y q)) (h q)
 
   -- a node with both payloads, whose children H give what F and G give together
-  node-join : (l : Label) (a b : Payload) (F G H : List Label → Option Payload) → ((q : List Label) → H q ≡ F q ⊞ G q) →
+  pub node-join : (l : Label) (a b : Payload) (F G H : List Label → Option Payload) → ((q : List Label) → H q ≡ F q ⊞ G q) →
       (p : List Label) → lookupNode T l (a ⊕ b) H p ≡ lookupNode T l a F p ⊞ lookupNode T l b G p
   unfolding lookupNode joinOption
   node-join l a b F G H h [] = refl

@@ -16,12 +16,13 @@ use Rattle.counting_theory.specs.Trie.{nil, node, size, insert, add, profile}
 use Rattle.counting_theory.specs.Label.{Equivalence, byKind, byLabel, Label, listed, Counting, CountingType}
 use Rattle.counting_theory.specs.Raw.{insertKey, ascending, raw}
 use Rattle.counting_theory.specs.Encoding.{typeSize, siblingKeys}
-use Rattle.counting_type.specs.Inferring.{keysOf, ListedIn, LabelListed, wanted, labelFor, withItem, split, Siblings, TableRun, PlacedAt, CountedWithin}
+use Rattle.counting_type.specs.Inferring.{keysOf, ListedIn, LabelListed, wanted, labelFor, times, withItem, split, Siblings, TableRun, PlacedAt, CountedWithin}
 use Rattle.counting_theory.proofs.Label.{counting-laws}
 use Rattle.counting_theory.proofs.Trie.Growth.{add-grows, profile-grows}
 use Rattle.counting_theory.proofs.Tagged.Profile.{inferred}
 use Rattle.counting_type.proofs.InPlace.Append.{size-append}
 use Rattle.counting_type.proofs.InPlace.Splits.{insert-split, content-siblings}
+use Rattle.counting_type.proofs.InPlace.Times.{times-grows}
 
 pub label-is : (e : Equivalence) (kind key n : ℕ) (w : List ℕ) (vs : Values) → listed e kind (keysOf n w) ≡ listed e kind (ascending (keys vs)) →
     wanted e kind key n w ≡ labelFor e kind key vs
@@ -46,17 +47,17 @@ module _ (l : Label) (a : ℕ) (g : CountingType → CountingType) (f : Counting
   insert-size = ap size (insert-split l a g f) ∙ size-append (split l f .before) (node l (split l f .count + a) (g (split l f .content)) (split l f .after))
 
 -- a place that is missing for the label alone is missing for the whole item
-module _ (e : Equivalence) (kind key : ℕ) (vs : Values) (f : CountingType) (q : List ℕ) (rest : ℕ) where
+module _ (e : Equivalence) (kind key w : ℕ) (vs : Values) (f : CountingType) (q : List ℕ) (rest : ℕ) where
   abbrev l : Label
   l = labelFor e kind key vs
 
-  located-at : (r : Put) (b : List ℕ) → PlacedAt l f q rest r b → CountedWithin (size (withItem e kind key vs f) + rest) (split l f) l q r b
+  located-at : (r : Put) (b : List ℕ) → PlacedAt l w f q rest r b → CountedWithin (size (withItem e kind key w vs f) + rest) (split l f) l w q r b
   located-at NoRoom b h =
-      let r = raw e (eqb kind recordKind) vs in
-      omega (arith, insert-size l 1 (add Counting r) f, add-grows counting-laws r (split l f .content) .sizes)
+      let r = times w (raw e (eqb kind recordKind) vs) in
+      omega (arith, insert-size l w (add Counting r) f, add-grows counting-laws r (split l f .content) .sizes)
   located-at (At p n) b h = h
 
-  pub located : (m : Label) → m ≡ l → (r : Put) (b : List ℕ) → PlacedAt m f q rest r b → CountedWithin (size (withItem e kind key vs f) + rest) (split l f) l q r b
+  pub located : (m : Label) → m ≡ l → (r : Put) (b : List ℕ) → PlacedAt m w f q rest r b → CountedWithin (size (withItem e kind key w vs f) + rest) (split l f) l w q r b
   located m z r b h = located-at r b (rw z at h)
 
 length-insert : (k : ℕ) (xs : List ℕ) → length (insertKey k xs) ≡ suc (length xs)
@@ -79,18 +80,18 @@ siblings-size nil = omega arith
 siblings-size (node l a c s) = omega (arith, siblings-size s)
 
 -- the fields of a record are at least as many records
-fields-size : (e : Equivalence) (t : List ℕ) (vs : Values) (c : CountingType) → TableRun true t vs → Siblings e true c → length (keys vs) ≤ size (add Counting (raw e true vs) c)
-fields-size e t vs c r h =
+fields-size : (e : Equivalence) (w : ℕ) (t : List ℕ) (vs : Values) (c : CountingType) → 1 ≤ w → TableRun true t vs → Siblings e true c → length (keys vs) ≤ size (add Counting (times w (raw e true vs)) c)
+fields-size e w t vs c o r h =
     let p = profile Counting (raw e true vs) in
     let i : siblingKeys p ≡ ascending (keys vs) = inferred e true (r .depth) vs (rw (r .fields refl) at (r .valid)) .has-keys refl (r .distinct refl) in
-    omega (arith, ap length i, length-ascending (keys vs), siblings-size p, profile-grows counting-laws (raw e true vs) c (h .sorted) .sizes)
+    omega (arith, ap length i, length-ascending (keys vs), siblings-size p, profile-grows counting-laws (raw e true vs) c (h .sorted) .sizes, times-grows w (raw e true vs) c o (h .sorted))
 
-pub too-many : (e : Equivalence) (field : Bool) (kind key : ℕ) (t : List ℕ) (vs : Values) (f : CountingType) → kind ≡ recordKind → TableRun (eqb kind recordKind) t vs → Siblings e field f →
-    (rest k n : ℕ) → n < typeSize * length (keys vs) → k ≤ n → k < typeSize * (size (withItem e kind key vs f) + rest)
-too-many e field kind key t vs f z r h rest k n i j =
+pub too-many : (e : Equivalence) (field : Bool) (kind key w : ℕ) (t : List ℕ) (vs : Values) (f : CountingType) → 1 ≤ w → kind ≡ recordKind → TableRun (eqb kind recordKind) t vs → Siblings e field f →
+    (rest k n : ℕ) → n < typeSize * length (keys vs) → k ≤ n → k < typeSize * (size (withItem e kind key w vs f) + rest)
+too-many e field kind key w t vs f o z r h rest k n i j =
     let b = eq-eqb kind recordKind z in
     let l = labelFor e kind key vs in
     let c = split l f .content in
     let s : Siblings e true c = rw b at (content-siblings l e field f h) in
-    let grown : size (add Counting (raw e (eqb kind recordKind) vs) c) ≡ size (add Counting (raw e true vs) c) = ap (λ o. size (add Counting (raw e o vs) c)) b in
-    omega (arith, insert-size l 1 (add Counting (raw e (eqb kind recordKind) vs)) f, grown, fields-size e t vs c (rw b at r) s)
+    let grown : size (add Counting (times w (raw e (eqb kind recordKind) vs)) c) ≡ size (add Counting (times w (raw e true vs)) c) = ap (λ u. size (add Counting (times w (raw e u vs)) c)) b in
+    omega (arith, insert-size l w (add Counting (times w (raw e (eqb kind recordKind) vs))) f, grown, fields-size e w t vs c o (rw b at r) s)

@@ -1,7 +1,7 @@
 -- What is added of a run of values keeps siblings as inference makes them.
 use mathlib.Core.Path.{_≡_, refl, sym, _∙_, ap}
 use mathlib.Core.Bool.{Bool, true, false}
-use Prim.Native.Nat.{ℕ, suc, _<_, Ordering, Ordering·lt as lt, Ordering·eq as eq, Ordering·gt as gt}
+use Prim.Native.Nat.{ℕ, suc, _≤_, _<_, Ordering, Ordering·lt as lt, Ordering·eq as eq, Ordering·gt as gt}
 use native.Mathlib.Omega.{arith}
 use lib.Dec.{eqb}
 use Rattle.value_table.specs.Value.{recordKind, Values, none, value, ValidAt}
@@ -9,13 +9,14 @@ use Rattle.counting_theory.specs.Trie.{nil, node, insertStep, insert, add, prof
 use Rattle.counting_theory.specs.Label.{Equivalence, Label, compareLabel, Counting, CountingType}
 use Rattle.counting_theory.specs.Raw.{classOf, addend, raw}
 use Rattle.counting_theory.specs.Encoding.{Tagged}
-use Rattle.counting_type.specs.Inferring.{Keyed, Siblings}
+use Rattle.counting_type.specs.Inferring.{Keyed, Siblings, times}
 use Rattle.counting_theory.proofs.Label.{counting-laws}
 use Rattle.counting_theory.proofs.Trie.Sorted.{sorted-add, sorted-profile}
 use Rattle.counting_theory.proofs.Trie.Profile.{add-comm, reduce-add}
 use Rattle.counting_theory.proofs.Tagged.Profile.{inferred}
 use Rattle.counting_theory.proofs.Tagged.Reduce.{tagged-reduce}
 use Rattle.counting_type.proofs.InPlace.Runs.{key-fits}
+use Rattle.counting_type.proofs.InPlace.Times.{times-keeps}
 
 -- values that are no fields: their keys make no difference
 unfoldable unkeyed : Values → Values
@@ -66,7 +67,7 @@ keyed-add nil f h k = k
 keyed-add (node l a c s) f h k = keyed-add s (insert Counting l a (add Counting c) f) (h .2) (keyed-insert l a (add Counting c) (h .0) (λ d. keyed-add c d (h .1)) f k)
 
 module _ (e : Equivalence) (field asFields : Bool) (depth : ℕ) (vs : Values) (valid : ValidAt asFields depth vs) (fields : field ≡ true → asFields ≡ true) where
-  pub add-siblings : (f : CountingType) → Siblings e field f → Siblings e field (add Counting (raw e field vs) f)
+  add-siblings : (f : CountingType) → Siblings e field f → Siblings e field (add Counting (raw e field vs) f)
   add-siblings f h =
       let r = raw e field vs in
       let p = profile Counting r in
@@ -76,3 +77,6 @@ module _ (e : Equivalence) (field asFields : Bool) (depth : ℕ) (vs : Values) (
         sorted = sorted-add counting-laws r f (h .sorted);
         keyed = keyed-add r f (keyed-raw e field asFields depth vs valid) (h .keyed);
       }
+
+  pub times-siblings : (w : ℕ) → 1 ≤ w → (f : CountingType) → Siblings e field f → Siblings e field (add Counting (times w (raw e field vs)) f)
+  times-siblings = times-keeps (Siblings e field) (raw e field vs) (λ f h. h .sorted) add-siblings

@@ -1,4 +1,4 @@
--- One is counted at a label: in its record, or in a new record in a gap.
+-- A weight is counted at a label: in its record, or in a new record in a gap.
 use mathlib.Core.Path.{_≡_, refl, _∙_, ap}
 use mathlib.Core.Bool.{Bool}
 use mathlib.Core.List.{List, _++_, append-assoc}
@@ -25,7 +25,7 @@ module _ {e : Equivalence} {field : Bool} {a : List ℕ} {n rest : ℕ} {f : Cou
   pub holds-length : length a ≡ typeSize * n + typeSize * rest + length free
   holds-length = ap length (h .bytes) ∙ simp length-append (omega (arith, length-encode f, h .count, h .used))
 
-  module _ (l : Label) (x : Split) (p : ℕ) where
+  module _ (l : Label) (x : Split) (p w : ℕ) where
     module _ (v : HereAt x l 0 f p) where
       here-front : length (encode (x .before)) ≡ typeSize * p
       here-front = omega (arith, length-encode (x .before), v .spot-is)
@@ -44,8 +44,8 @@ module _ {e : Equivalence} {field : Bool} {a : List ℕ} {n rest : ℕ} {f : Cou
       here-within = omega (arith, here-count, v .spot-is)
 
       pub here-counted : (b : List ℕ) →
-          ((l : Label) (span count : ℕ) (q : List ℕ) → take (length a - typeSize * p) (drop (typeSize * p) a) ≡ header l span count ++ q → b ≡ header l span (count + 1) ++ q) →
-          Counted x l q p n (putMid (typeSize * p) (length a - typeSize * p) a b)
+          ((l : Label) (span count : ℕ) (q : List ℕ) → take (length a - typeSize * p) (drop (typeSize * p) a) ≡ header l span count ++ q → b ≡ header l span (count + w) ++ q) →
+          Counted x l w q p n (putMid (typeSize * p) (length a - typeSize * p) a b)
       here-counted b z =
           record {
             place = omega (arith, v .spot-is);
@@ -77,8 +77,8 @@ module _ {e : Equivalence} {field : Bool} {a : List ℕ} {n rest : ℕ} {f : Cou
       missing-full k i j = omega (arith, missing-count)
 
       pub missing-counted : (b : List ℕ) → let t = take (length a - typeSize * p) (drop (typeSize * p) a) in let k = typeSize * (n + rest) - typeSize * p in
-          b ≡ header l 1 1 ++ (take k t ++ drop (k + typeSize) t) →
-          Counted x l q p (n + 1) (putMid (typeSize * p) (length a - typeSize * p) a b)
+          b ≡ header l 1 w ++ (take k t ++ drop (k + typeSize) t) →
+          Counted x l w q p (n + 1) (putMid (typeSize * p) (length a - typeSize * p) a b)
       unfolding size encode
       missing-counted b z =
           let none : size (x .content) ≡ 0 = ap size (v .empty) in
@@ -86,11 +86,11 @@ module _ {e : Equivalence} {field : Bool} {a : List ℕ} {n rest : ℕ} {f : Cou
           let moved : List ℕ = encode (x .after) ++ q in
           let first : take k (moved ++ free) ≡ moved = take-at moved free k moved-length in
           let last : drop (k + typeSize) (moved ++ free) ≡ drop typeSize free = rw (← moved-length) (drop-append-add moved free typeSize) in
-          let w : b ≡ header l 1 1 ++ (moved ++ drop typeSize free) =
+          let u : b ≡ header l 1 w ++ (moved ++ drop typeSize free) =
           rw (tail-part a (encode (x .before)) (moved ++ free) (typeSize * p) missing-bytes missing-front, first, last) at z in
           record {
             place = omega (arith, v .spot-is);
             count = omega (arith, missing-count);
             free = drop typeSize free;
-            bytes = tail-put a (encode (x .before)) (moved ++ free) _ missing-bytes missing-front b ∙ rw (w, v .empty, v .fresh, zero-add) (simp append-assoc);
+            bytes = tail-put a (encode (x .before)) (moved ++ free) _ missing-bytes missing-front b ∙ rw (u, v .empty, v .fresh, zero-add) (simp append-assoc);
           }

@@ -8,7 +8,7 @@ use native.Mathlib.Decide.{decLt}
 use native.Mathlib.Omega.{arith}
 use lib.Dec.{ltb}
 use lib.ListN.{length, drop}
-use borrow.Author.Tests.{lt-ltb, le-ltb}
+use borrow.Author.Tests.{lt-ltb, le-ltb, ltb-true}
 use Rattle.value_table.specs.Value.{maxLength}
 use Rattle.counting_type.specs.declared.search.Compared.the-variants.{Less, Equal, Greater}
 use Rattle.counting_type.specs.declared.search.Found.the-variants.{Here, Missing}
@@ -16,7 +16,8 @@ use Rattle.counting_theory.specs.Trie.{nil, node, append, size}
 use Rattle.counting_theory.specs.Label.{Equivalence, Label, compareLabel, CountingType}
 use Rattle.counting_theory.specs.Encoding.{typeSize, typeSpan, encode}
 use Rattle.counting_type.specs.Checker.{labelAt, InTable, FieldsInside}
-use Rattle.counting_type.specs.Inferring.{comparedOf, Comparable, spotHere, spot, Siblings, Holds, Starts}
+use Rattle.counting_type.specs.Inferring.{comparedOf, Comparable, spotHere, spot, Siblings, Holds, Starts, resumed}
+use Rattle.counting_theory.proofs.Trie.Profile.{append-assoc as forest-assoc}
 use Rattle.counting_theory.proofs.Encoding.Header.{length-encode}
 use Rattle.counting_type.proofs.InPlace.Part.{tail-drop}
 use Rattle.counting_type.proofs.InPlace.Nodes.{node-in, fields-in, table-in, label-in}
@@ -44,7 +45,7 @@ spot-skip l at (node k n c s) g b =
 not-both : (o : Ordering) → o ≡ lt → (o ≡ eq → ⊥) × (o ≡ gt → ⊥)
 not-both o z = (λ e. let y : _≡_ {A = ℕ} 0 1 = cc in omega arith, λ e. let y : _≡_ {A = ℕ} 0 1 = cc in omega arith)
 
-module _ {e : Equivalence} {field : Bool} {a : List ℕ} {n rest : ℕ} {f : CountingType} {q free : List ℕ} (h : Holds e field a n rest f q free) (l : Label) where
+module _ {e : Equivalence} {field : Bool} {a : List ℕ} {n rest : ℕ} {f : CountingType} {q free : List ℕ} (h : Holds e field a n rest f q free) where
   -- what is held behind the first siblings of f
   module _ (first last : CountingType) (whole : f ≡ append first last) (from : ℕ) (count : from ≡ size first) where
     from-bytes : drop (typeSize * from) a ≡ encode last ++ (q ++ free)
@@ -58,6 +59,29 @@ module _ {e : Equivalence} {field : Bool} {a : List ℕ} {n rest : ℕ} {f : Cou
     from-siblings : Siblings e field last
     from-siblings = siblings-last first (rw whole at (h .siblings))
 
+  next-start : (first last : CountingType) → f ≡ append first last → (from : ℕ) → from ≡ size first → from < n → Starts (from + typeSpan a from) f
+  unfolding append size
+  next-start first nil whole from count u = absurd (omega (arith, from-count first nil whole from count))
+  next-start first (node k c d t) whole from count u =
+      let s = from-siblings first (node k c d t) whole from count in
+      let y = node-in a (h .short) from k c d t (q ++ free) (s .keyed) (from-bytes first (node k c d t) whole from count) in
+      record {
+        first = append first (node k c d nil);
+        last = t;
+        whole = whole ∙ sym (forest-assoc first (node k c d nil) t);
+        count = omega (arith, y .span-is, size-append first (node k c d nil));
+      }
+
+  pub starts-resumed : (o : Bool) (from : ℕ) → Starts from f → Starts (resumed o a from n) f
+  starts-resumed o from s = go o (ltb (from + typeSpan a from) n) refl
+    where
+      go : (o b : Bool) → ltb (from + typeSpan a from) n ≡ b → Starts (cond o (cond b (from + typeSpan a from) from) from) f
+      go true true z = next-start (s .first) (s .last) (s .whole) from (s .count) (omega (arith, ltb-true (from + typeSpan a from) n z))
+      go true false z = s
+      go false b z = s
+
+module _ {e : Equivalence} {field : Bool} {a : List ℕ} {n rest : ℕ} {f : CountingType} {q free : List ℕ} (h : Holds e field a n rest f q free) (l : Label) where
+  module _ (first last : CountingType) (whole : f ≡ append first last) (from : ℕ) (count : from ≡ size first) where
     from-same : AllBefore l first → spot l from last ≡ spot l 0 f
     from-same b =
         let z : 0 + size first ≡ from = omega arith in
@@ -74,10 +98,10 @@ module _ {e : Equivalence} {field : Bool} {a : List ℕ} {n rest : ℕ} {f : Cou
 
     seen-from : (resumed : Bool) → (resumed ≡ true → from < n) → (resumed ≡ false → AllBefore l first) → Seen e a n l f resumed from
     seen-from resumed u b =
-        record { field = field; g = last; q = q ++ free; bytes = from-bytes; count = from-count; siblings = from-siblings; within = u; same = λ m. from-same (go resumed u b m) }
+        record { field = field; g = last; q = q ++ free; bytes = from-bytes h first last whole from count; count = from-count h first last whole from count; siblings = from-siblings h first last whole from count; within = u; same = λ m. from-same (go resumed u b m) }
       where
         go : (o : Bool) → (o ≡ true → from < n) → (o ≡ false → AllBefore l first) → (o ≡ true → compareLabel l (labelAt e a from) ≡ lt → ⊥) → AllBefore l first
-        go true u b m = before-last (u refl) (m refl) last whole from-bytes from-count from-siblings
+        go true u b m = before-last (u refl) (m refl) last whole (from-bytes h first last whole from count) (from-count h first last whole from count) (from-siblings h first last whole from count)
         go false u b m = b refl
 
   -- a search from the first sibling on

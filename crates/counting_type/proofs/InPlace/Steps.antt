@@ -14,11 +14,13 @@ use Rattle.value_table.specs.Value.{maxLength, recordKind, Values}
 use Rattle.value_table.proofs.Number.{numberOf-bytesOf}
 use Rattle.counting_type.specs.declared.inferring.Inferred.{Inferred}
 use Rattle.counting_type.specs.declared.inferring.Inferred.the-variants.{Records, Full}
-use Rattle.counting_theory.specs.Trie.{size, insert}
+use Rattle.counting_theory.specs.Trie.{size, insert, add}
 use Rattle.counting_theory.specs.Label.{Equivalence, Label, Counting, CountingType}
+use Rattle.counting_theory.specs.Raw.{raw}
 use Rattle.counting_theory.specs.Encoding.{typeSize, typeSpan, header, encode}
-use Rattle.counting_type.specs.Inferring.{TableRun, Siblings, Holds, Starts, Split, split, Counted, Grown, Added}
+use Rattle.counting_type.specs.Inferring.{TableRun, Siblings, Holds, Starts, Split, split, Counted, Grown, Added, times}
 use Rattle.counting_theory.proofs.Encoding.Header.{length-encode}
+use Rattle.counting_type.proofs.InPlace.Runs.{none-left}
 use Rattle.counting_type.proofs.InPlace.Part.{tail-drop, tail-part, tail-put}
 use Rattle.counting_type.proofs.InPlace.Append.{encode-append}
 use Rattle.counting_type.proofs.InPlace.Splits.{insert-split, content-siblings}
@@ -56,12 +58,12 @@ pub record Task (e : Equivalence) (kind from n rest : ℕ) (a t : List ℕ) : Ty
   pub starts : Starts from f
   pub run : TableRun (eqb kind recordKind) t vs
 
-module _ {l : Label} (f : CountingType) {q : List ℕ} (rest : ℕ) (used : length q ≡ typeSize * rest) {b : List ℕ} (short : length b ≤ maxLength) {p m : ℕ} (y : Counted (split l f) l q p m b) where
+module _ {l : Label} {w : ℕ} (f : CountingType) {q : List ℕ} (rest : ℕ) (used : length q ≡ typeSize * rest) {b : List ℕ} (short : length b ≤ maxLength) {p m : ℕ} (y : Counted (split l f) l w q p m b) where
   abbrev x : Split
   x = split l f
 
   abbrev head : List ℕ
-  head = encode (x .before) ++ header l (1 + size (x .content)) (x .count + 1)
+  head = encode (x .before) ++ header l (1 + size (x .content)) (x .count + w)
 
   abbrev tail : List ℕ
   tail = encode (x .content) ++ ((encode (x .after) ++ q) ++ y .free)
@@ -85,8 +87,17 @@ module _ {l : Label} (f : CountingType) {q : List ℕ} (rest : ℕ) (used : leng
 
   pub step-span : typeSpan b p ≡ 1 + size (x .content)
   step-span =
-      span-read b p l (1 + size (x .content)) (x .count + 1) _ (omega (arith, step-length, step-within))
+      span-read b p l (1 + size (x .content)) (x .count + w) _ (omega (arith, step-length, step-within))
       (tail-drop b (encode (x .before)) _ (typeSize * p) (y .bytes) before-length)
+
+  -- nothing is below the item
+  pub step-empty : (g : CountingType → CountingType) → ((c : CountingType) → g c ≡ c) → Grown (insert Counting l w g f) q m b
+  step-empty g e =
+      record {
+        count = omega (arith, insert-size l w g f, ap size (e (x .content)), y .count);
+        free = y .free;
+        bytes = y .bytes ∙ rw (insert-split l w g f, e (x .content)) (simp (encode-append, encode-node, append-assoc));
+      }
 
   module _ (s : ℕ) (es : s ≡ 1 + size (x .content)) where
     pub step-holds : (e : Equivalence) (field : Bool) → Siblings e field f →
@@ -102,25 +113,30 @@ module _ {l : Label} (f : CountingType) {q : List ℕ} (rest : ℕ) (used : leng
 
     module _ (g : CountingType → CountingType) where
       pub step-full : (z : List ℕ) → length z < typeSize * (size (g (x .content)) + (m + rest - p - s)) →
-          length (putMid (typeSize * p + typeSize) (length b - (typeSize * p + typeSize)) b z) < typeSize * (size (insert Counting l 1 g f) + rest)
+          length (putMid (typeSize * p + typeSize) (length b - (typeSize * p + typeSize)) b z) < typeSize * (size (insert Counting l w g f) + rest)
       step-full z h =
           rw (tail-put b head tail (typeSize * p + typeSize) head-tail head-length z)
-          (simp (length-append, header-length, before-length) (omega (arith, insert-size l 1 g f, y .count, y .place)))
+          (simp (length-append, header-length, before-length) (omega (arith, insert-size l w g f, y .count, y .place)))
 
       pub step-grown : (k : ℕ) (z b′ : List ℕ) → Grown (g (x .content)) (encode (x .after) ++ q) k z →
           b′ ≡ sets (putMid (typeSize * p + typeSize) (length b - (typeSize * p + typeSize)) b z) (typeSize * p + 4) (bytesOf 4 (k + 1)) →
-          Grown (insert Counting l 1 g f) q (m + (k + 1) - s) b′
-      step-grown k z b′ w h =
-          let u : putMid (typeSize * p + typeSize) (length b - (typeSize * p + typeSize)) b z ≡ encode (x .before) ++ (header l (1 + size (x .content)) (x .count + 1) ++ z) =
-          tail-put b head tail (typeSize * p + typeSize) head-tail head-length z ∙ append-assoc (encode (x .before)) (header l (1 + size (x .content)) (x .count + 1)) z in
-          let v : k + 1 ≡ 1 + size (g (x .content)) = omega (arith, w .count) in
+          Grown (insert Counting l w g f) q (m + (k + 1) - s) b′
+      step-grown k z b′ v h =
+          let u : putMid (typeSize * p + typeSize) (length b - (typeSize * p + typeSize)) b z ≡ encode (x .before) ++ (header l (1 + size (x .content)) (x .count + w) ++ z) =
+          tail-put b head tail (typeSize * p + typeSize) head-tail head-length z ∙ append-assoc (encode (x .before)) (header l (1 + size (x .content)) (x .count + w)) z in
+          let i : k + 1 ≡ 1 + size (g (x .content)) = omega (arith, v .count) in
           record {
-            count = omega (arith, insert-size l 1 g f, y .count, y .place, w .count);
-            free = w .free;
+            count = omega (arith, insert-size l w g f, y .count, y .place, v .count);
+            free = v .free;
             bytes = h
-                ∙ rw (u, ← before-length, sets-behind (encode (x .before)) (header l (1 + size (x .content)) (x .count + 1) ++ z) (bytesOf 4 (k + 1)) 4, span-stored, v, w .bytes, insert-split l 1 g f)
+                ∙ rw (u, ← before-length, sets-behind (encode (x .before)) (header l (1 + size (x .content)) (x .count + w) ++ z) (bytesOf 4 (k + 1)) 4, span-stored, i, v .bytes, insert-split l w g f)
                 (simp (encode-append, encode-node, append-assoc));
           }
+
+-- an empty run adds nothing
+pub nothing-added : (field : Bool) (t : List ℕ) → length t ≡ 0 → {vs : Values} → TableRun field t vs → (e : Equivalence) (w : ℕ) (c : CountingType) → add Counting (times w (raw e field vs)) c ≡ c
+unfolding raw times add
+nothing-added field t z {vs} r e w c = rw (none-left t 0 vs (omega arith) (r .bytes)) refl
 
 -- the two answers on what is below
 module _ (g : CountingType) (q : List ℕ) (rest : ℕ) (b : List ℕ) where

@@ -1,8 +1,8 @@
--- Stores of a count that grows by one, and of a whole header.
+-- Stores of a count that grows, and of a whole header.
 use mathlib.Core.Path.{_≡_, refl, sym, _∙_, ap}
 use mathlib.Core.List.{List, _∷_, _++_}
 use Prim.Native.Nat.{ℕ, zero, suc, _+_, _*_, _/_, _%_, _^_, _≤_, _<_}
-use native.Mathlib.Nat.{pow-suc, mul-comm, mul-assoc}
+use native.Mathlib.Nat.{pow-suc, mul-comm, mul-assoc, add-zero}
 use native.Mathlib.Omega.{arith}
 use native.Mathlib.Decide.{decLt}
 use lib.ListN.{length, drop}
@@ -56,11 +56,18 @@ bytes-next (suc w) x m e = go (decLt (x % 256) 255) (bytes-next w (x / 256) (m /
         let c : (m + 1) / 256 ≡ m / 256 + 1 = omega (arith, low) in
         rw (a, b, c) (ap (λ xs. (m + 1) % 256 ∷ xs) (i high))
 
-count-bytes : (x y m : ℕ) → x ≡ numberOf (bytesOf 8 m) → y ≡ (x + 1) % 2 ^ 64 → bytesOf 8 y ≡ bytesOf 8 (m + 1)
-count-bytes x y m e f =
-    let k = (x + 1) / 2 ^ 64 in
-    let z : y + 256 ^ 8 * k ≡ x + 1 = omega arith in
-    sym (bytes-past 8 y k) ∙ ap (bytesOf 8) z ∙ bytes-next 8 x m (ap (bytesOf 8) e ∙ bytes-read 8 m)
+bytes-more : (w x m n : ℕ) → bytesOf w x ≡ bytesOf w m → bytesOf w (x + n) ≡ bytesOf w (m + n)
+bytes-more w x m zero e = rw (add-zero x, add-zero m) e
+bytes-more w x m (suc n) e =
+    let a : x + suc n ≡ x + n + 1 = omega arith in
+    let b : m + suc n ≡ m + n + 1 = omega arith in
+    rw (a, b) (bytes-next w (x + n) (m + n) (bytes-more w x m n e))
+
+count-bytes : (x y m n : ℕ) → x ≡ numberOf (bytesOf 8 m) → y ≡ (x + n) % 2 ^ 64 → bytesOf 8 y ≡ bytesOf 8 (m + n)
+count-bytes x y m n e f =
+    let k = (x + n) / 2 ^ 64 in
+    let z : y + 256 ^ 8 * k ≡ x + n = omega arith in
+    sym (bytes-past 8 y k) ∙ ap (bytesOf 8) z ∙ bytes-more 8 x m n (ap (bytesOf 8) e ∙ bytes-read 8 m)
 
 count-read : (l : Label) (span count : ℕ) (q : List ℕ) → numberAt 8 (header l span count ++ q) 8 ≡ numberOf (bytesOf 8 count)
 unfolding numberAt header bytesOf
@@ -70,16 +77,16 @@ count-written : (l : Label) (span count n : ℕ) (q : List ℕ) → sets (header
 unfolding header bytesOf
 count-written l span count n q = refl
 
--- one more in the count of a header, by what is read and stored
-pub counted-one : (b c : List ℕ) (x y : ℕ) (l : Label) (span count : ℕ) (q : List ℕ) → x ≡ numberAt 8 b 8 → y ≡ (x + 1) % 2 ^ 64 → c ≡ sets b 8 (bytesOf 8 y) →
-    b ≡ header l span count ++ q → c ≡ header l span (count + 1) ++ q
-counted-one b c x y l span count q ex ey ec e =
+-- n more in the count of a header, by what is read and stored
+pub counted-more : (b c : List ℕ) (x y n : ℕ) (l : Label) (span count : ℕ) (q : List ℕ) → x ≡ numberAt 8 b 8 → y ≡ (x + n) % 2 ^ 64 → c ≡ sets b 8 (bytesOf 8 y) →
+    b ≡ header l span count ++ q → c ≡ header l span (count + n) ++ q
+counted-more b c x y n l span count q ex ey ec e =
     ec ∙ ap (λ t. sets t 8 (bytesOf 8 y)) e
-    ∙ ap (sets (header l span count ++ q) 8) (count-bytes x y count (ex ∙ ap (λ t. numberAt 8 t 8) e ∙ count-read l span count q) ey)
-    ∙ count-written l span count (count + 1) q
+    ∙ ap (sets (header l span count ++ q) 8) (count-bytes x y count n (ex ∙ ap (λ t. numberAt 8 t 8) e ∙ count-read l span count q) ey)
+    ∙ count-written l span count (count + n) q
 
 -- a header stored over the first sixteen bytes
-pub header-stored : (g b x : List ℕ) (l : Label) (kind key : ℕ) → l .kind ≡ kind → l .key ≡ key → typeSize ≤ length g → drop typeSize g ≡ x →
-    b ≡ sets g 0 (headerOf kind key 1 1) → b ≡ header l 1 1 ++ x
+pub header-stored : (g b x : List ℕ) (l : Label) (kind key count : ℕ) → l .kind ≡ kind → l .key ≡ key → typeSize ≤ length g → drop typeSize g ≡ x →
+    b ≡ sets g 0 (headerOf kind key 1 count) → b ≡ header l 1 count ++ x
 unfolding header bytesOf
-header-stored g b x l kind key ek ey h e f = f ∙ rw (← ek, ← ey) (sets-eq (header l 1 1) g 0 h) ∙ ap (λ t. header l 1 1 ++ t) e
+header-stored g b x l kind key count ek ey h e f = f ∙ rw (← ek, ← ey) (sets-eq (header l 1 count) g 0 h) ∙ ap (λ t. header l 1 count ++ t) e

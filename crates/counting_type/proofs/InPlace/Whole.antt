@@ -13,7 +13,7 @@ use Rattle.counting_type.specs.declared.Answered.the-variants.{Accepted,
 use Rattle.counting_type.specs.declared.Refusal.the-variants.{Room}
 use Rattle.counting_theory.specs.Trie.{nil, size, add}
 use Rattle.counting_theory.specs.Label.{Equivalence, Counting, CountingType}
-use Rattle.counting_theory.specs.Raw.{raw, profileOf}
+use Rattle.counting_theory.specs.Raw.{profileOf}
 use Rattle.counting_theory.specs.Encoding.{typeSize, encode}
 use Rattle.counting_theory.specs.Answers.{stored}
 use Rattle.counting_type.specs.Outcomes.{Front}
@@ -40,14 +40,12 @@ holds-nothing e a h = record { bytes = refl; count = refl; used = refl; short = 
 -- the answer of the run, on the whole arena
 module _ (e : Equivalence) (ms : Values) (b : List ℕ) (n : ℕ) (l : length b ≡ n) where
   abbrev g : CountingType
-  g = add Counting (raw e false ms) nil
+  g = profileOf e ms
 
-  pub inferred-room : length b < typeSize * (size g + 0) → Front (stored n (profileOf e ms)) (Refused Room 0) b
-  unfolding profileOf
+  pub inferred-room : length b < typeSize * (size g + 0) → Front (stored n g) (Refused Room 0) b
   inferred-room h = front-room g n b (omega (arith, length-encode g))
 
-  pub inferred-stored : (k : ℕ) → Grown g [] k b → Front (stored n (profileOf e ms)) (Accepted k) b
-  unfolding profileOf
+  pub inferred-stored : (k : ℕ) → Grown g [] k b → Front (stored n g) (Accepted k) b
   inferred-stored k h =
       let z : length b ≡ length (encode g) + length (h .free) = ap length (h .bytes) ∙ length-append (encode g) (h .free) in
       front-stored g n k b (h .count) (omega arith) (ap (take (length (encode g))) (h .bytes) ∙ take-at (encode g) (h .free) (length (encode g)) refl)

@@ -45,7 +45,7 @@ returns c field f q free vs h s r =
     let a = c .before .before .before .before .before .before .before .before .before in
     let k = c .before .before .before .before .list-label in
     let d : (a .args .kind ≡ recordKind) × (length (k .last .1 .1 .1 .0) < typeSize * length (keys vs)) = rw (c .enum-told .given .1) at (k .ensures vs (λ z. rw (eq-eqb _ recordKind z) at r)) in
-    too-many (under (a .args .label)) field (a .args .kind) (a .args .key) _ vs f (d .0) r (h .siblings) _ _ _ (d .1) (omega (arith, a .pre .2, k .kept .1 .1 .1 .0))
+    too-many (under (a .args .label)) field (a .args .kind) (a .args .key) _ _ vs f (a .pre .3) (d .0) r (h .siblings) _ _ _ (d .1) (omega (arith, a .pre .2, k .kept .1 .1 .1 .0))
 
 same-length-2 : tie.Need-same-length-2
 same-length-2 c = search needs
@@ -57,7 +57,7 @@ returns-2 : tie.Need-returns-2
 returns-2 c field f q free vs h s r =
     let a = c .before .before .before .before .before .before .before .before .before .before .before .before .before .before .before .args in
     let k = c .before .before .place in
-    located (under (a .label)) (a .kind) (a .key) vs f q (a .rest) _ (label-is _ _ _ _ _ vs (listed-keys (c .before .before .before .before .before) vs r .0)) (k .result) (k .last .0) (k .ensures field f q free h s)
+    located (under (a .label)) (a .kind) (a .key) (a .weight) vs f q (a .rest) _ (label-is _ _ _ _ _ vs (listed-keys (c .before .before .before .before .before) vs r .0)) (k .result) (k .last .0) (k .ensures field f q free h s)
 
 pub locate-spec : {M : Type 1} → statement M
 locate-spec =

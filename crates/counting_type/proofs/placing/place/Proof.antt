@@ -30,7 +30,7 @@ module _ (c : tie.After-known-told) where
   found-room : 16 * found-place + 16 ≤ length (c .before .before .before .before .before .before .before .args .a .now)
   found-room =
       let g = c .before .before .before .before .before .before .before .pre .0 in
-      omega (arith, here-within (g .holds) found-label _ _ (found (g .field) (g .f) (g .q) (g .free) (g .holds) (g .starts)), holds-length (g .holds))
+      omega (arith, here-within (g .holds) found-label _ _ 0 (found (g .field) (g .f) (g .q) (g .free) (g .holds) (g .starts)), holds-length (g .holds))
 
 -- where it would stand
 module _ (c : tie.After-known-told2) where
@@ -48,7 +48,7 @@ module _ (c : tie.After-known-told2) where
   missed-room : (16 * missed-place ≤ 16 * (c .before .before .before .before .before .before .before .args .n + c .before .before .before .before .before .before .before .args .rest)) × (16 * (c .before .before .before .before .before .before .before .args .n + c .before .before .before .before .before .before .before .args .rest) ≤ length (c .before .before .before .before .before .before .before .args .a .now))
   missed-room =
       let g = c .before .before .before .before .before .before .before .pre .0 in
-      omega (arith, missing-within (g .holds) missed-label _ _ (missed (g .field) (g .f) (g .q) (g .free) (g .holds) (g .starts)), holds-length (g .holds))
+      omega (arith, missing-within (g .holds) missed-label _ _ 0 (missed (g .field) (g .f) (g .q) (g .free) (g .holds) (g .starts)), holds-length (g .holds))
 
 search-requires : tie.Need-search-requires
 search-requires c κs = let g = c .before .before .before .pre in (record { rest = _; held = g .0 }, g .1)
@@ -59,17 +59,17 @@ enum-known-p c = search needs
 mul-o : tie.Need-mul-o
 mul-o c = omega (arith, found-room c)
 
-sub-count-one : tie.Need-sub-count-one
-sub-count-one c = omega (arith, found-room c)
+sub-count-more : tie.Need-sub-count-more
+sub-count-more c = omega (arith, found-room c)
 
-part-count-one-start : tie.Need-part-count-one-start
-part-count-one-start c = omega (arith, found-room c)
+part-count-more-start : tie.Need-part-count-more-start
+part-count-more-start c = omega (arith, found-room c)
 
-part-count-one-end : tie.Need-part-count-one-end
-part-count-one-end c = search needs
+part-count-more-end : tie.Need-part-count-more-end
+part-count-more-end c = search needs
 
-count-one-requires : tie.Need-count-one-requires
-count-one-requires c κs = simp (length-take, length-drop) (omega (arith, found-room (c .before)))
+count-more-requires : tie.Need-count-more-requires
+count-more-requires c κs = simp (length-take, length-drop) (omega (arith, found-room (c .before)))
 
 enum-known-p-2 : tie.Need-enum-known-p-2
 enum-known-p-2 c = search needs
@@ -88,7 +88,7 @@ same-length c = search needs
 
 returns : tie.Need-returns
 returns c field f q free h s =
-    missing-full h (missed-label (c .before)) _ _ (missed (c .before) field f q free h s) _ (c .if1 .taken) (missed-room (c .before) .1)
+    missing-full h (missed-label (c .before)) _ _ 0 (missed (c .before) field f q free h s) _ (c .if1 .taken) (missed-room (c .before) .1)
 
 mul-o-2 : tie.Need-mul-o-2
 mul-o-2 c = omega (arith, missed-room (c .before))
@@ -108,21 +108,21 @@ sub-insert-record-2 c = omega (arith, missed-room (c .before .before))
 insert-record-requires : tie.Need-insert-record-requires
 insert-record-requires c κs = simp (length-take, length-drop) (omega (arith, missed-room (c .before .before), c .before .if1 .left))
 
-add-t24 : tie.Need-add-t24
-add-t24 c = search needs
+add-t25 : tie.Need-add-t25
+add-t25 c = search needs
 
 same-length-2 : tie.Need-same-length-2
 same-length-2 c = search needs
 
 returns-2 : tie.Need-returns-2
-returns-2 c field f q free h s = here-counted h (found-label (c .before .before .before .before)) _ _ (found (c .before .before .before .before) field f q free h s) _ (c .before .before .count-one .ensures)
+returns-2 c field f q free h s = here-counted h (found-label (c .before .before .before .before)) _ _ _ (found (c .before .before .before .before) field f q free h s) _ (c .before .before .count-more .ensures)
 
 same-length-3 : tie.Need-same-length-3
 same-length-3 c = search needs
 
 returns-3 : tie.Need-returns-3
 returns-3 c field f q free h s =
-    missing-counted h (missed-label (c .before .before .before .before .before)) _ _ (missed (c .before .before .before .before .before) field f q free h s) _ (c .before .before .insert-record .ensures _ refl refl)
+    missing-counted h (missed-label (c .before .before .before .before .before)) _ _ _ (missed (c .before .before .before .before .before) field f q free h s) _ (c .before .before .insert-record .ensures _ refl refl)
 
 pub place-spec : {M : Type 1} → statement M
 place-spec =
@@ -131,10 +131,10 @@ place-spec =
     search-requires
     enum-known-p
     mul-o
-    sub-count-one
-    part-count-one-start
-    part-count-one-end
-    count-one-requires
+    sub-count-more
+    part-count-more-start
+    part-count-more-end
+    count-more-requires
     enum-known-p-2
     add-used
     mul-used
@@ -147,7 +147,7 @@ place-spec =
     part-insert-record-end
     sub-insert-record-2
     insert-record-requires
-    add-t24
+    add-t25
     same-length-2
     returns-2
     same-length-3

@@ -18,7 +18,7 @@ returns : tie.Need-returns
 returns c l ek ey =
     let s = c .before .before .before .before .before .before .before .before .before in
     let g = c .before .before .before .before .before .before .open-gap in
-    header-stored (g .last .0) _ _ l (s .args .kind) (s .args .key) ek ey (omega (arith, g .kept .0, s .pre)) (g .ensures) (c .before .before .store-record .ensures)
+    header-stored (g .last .0) _ _ l (s .args .kind) (s .args .key) _ ek ey (omega (arith, g .kept .0, s .pre)) (g .ensures) (c .before .before .store-record .ensures)
 
 pub insert-record-spec : {M : Type 1} → statement M
 insert-record-spec = tie.close (tie.spec open-gap-requires store-record-requires same-length returns)

@@ -1,0 +1,36 @@
+// Equal values that directly follow each other in a run.
+use value_table::little_endian::number64;
+use value_table::record;
+ghost use Prim.Native.Nat.{_*_, _-_, _≤_, _<_};
+ghost use lib.ListN.{length};
+ghost use Rattle.value_table.specs.Value.{recordSize};
+ghost use Rattle.counting_type.specs.Inferring.{EqualRecords};
+
+// How many records from i on equal those from j on, one by one.
+fn equal_records(t: &[u8], i: usize, j: usize) -> usize
+    requires { ⌜ (i ≤ j) × (recordSize * j ≤ length (now t)) ⌝ }
+    ensures { λ r. ⌜ EqualRecords (now (t .entry)) i j r ⌝ }
+{
+    let end = t.len() / record::SIZE;
+    let mut n = 0;
+    while j + n < end {
+        if number64(t, record::SIZE * (i + n)) != number64(t, record::SIZE * (j + n)) {
+            return n;
+        }
+        n += 1;
+    }
+    n
+}
+
+// How many values that equal the one at record i directly follow it. `next` is the record behind it.
+pub fn equal_values(t: &[u8], i: usize, next: usize) -> usize
+    requires { ⌜ (i < next) × (recordSize * next ≤ length (now t)) ⌝ }
+    ensures { λ r. ⌜ EqualRecords (now (t .entry)) i next ((next - i) * r) ⌝ }
+{
+    let span = next - i;
+    let n = equal_records(t, i, next);
+    if n < span {
+        return 0;
+    }
+    n / span
+}
