@@ -6,7 +6,7 @@ use value_table::little_endian::number16;
 use value_table::little_endian::number32;
 use value_table::little_endian::number64;
 ghost use mathlib.Core.Path.{_≡_};
-ghost use Prim.Native.Nat.{_+_, _*_, _≤_, _<_};
+ghost use Prim.Native.Nat.{_+_, _≤_, _<_};
 ghost use lib.ListN.{length};
 
 // A longer type is printed as its checksum.
