@@ -2,9 +2,12 @@
 
 mod arena;
 mod comparing;
+mod growth;
+mod inferences;
 mod judges;
 mod merges;
 mod pair;
+mod plain_inference;
 mod plain_merge;
 mod sequence;
 mod tables;
@@ -14,18 +17,19 @@ mod types;
 mod validator;
 
 use pair::Workload;
-use std::time::Duration;
 
-/// Each call's workloads, with tables of n records and types of half as many.
-fn workloads(n: u16) -> Vec<Workload> {
-    [
-        judges::of_tables(n as usize),
-        judges::of_types(n / 2),
-        merges::workloads(n / 2),
-    ]
-    .into_iter()
-    .flatten()
-    .collect()
+/// The calls that write a type, with tables of n records and types of half as many.
+fn writers(n: usize) -> Vec<Workload> {
+    let mut workloads = inferences::workloads(n);
+    workloads.extend(merges::workloads(n as u16 / 2));
+    workloads
+}
+
+fn workloads(n: usize) -> Vec<Workload> {
+    let mut workloads = judges::of_tables(n);
+    workloads.extend(judges::of_types(n as u16 / 2));
+    workloads.extend(writers(n));
+    workloads
 }
 
 fn main() {
@@ -36,8 +40,7 @@ fn main() {
     for workload in &largest {
         comparing::compare(workload, 10);
     }
-    timing::heading();
-    for workload in &largest {
-        timing::report(workload, Duration::from_millis(800));
-    }
+    timing::report(&largest);
+    println!();
+    growth::report(|kib| writers(128 * kib));
 }

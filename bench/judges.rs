@@ -84,6 +84,6 @@ pub fn of_types(n: u16) -> Vec<Workload> {
         workload(&TYPES, "records, label", LABEL, records(1..=n / 3)),
         workload(&TYPES, "deep, kind", KIND, deep(1..=n / 47)),
         workload(&TYPES, "deep, label", LABEL, deep(1..=n / 47)),
-        workload(&TYPES, "lists, label", LABEL, lists(9..9 + n / 19)),
+        workload(&TYPES, "lists, label", LABEL, lists(1..=n / 19)),
     ]
 }

@@ -58,7 +58,22 @@ static MERGE: Pair = Pair {
     plain,
 };
 
-fn workload(name: &'static str, equivalence: u64, first: Vec<u8>, second: Vec<u8>) -> Workload {
+/// The keys 1 to n in two halves.
+fn disjoint(make: fn(Vec<u16>) -> Vec<u8>, n: u16) -> [Vec<u8>; 2] {
+    [(1..=n / 2).collect(), (n / 2 + 1..=n).collect()].map(make)
+}
+
+/// The odd and the even ones of the keys 1 to n.
+fn interleaved(make: fn(Vec<u16>) -> Vec<u8>, n: u16) -> [Vec<u8>; 2] {
+    [1, 2].map(|first| make((first..=n).step_by(2).collect()))
+}
+
+/// The keys 1 to n twice.
+fn equal(make: fn(Vec<u16>) -> Vec<u8>, n: u16) -> [Vec<u8>; 2] {
+    [1, 1].map(|first| make((first..=n).collect()))
+}
+
+fn workload(name: &'static str, equivalence: u64, [first, second]: [Vec<u8>; 2]) -> Workload {
     Workload {
         pair: &MERGE,
         name,
@@ -70,64 +85,22 @@ fn workload(name: &'static str, equivalence: u64, first: Vec<u8>, second: Vec<u8
     }
 }
 
-fn odd(n: u16) -> impl Iterator<Item = u16> {
-    (1..=n).step_by(2)
-}
-
-fn even(n: u16) -> impl Iterator<Item = u16> {
-    (2..=n).step_by(2)
-}
-
 /// Workloads with types of n records or a few less.
 pub fn workloads(n: u16) -> Vec<Workload> {
     let f = n / 2 - 1;
     let r = n / 3;
     let l = n / 19;
+    let d = n / 47;
     vec![
-        workload(
-            "disjoint fields, kind",
-            KIND,
-            fields(1..=f / 2),
-            fields(f / 2 + 1..=f),
-        ),
-        workload(
-            "interleaved fields, kind",
-            KIND,
-            fields(odd(f)),
-            fields(even(f)),
-        ),
-        workload("equal fields, kind", KIND, fields(1..=f), fields(1..=f)),
-        workload("equal fields, label", LABEL, fields(1..=f), fields(1..=f)),
-        workload(
-            "disjoint records, label",
-            LABEL,
-            records(1..=r / 2),
-            records(r / 2 + 1..=r),
-        ),
-        workload(
-            "interleaved records, label",
-            LABEL,
-            records(odd(r)),
-            records(even(r)),
-        ),
-        workload(
-            "equal records, label",
-            LABEL,
-            records(1..=r),
-            records(1..=r),
-        ),
-        workload(
-            "interleaved lists, label",
-            LABEL,
-            lists(odd(l).map(|k| k + 8)),
-            lists(even(l).map(|k| k + 8)),
-        ),
-        workload("equal deep, kind", KIND, deep(1..=n / 47), deep(1..=n / 47)),
-        workload(
-            "equal deep, label",
-            LABEL,
-            deep(1..=n / 47),
-            deep(1..=n / 47),
-        ),
+        workload("disjoint fields, kind", KIND, disjoint(fields, f)),
+        workload("interleaved fields, kind", KIND, interleaved(fields, f)),
+        workload("equal fields, kind", KIND, equal(fields, f)),
+        workload("equal fields, label", LABEL, equal(fields, f)),
+        workload("disjoint records, label", LABEL, disjoint(records, r)),
+        workload("interleaved records, label", LABEL, interleaved(records, r)),
+        workload("equal records, label", LABEL, equal(records, r)),
+        workload("interleaved lists, label", LABEL, interleaved(lists, l)),
+        workload("equal deep, kind", KIND, equal(deep, d)),
+        workload("equal deep, label", LABEL, equal(deep, d)),
     ]
 }

@@ -16,3 +16,13 @@ impl Sequence {
         (self.0 >> 33) as usize % n
     }
 }
+
+/// The same items in a mixed order.
+pub fn shuffled<T>(items: impl IntoIterator<Item = T>) -> Vec<T> {
+    let mut items: Vec<T> = items.into_iter().collect();
+    let mut sequence = Sequence::new();
+    for i in (1..items.len()).rev() {
+        items.swap(i, sequence.below(i + 1));
+    }
+    items
+}

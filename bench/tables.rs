@@ -1,5 +1,7 @@
 //! Tables for the workloads.
 
+use crate::sequence::shuffled;
+
 const NUMBER: u8 = 3;
 const RECORD: u8 = 5;
 const ARRAY: u8 = 6;
@@ -52,4 +54,21 @@ pub fn with_keys(keys: impl IntoIterator<Item = u16>) -> Vec<u8> {
     let mut message = Vec::new();
     put(&mut message, RECORD, 0, span);
     [message, fields].concat()
+}
+
+/// n messages of ten fields with fifty different lists of keys, in a mixed order.
+pub fn fifty_shapes(n: usize) -> Vec<u8> {
+    let shape = |i: usize| {
+        let start = 7 * (i % 50) as u16;
+        let keys = (0..8).map(move |j| 3 + (start + 5 * j) % 100);
+        with_keys((1..=2).chain(keys))
+    };
+    shuffled(0..n).into_iter().flat_map(shape).collect()
+}
+
+/// n messages of one field with different keys, three times each, in a mixed order.
+pub fn one_field_shapes(n: u16) -> Vec<u8> {
+    let keys = (1..=n).chain(1..=n).chain(1..=n);
+    let shapes = shuffled(keys).into_iter().map(|key| with_keys([key]));
+    shapes.flatten().collect()
 }

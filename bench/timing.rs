@@ -5,6 +5,7 @@ use crate::pair::{Buffers, Call, Inputs, Workload};
 use std::hint::black_box;
 use std::time::{Duration, Instant};
 
+const TIME: Duration = Duration::from_millis(800);
 const SAMPLE: Duration = Duration::from_micros(500);
 const FEWEST_ROUNDS: usize = 9;
 
@@ -30,23 +31,24 @@ fn median(samples: impl Iterator<Item = f64>) -> f64 {
     samples[samples.len() / 2]
 }
 
-/// How often a call that takes this long is made in a sample.
-fn turns(nanoseconds: f64) -> u32 {
-    (SAMPLE.as_nanos() as f64 / nanoseconds).max(1.0) as u32
+/// How often a call is made in a sample, by the shortest of three runs of it.
+fn turns(mut run: impl FnMut() -> f64) -> u32 {
+    let once = run().min(run()).min(run());
+    (SAMPLE.as_nanos() as f64 / once).max(1.0) as u32
 }
 
-pub fn measure(workload: &Workload, total: Duration) -> Times {
+/// Takes rounds for a time.
+pub fn measure(workload: &Workload, time_for: Duration) -> Times {
     let mut buffers = Buffers {
         arena: vec![0; ROOM],
         work: vec![0; ROOM],
     };
     let mut run = |call, turns| time(call, &workload.inputs, &mut buffers, turns);
     let (proved, plain) = (workload.pair.proved, workload.pair.plain);
-    let once = (run(proved, 1), run(plain, 1));
-    let turns = (turns(once.0), turns(once.1));
+    let turns = (turns(|| run(proved, 1)), turns(|| run(plain, 1)));
     let start = Instant::now();
     let mut rounds = Vec::new();
-    while rounds.len() < FEWEST_ROUNDS || start.elapsed() < total {
+    while rounds.len() < FEWEST_ROUNDS || start.elapsed() < time_for {
         if rounds.len() % 2 == 0 {
             let of_proved = run(proved, turns.0);
             rounds.push((of_proved, run(plain, turns.1)));
@@ -62,32 +64,27 @@ pub fn measure(workload: &Workload, total: Duration) -> Times {
     }
 }
 
-pub fn heading() {
+/// One table of all the workloads.
+pub fn report(workloads: &[Workload]) {
     println!(
-        "{:<18}{:<26}{:>7}{:>14}{:>16}{:>9}{:>10}{:>10}",
-        "call",
-        "workload",
-        "records",
-        "ct ns/record",
-        "Rust ns/record",
-        "ct/Rust",
-        "ct ms",
-        "Rust ms"
+        "{:<20}{:<28}records  ct ns/record  Rust ns/record  ct/Rust     ct ms   Rust ms",
+        "call", "workload"
     );
-}
-
-/// A line of the table that `heading` begins.
-pub fn report(workload: &Workload, total: Duration) {
-    let records = workload.records() as f64;
-    let times = measure(workload, total);
-    println!(
-        "{:<18}{:<26}{records:>7}{:>14.2}{:>16.2}{:>9.2}{:>10.3}{:>10.3}",
-        workload.pair.name,
-        workload.name,
-        times.proved / records,
-        times.plain / records,
-        times.ratio,
-        times.proved / 1e6,
-        times.plain / 1e6
-    );
+    for workload in workloads {
+        let records = workload.records() as f64;
+        let Times {
+            proved,
+            plain,
+            ratio,
+        } = measure(workload, TIME);
+        println!(
+            "{:<20}{:<28}{records:>7}{:>14.2}{:>16.2}{ratio:>9.2}{:>10.3}{:>10.3}",
+            workload.pair.name,
+            workload.name,
+            proved / records,
+            plain / records,
+            proved / 1e6,
+            plain / 1e6
+        );
+    }
 }

@@ -4,7 +4,7 @@ use std::cmp::Ordering;
 
 pub const RECORD: u8 = 5;
 const ARRAY: u8 = 6;
-const FIELD: u8 = 7;
+pub const FIELD: u8 = 7;
 pub const SIZE: usize = 16;
 const MAX_DEPTH: usize = 32;
 pub const MAX_TOTAL: u64 = 1_000_000_000_000_000;

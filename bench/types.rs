@@ -44,9 +44,9 @@ pub fn records(keys: impl IntoIterator<Item = u16>) -> Vec<u8> {
     [null(), addends.concat()].concat()
 }
 
-/// Records whose key lists differ in the ninth key only, which is above 8.
+/// For each key a record with nine keys, of which the first eight are 1 to 8 and the ninth is 8 more than that key.
 pub fn lists(keys: impl IntoIterator<Item = u16>) -> Vec<u8> {
-    let list = |key| with_keys((1..=8).chain([key]));
+    let list = |key| with_keys((1..=8).chain([8 + key]));
     keys.into_iter().flat_map(list).collect()
 }
 

@@ -1,18 +1,18 @@
 //! Call 1 of document 01 in plain Rust: what the proved judge is measured against.
 
-const RECORD: u8 = 5;
+pub const RECORD: u8 = 5;
 const ARRAY: u8 = 6;
-const SIZE: usize = 8;
+pub const SIZE: usize = 8;
 const MAX_DEPTH: usize = 32;
 
-struct Header {
-    kind: u8,
+pub struct Header {
+    pub kind: u8,
     zero: u8,
-    key: u16,
-    span: usize,
+    pub key: u16,
+    pub span: usize,
 }
 
-fn header(table: &[u8], i: usize) -> Header {
+pub fn header(table: &[u8], i: usize) -> Header {
     let b: &[u8; SIZE] = table[SIZE * i..SIZE * (i + 1)].try_into().unwrap();
     Header {
         kind: b[0],
@@ -40,9 +40,13 @@ fn key_before(table: &[u8], key: u16, first: usize, i: usize) -> bool {
     false
 }
 
+pub fn bad_length(n: usize) -> bool {
+    n % SIZE != 0 || n > 65536
+}
+
 /// The number of messages, or a refusal number with its place.
 pub fn validate(table: &[u8]) -> Result<usize, (u64, usize)> {
-    if table.len() % SIZE != 0 || table.len() > 65536 {
+    if bad_length(table.len()) {
         return Err((1, 0));
     }
     let n = table.len() / SIZE;
