@@ -11,7 +11,8 @@ extern "C" {
 
 /* Why a call refuses its input; CT_ACCEPTED where it does not. */
 #define CT_ACCEPTED 0
-#define CT_LENGTH 1      /* a length that is no multiple of its record size (8 in a table, 16 in a type), or above 65,536 */
+#define CT_LENGTH 1      /* a length that is no multiple of its record size (8 in a table, 16 in a type), or above 65,536; or a
+                            working buffer that is not as long as the arena */
 #define CT_EQUIVALENCE 2 /* an equivalence that is neither 0 nor 1 */
 #define CT_KIND 3        /* kind not 1 to 6, or byte 1 not zero */
 #define CT_SPAN 4        /* span 0; beyond the end of the parent or of the table; over 1 for kinds 1 to 4 */
@@ -42,6 +43,22 @@ struct ct_answer {
  *
  * `table` points to `length` bytes that nobody writes during the call. It is not null, even for length 0. */
 struct ct_answer ct_judge_table(const uint8_t *table, size_t length);
+
+/* Infers the type of a table's messages under an equivalence, CT_BY_KIND or CT_BY_LABEL, into the arena.
+ *
+ * Accepted, the count is the number of records of the type, which stands in the front of the arena; the rest of the arena is zero.
+ * Refused, the whole arena is zero, and the place is 0 unless the table has a fault (CT_KIND to CT_DEPTH): then it is the value record,
+ * as for ct_judge_table. The lengths come first, then the equivalence, the table, and at last the room. The working buffer has the
+ * length of the arena and is zero afterwards, in either case. What the two buffers held before makes no difference.
+ *
+ * `table` points to bytes that nobody writes during the call. The three buffers don't overlap. None of them is null, even for
+ * length 0. */
+struct ct_answer ct_infer(const uint8_t *table, size_t table_length, uint64_t equivalence, uint8_t *arena, size_t arena_length,
+                          uint8_t *work, size_t work_length);
+
+/* The same under the house default, which is CT_BY_KIND. */
+struct ct_answer ct_infer_default(const uint8_t *table, size_t table_length, uint8_t *arena, size_t arena_length, uint8_t *work,
+                                  size_t work_length);
 
 /* Judges a type of `length` bytes under an equivalence, CT_BY_KIND or CT_BY_LABEL.
  *

@@ -1,11 +1,12 @@
 -- A buffer cleared from a byte on, one byte after the other.
-use mathlib.Core.Path.{_≡_, sym}
+use mathlib.Core.Path.{_≡_, refl, sym}
 use mathlib.Core.List.{List, [], _∷_, _++_, append-assoc, append-nil}
 use Prim.Native.Nat.{ℕ, suc, _+_, _-_, _≤_, _<_}
-use native.Mathlib.Numerals.{add-one}
+use native.Mathlib.Numerals.{add-one, unary-clauses}
 use native.Mathlib.Omega.{arith}
 use lib.ListN.{length, take, set, replicate, length-set}
 use lib.Seq.{take-suc-set, take-all}
+use Rattle.counting_type.specs.Answers.{zeros}
 
 -- the bytes before i, then zeros
 abbrev pub clearedFrom : List ℕ → ℕ → List ℕ
@@ -20,3 +21,6 @@ pub clear-done : (d : List ℕ) (i : ℕ) → length d ≤ i → d ≡ clearedFr
 clear-done d i h =
     let e : length d - i ≡ 0 = omega arith in
     rw (e, take-all i d h) (sym (append-nil d))
+
+pub cleared-whole : (b : List ℕ) → clearedFrom b 0 ≡ zeros (length b)
+cleared-whole b = simp unary-clauses refl

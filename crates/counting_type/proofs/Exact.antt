@@ -3,14 +3,17 @@ use mathlib.Core.Path.{_≡_, refl}
 use mathlib.Core.Bool.{Bool, true, false, cond, not, _||_}
 use mathlib.Core.List.{List}
 use mathlib.Core.Option.{Option, none, some}
-use Prim.Native.Nat.{ℕ, _*_}
-use lib.Dec.{ltb}
+use Prim.Native.Nat.{ℕ, zero, suc, _*_}
+use lib.Dec.{eqb, ltb}
 use lib.ListN.{length, take}
+use Rattle.value_table.specs.Outcome.{Outcome}
+use Rattle.value_table.specs.Judged.{badLength, judged, messages}
 use Rattle.counting_type.specs.Trie.{size, reduce, largestTotal}
 use Rattle.counting_type.specs.Label.{Equivalence, Counting, CountingType}
+use Rattle.counting_type.specs.Raw.{profileOf}
 use Rattle.counting_type.specs.Encoding.{typeSize, typeOf}
 use Rattle.counting_type.specs.WellFormed.{maxTotal, wellFormed, badTypeLength}
-use Rattle.counting_type.specs.Answers.{equivalenceOf, Written, turnedDown, arenaWith, stored, mergedUnder, merged}
+use Rattle.counting_type.specs.Answers.{equivalenceOf, Written, turnedDown, arenaWith, stored, inferredFrom, inferredUnder, inferred, mergedUnder, merged}
 use Rattle.counting_type.proofs.Encoding.Header.{length-encode}
 use Rattle.counting_type.proofs.Clear.{clearedFrom}
 
@@ -37,6 +40,23 @@ exact-merged first second equivalence n =
         (exact-cond (not (wellFormed e second)) (turnedDown 9 0) _ refl
         (exact-cond (ltb maxTotal (largestTotal Counting (reduce Counting (typeOf e first) (typeOf e second)))) (turnedDown 10 0) _ refl
         (exact-stored n (reduce Counting (typeOf e first) (typeOf e second)))))
+
+exact-from : (o : Outcome) (e : Equivalence) (table : List ℕ) (n : ℕ) → Exact (inferredFrom o e table n)
+exact-from o e table n = go (o .number)
+  where
+    go : (k : ℕ) → Exact (elim k [ zero ↦ stored n (profileOf e (messages table)) | suc j ↦ turnedDown (suc j) (o .place) ])
+    go zero = exact-stored n (profileOf e (messages table))
+    go (suc j) = refl
+
+pub exact-inferred : (table : List ℕ) (equivalence arena work : ℕ) → Exact (inferred table equivalence arena work)
+unfolding inferred
+exact-inferred table equivalence arena work =
+    exact-cond (badLength (length table) || badTypeLength arena || not (eqb work arena)) (turnedDown 1 0) (inferredUnder (equivalenceOf equivalence) table arena) refl
+    (go (equivalenceOf equivalence))
+  where
+    go : (e : Option Equivalence) → Exact (inferredUnder e table arena)
+    go none = refl
+    go (some e) = exact-from (judged table) e table arena
 
 -- what stands in the arena once it is cleared behind the type
 pub cleared-arena : (w : Written) (arena : List ℕ) (n : ℕ) → Exact w → length arena ≡ n → take (typeSize * w .outcome .count) arena ≡ w .bytes →

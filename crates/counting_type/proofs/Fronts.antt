@@ -8,16 +8,19 @@ use lib.Dec.{ltb}
 use lib.ListN.{length, take, length-take}
 use lib.Seq.{sets, sets-eq, take-at}
 use borrow.Author.Tests.{lt-ltb, le-ltb}
-use Rattle.value_table.specs.Outcome.{accepted}
+use Rattle.value_table.specs.declared.Refusal as faulty
+use Rattle.value_table.specs.declared.Refusal.the-variants as faults
+use Rattle.value_table.specs.Outcome.{accepted, refused}
+use Rattle.value_table.specs.Outcome as table
 use Rattle.counting_type.specs.declared.Answered.{Answered}
 use Rattle.counting_type.specs.declared.Answered.the-variants.{Accepted, Refused}
 use Rattle.counting_type.specs.declared.Refusal.{Refusal}
 use Rattle.counting_type.specs.declared.Refusal.the-variants.{Total, Room}
 use Rattle.counting_type.specs.Trie.{size, largestTotal}
-use Rattle.counting_type.specs.Label.{Counting, CountingType}
+use Rattle.counting_type.specs.Label.{Equivalence, Counting, CountingType}
 use Rattle.counting_type.specs.Encoding.{typeSize, encode}
 use Rattle.counting_type.specs.WellFormed.{maxTotal}
-use Rattle.counting_type.specs.Answers.{Written, turnedDown, leaves, stored, mergedTypes}
+use Rattle.counting_type.specs.Answers.{Written, turnedDown, zeros, leaves, stored, inferredFrom, mergedTypes}
 use Rattle.counting_type.specs.Outcomes.{numberOfRefusal, outcomeOf, leftBy, Front}
 use Rattle.counting_type.proofs.Encoding.Header.{length-encode}
 use Rattle.counting_type.proofs.Clear.{clearedFrom}
@@ -26,15 +29,26 @@ use Rattle.counting_type.proofs.Exact.{Exact, cleared-arena}
 pub front-refused : {w : Written} (why : Refusal) (place : ℕ) (arena : List ℕ) → w ≡ turnedDown (numberOfRefusal why) place → Front w (Refused why place) arena
 front-refused why place arena e = rw e (record { outcome = refl; bytes = refl })
 
+-- a table that is refused is refused to the inference as well
+pub refused-from : (why : faulty.Refusal) (place : ℕ) (e : Equivalence) (b : List ℕ) (n : ℕ) →
+    inferredFrom (refused (table.numberOfRefusal why) place) e b n ≡ turnedDown (table.numberOfRefusal why) place
+refused-from faults.Length place e b n = refl
+refused-from faults.Kind place e b n = refl
+refused-from faults.Span place e b n = refl
+refused-from faults.Key place e b n = refl
+refused-from faults.Repeat place e b n = refl
+refused-from faults.Depth place e b n = refl
+
 module _ (f : CountingType) (n : ℕ) where
   pub front-room : (arena : List ℕ) → n < length (encode f) → Front (stored n f) (Refused Room 0) arena
   front-room arena h = front-refused Room 0 arena (rw (lt-ltb n (typeSize * size f) (omega (arith, length-encode f))) refl)
 
   -- a whole type stands in the front of an arena that has room for it
-  pub front-stored : (arena : List ℕ) → length (encode f) ≤ n → take (length (encode f)) arena ≡ encode f → Front (stored n f) (Accepted (length (encode f) / typeSize)) arena
-  front-stored arena h e =
-      let records : length (encode f) / typeSize ≡ size f = omega (arith, length-encode f) in
-      rw (le-ltb n (typeSize * size f) (omega (arith, length-encode f))) (record { outcome = ap accepted records; bytes = e })
+  pub front-stored : (records : ℕ) (arena : List ℕ) → records ≡ size f → length (encode f) ≤ n → take (length (encode f)) arena ≡ encode f → Front (stored n f) (Accepted records) arena
+  front-stored records arena k h e = rw (le-ltb n (typeSize * size f) (omega (arith, length-encode f))) (record { outcome = ap accepted k; bytes = e })
+
+  pub front-bytes : (arena : List ℕ) → length (encode f) ≤ n → take (length (encode f)) arena ≡ encode f → Front (stored n f) (Accepted (length (encode f) / typeSize)) arena
+  front-bytes arena = front-stored (length (encode f) / typeSize) arena (omega (arith, length-encode f))
 
   module _ (within : ltb maxTotal (largestTotal Counting f) ≡ false) (answered : Answered) (arena : List ℕ) where
     -- within the limit only room is asked
@@ -53,9 +67,9 @@ module _ {w : Written} {answered : Answered} {arena : List ℕ} (exact : Exact w
       let e : length (take (length (w .bytes)) arena) ≡ length (w .bytes) = ap length (h .bytes) in
       omega (arith, exact, length-take (length (w .bytes)) arena, e, ap (λ o. o .count) (h .outcome))
 
-  -- the arena, cleared behind the type
-  pub front-cleared : (before cleared : List ℕ) → length arena ≡ length before → cleared ≡ clearedFrom arena (typeSize * outcomeOf answered .count) →
-      leftBy answered cleared [] ≡ leaves w before []
-  front-cleared before cleared l e =
+  -- the arena, cleared behind the type, and a working buffer of zeros
+  pub front-cleared : (before cleared work zeroed : List ℕ) → length arena ≡ length before → cleared ≡ clearedFrom arena (typeSize * outcomeOf answered .count) →
+      zeroed ≡ zeros (length work) → leftBy answered cleared zeroed ≡ leaves w before work
+  front-cleared before cleared work zeroed l e z =
       let c = e ∙ ap (λ o. clearedFrom arena (typeSize * o .count)) (h .outcome) ∙ cleared-arena w arena (length before) exact l (rw exact at (h .bytes)) in
-      λ i. record { outcome = h .outcome i; arena = c i; work = [] }
+      λ i. record { outcome = h .outcome i; arena = c i; work = z i }

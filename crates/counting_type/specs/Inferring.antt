@@ -9,6 +9,7 @@ use lib.ListN.{length, take, drop}
 use Rattle.value_table.specs.Number.{numberOf}
 use Rattle.value_table.specs.Value.{maxLength, recordKind, Values, keys, Distinct, ValidAt}
 use Rattle.value_table.specs.Value as table
+use Rattle.value_table.specs.Judged.{messages}
 use Rattle.value_table.specs.Acceptance.{Table}
 use Rattle.counting_type.specs.declared.key_list.Listed.{Listed}
 use Rattle.counting_type.specs.declared.key_list.Listed.the-variants.{Keys, TooMany}
@@ -23,7 +24,7 @@ use Rattle.counting_type.specs.declared.inferring.Inferred.the-variants.
 use Rattle.counting_type.specs.declared.inferring.Item.{Item}
 use Rattle.counting_type.specs.Trie.{nil, node, append, size, insert, add, Sorted}
 use Rattle.counting_type.specs.Label.{Equivalence, Label, fieldKind, listed, labelOf, compareLabel, Counting, CountingType}
-use Rattle.counting_type.specs.Raw.{ascending, raw, profileOf}
+use Rattle.counting_type.specs.Raw.{ascending, raw}
 use Rattle.counting_type.specs.Encoding.{typeSize, typeKind, header, encode, Tagged}
 use Rattle.counting_type.specs.Checker.{InTable, FieldsInside}
 
@@ -204,14 +205,7 @@ pub record ItemAt (field : Bool) (t : List ℕ) (i : ℕ) (x : Item) : Type 0 wh
   pub start-is : x .start ≡ cond field (table.recordSize * i) (table.recordSize * (i + 1))
   pub next-is : x .next ≡ i + table.spanAt t i
 
--- t is the table of some valid messages
-pub record SomeTable (t : List ℕ) : Type 0 where
-  pub messages : Values
+-- t is the table of its messages, as call 1 accepts it
+pub record AcceptedTable (t : List ℕ) : Type 0 where
   pub count : ℕ
-  pub is-table : Table t messages count
-
--- The arena b begins with the type of the messages and r is the number of its records, if it has room for them; else r is Full.
-pub record InferredIn (e : Equivalence) (messages : Values) (r : Inferred) (b : List ℕ) : Type 0 where
-  pub fits : typeSize * size (profileOf e messages) ≤ length b →
-      (r ≡ Records (size (profileOf e messages))) × (take (typeSize * size (profileOf e messages)) b ≡ encode (profileOf e messages))
-  pub full : length b < typeSize * size (profileOf e messages) → r ≡ Full
+  pub is-table : Table t (messages t) count

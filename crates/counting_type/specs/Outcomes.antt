@@ -4,16 +4,18 @@ use mathlib.Core.List.{List}
 use Prim.Native.Nat.{ℕ}
 use lib.ListN.{length, take}
 use Rattle.value_table.specs.Outcome.{Outcome, accepted, refused}
+use Rattle.value_table.specs.Outcome as table
 use Rattle.counting_type.specs.Answers.{Written, Left}
 use Rattle.counting_type.specs.declared.Answered.{Answered}
 use Rattle.counting_type.specs.declared.Answered.the-variants.{Accepted, Refused}
 use Rattle.counting_type.specs.declared.Refusal.{Refusal}
-use Rattle.counting_type.specs.declared.Refusal.the-variants.{Length, Equivalence, First, Second, Total, Room}
+use Rattle.counting_type.specs.declared.Refusal.the-variants.{Length, Equivalence, Table, First, Second, Total, Room}
 
 -- the column 'returned'
 abbrev pub numberOfRefusal : Refusal → ℕ
 numberOfRefusal Length = 1
 numberOfRefusal Equivalence = 2
+numberOfRefusal (Table fault) = table.numberOfRefusal fault
 numberOfRefusal First = 8
 numberOfRefusal Second = 9
 numberOfRefusal Total = 10

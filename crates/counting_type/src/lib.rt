@@ -13,27 +13,37 @@ mod type_store;
 
 use checker::well_formed;
 use clearing::clear_from;
+use inferring::infer_type;
 use merging::merge_types;
 use type_record::bad_length;
+use value_table::Judged;
+use value_table::judge;
+use value_table::record;
 ghost use mathlib.Core.Path.{_≡_};
-ghost use mathlib.Core.Bool.{_||_};
+ghost use mathlib.Core.Bool.{not, _||_};
 ghost use mathlib.Core.List.{[]};
 ghost use Prim.Native.Nat.{_*_, _^_, _<_};
+ghost use lib.Dec.{eqb};
 ghost use lib.ListN.{length};
+ghost use Rattle.value_table.specs.Judged.{badLength};
 ghost use Rattle.value_table.specs.Outcome.{outcomeOfAnswer};
 ghost use Rattle.counting_type.specs.Trie.{reduce};
 ghost use Rattle.counting_type.specs.Label.{Counting};
 ghost use Rattle.counting_type.specs.Encoding.{typeSize, typeOf};
 ghost use Rattle.counting_type.specs.WellFormed.{badTypeLength, IsType};
 ghost use Rattle.counting_type.specs.Checker.{under};
-ghost use Rattle.counting_type.specs.Answers.{judgedType, leaves, merged, mergedTypes};
+ghost use Rattle.counting_type.specs.Answers.{judgedType, leaves, inferred, inferredDefault, merged, mergedTypes};
 ghost use Rattle.counting_type.specs.Outcomes.{numberOfRefusal, outcomeOf, leftBy, Front};
 
-// Why a call is refused: a length, an unknown equivalence, a malformed first (or only) or second type, a total above the limit, or
-// no room in the arena.
+// The equivalence of call 3: kind.
+const HOUSE_DEFAULT: u64 = 0;
+
+// Why a call is refused: a length, an unknown equivalence, a fault of the table, a malformed first (or only) or second type, a total
+// above the limit, or no room in the arena.
 pub enum Refusal {
     Length,
     Equivalence,
+    Table(value_table::Refusal),
     First,
     Second,
     Total,
@@ -46,28 +56,13 @@ pub enum Answered {
     Refused(Refusal, usize),
 }
 
-// Call 4: judges a type under an equivalence, 0 for kind and 1 for label.
-pub fn judge_type(bytes: &[u8], equivalence: u64) -> Answered
-    ensures { λ r. ⌜ outcomeOf r ≡ judgedType (now (bytes .entry)) equivalence ⌝ }
-{
-    if bad_length(bytes.len()) {
-        return Answered::Refused(Refusal::Length, 0);
-    }
-    if 1 < equivalence {
-        return Answered::Refused(Refusal::Equivalence, 0);
-    }
-    if well_formed(bytes, equivalence == 1) {
-        return Answered::Accepted(bytes.len() / type_record::SIZE);
-    }
-    Answered::Refused(Refusal::First, 0)
-}
-
 fn refusal_number(why: Refusal) -> u64
     ensures { λ r. ⌜ r ≡ numberOfRefusal why ⌝ }
 {
     match why {
         Refusal::Length => 1,
         Refusal::Equivalence => 2,
+        Refusal::Table(fault) => value_table::refusal_number(fault),
         Refusal::First => 8,
         Refusal::Second => 9,
         Refusal::Total => 10,
@@ -93,6 +88,80 @@ pub fn answer_of(answered: Answered) -> value_table::Answer
     }
 }
 
+// The bytes of the type that a call has written.
+fn bytes_written(answered: Answered) -> usize
+    requires { ⌜ typeSize * outcomeOf answered .count < 2 ^ 64 ⌝ }
+    ensures { λ r. ⌜ r ≡ typeSize * outcomeOf answered .count ⌝ }
+{
+    match answered {
+        Answered::Accepted(records) => records * type_record::SIZE,
+        Answered::Refused(_, _) => 0,
+    }
+}
+
+// Whether the length of a table, of an arena or of its working buffer is wrong.
+fn bad_buffers(table: usize, arena: usize, work: usize) -> bool
+    ensures { λ r. ⌜ r ≡ (badLength table || badTypeLength arena || not (eqb work arena)) ⌝ }
+{
+    if record::bad_length(table) {
+        return true;
+    }
+    if bad_length(arena) {
+        return true;
+    }
+    work != arena
+}
+
+// The type of a table's messages, in the front of the arena, for any inputs.
+fn infer_front(table: &[u8], equivalence: u64, arena: &mut [u8], work: &mut [u8]) -> Answered
+    ensures { λ r. ⌜ Front (inferred (now (table .entry)) equivalence (length (now (arena .entry))) (length (now (work .entry)))) r (now (arena .exit)) ⌝ }
+{
+    if bad_buffers(table.len(), arena.len(), work.len()) {
+        return Answered::Refused(Refusal::Length, 0);
+    }
+    if 1 < equivalence {
+        return Answered::Refused(Refusal::Equivalence, 0);
+    }
+    match judge(table) {
+        Judged::Refused(why, place) => Answered::Refused(Refusal::Table(why), place),
+        Judged::Accepted(_) => infer_type(table, equivalence == 1, arena, work),
+    }
+}
+
+// Call 2: infers the type of a table's messages under an equivalence into the arena, with a working buffer of the same length.
+pub fn infer(table: &[u8], equivalence: u64, arena: &mut [u8], work: &mut [u8]) -> Answered
+    ensures { λ r. ⌜ leftBy r (now (arena .exit)) (now (work .exit)) ≡ leaves (inferred (now (table .entry)) equivalence (length (now (arena .entry))) (length (now (work .entry)))) (now (arena .entry)) (now (work .entry)) ⌝ }
+{
+    let answered = infer_front(table, equivalence, arena, work);
+    clear_from(arena, bytes_written(answered));
+    clear_from(work, 0);
+    answered
+}
+
+// Call 3: the same under the house default.
+pub fn infer_default(table: &[u8], arena: &mut [u8], work: &mut [u8]) -> Answered
+    ensures { λ r. ⌜ leftBy r (now (arena .exit)) (now (work .exit)) ≡ leaves (inferredDefault (now (table .entry)) (length (now (arena .entry))) (length (now (work .entry)))) (now (arena .entry)) (now (work .entry)) ⌝ }
+{
+    infer(table, HOUSE_DEFAULT, arena, work)
+}
+
+// Call 4: judges a type under an equivalence, 0 for kind and 1 for label.
+pub fn judge_type(bytes: &[u8], equivalence: u64) -> Answered
+    ensures { λ r. ⌜ outcomeOf r ≡ judgedType (now (bytes .entry)) equivalence ⌝ }
+{
+    if bad_length(bytes.len()) {
+        return Answered::Refused(Refusal::Length, 0);
+    }
+    if 1 < equivalence {
+        return Answered::Refused(Refusal::Equivalence, 0);
+    }
+    if well_formed(bytes, equivalence == 1) {
+        return Answered::Accepted(bytes.len() / type_record::SIZE);
+    }
+    Answered::Refused(Refusal::First, 0)
+}
+
+// Whether the length of one of two types or of an arena is wrong.
 fn bad_lengths(first: usize, second: usize, arena: usize) -> bool
     ensures { λ r. ⌜ r ≡ (badTypeLength first || badTypeLength second || badTypeLength arena) ⌝ }
 {
@@ -103,17 +172,6 @@ fn bad_lengths(first: usize, second: usize, arena: usize) -> bool
         return true;
     }
     bad_length(arena)
-}
-
-// The bytes of the type that a call has written.
-fn bytes_written(answered: Answered) -> usize
-    requires { ⌜ typeSize * outcomeOf answered .count < 2 ^ 64 ⌝ }
-    ensures { λ r. ⌜ r ≡ typeSize * outcomeOf answered .count ⌝ }
-{
-    match answered {
-        Answered::Accepted(records) => records * type_record::SIZE,
-        Answered::Refused(_, _) => 0,
-    }
 }
 
 // The merge of two well-formed types, in the front of the arena.

@@ -5,7 +5,7 @@ ghost use Rattle.value_table.specs.Outcome.{outcomeOfAnswer};
 ghost use Rattle.value_table.specs.Judged.{judged};
 ghost use mathlib.Core.List.{[]};
 ghost use lib.ListN.{length};
-ghost use Rattle.counting_type.specs.Answers.{judgedType, leaves, merged};
+ghost use Rattle.counting_type.specs.Answers.{judgedType, leaves, inferred, inferredDefault, merged};
 ghost use Rattle.ct.specs.Left.{answerLeft};
 
 // Call 1: judges a table.
@@ -14,6 +14,27 @@ pub extern "C" fn ct_judge_table(table: &[u8]) -> Answer
     ensures { λ r. ⌜ outcomeOfAnswer r ≡ judged (now (table .entry)) ⌝ }
 {
     value_table::answer_of(value_table::judge(table))
+}
+
+// Call 2: infers the type of a table's messages under an equivalence into the arena.
+#[no_mangle]
+pub extern "C" fn ct_infer(
+    table: &[u8],
+    equivalence: u64,
+    arena: &mut [u8],
+    work: &mut [u8],
+) -> Answer
+    ensures { λ r. ⌜ answerLeft r (now (arena .exit)) (now (work .exit)) ≡ leaves (inferred (now (table .entry)) equivalence (length (now (arena .entry))) (length (now (work .entry)))) (now (arena .entry)) (now (work .entry)) ⌝ }
+{
+    counting_type::answer_of(counting_type::infer(table, equivalence, arena, work))
+}
+
+// Call 3: infers under the house default.
+#[no_mangle]
+pub extern "C" fn ct_infer_default(table: &[u8], arena: &mut [u8], work: &mut [u8]) -> Answer
+    ensures { λ r. ⌜ answerLeft r (now (arena .exit)) (now (work .exit)) ≡ leaves (inferredDefault (now (table .entry)) (length (now (arena .entry))) (length (now (work .entry)))) (now (arena .entry)) (now (work .entry)) ⌝ }
+{
+    counting_type::answer_of(counting_type::infer_default(table, arena, work))
 }
 
 // Call 4: judges a type under an equivalence.

@@ -4,7 +4,7 @@ use mathlib.Core.Logic.{_↔_}
 use mathlib.Core.List.{List}
 use Prim.Native.Nat.{ℕ, _*_, _≤_}
 use Rattle.value_table.specs.Number.{Bytes}
-use Rattle.value_table.specs.Value.{Values, Valid, encode, size, count, recordSize, maxLength}
+use Rattle.value_table.specs.Value.{records, Values, Valid, encode, size, count, recordSize, maxLength}
 use Rattle.value_table.specs.Outcome.{accepted}
 use Rattle.value_table.specs.Judged.{judged, messages}
 
@@ -22,3 +22,7 @@ Accepts = (b : List ℕ) (n : ℕ) → Bytes b → (judged b ≡ accepted n) ↔
 -- a table has no other messages
 abbrev pub Unique : Type 0
 Unique = (b : List ℕ) (ms : Values) (n : ℕ) → Table b ms n → ms ≡ messages b
+
+-- accepted, the place is 0; refused, it is a record of b, or 0
+abbrev pub Placed : Type 0
+Placed = (b : List ℕ) → (judged b .number ≡ 0 → judged b .place ≡ 0) × (judged b .place ≤ records b)

@@ -36,13 +36,14 @@ pub struct Answer {
 pub fn judge(table: &[u8]) -> Judged
     ensures { λ r. ⌜ outcomeOf r ≡ judged (now (table .entry)) ⌝ }
 {
-    if walk::bad_length(table.len()) {
+    if record::bad_length(table.len()) {
         return Judged::Refused(Refusal::Length, 0);
     }
     walk::walk_table(table)
 }
 
-fn refusal_number(why: Refusal) -> u64
+// The refusal number of document 01.
+pub fn refusal_number(why: Refusal) -> u64
     ensures { λ r. ⌜ r ≡ numberOfRefusal why ⌝ }
 {
     match why {

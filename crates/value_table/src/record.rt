@@ -5,8 +5,11 @@ ghost use mathlib.Core.Path.{_≡_};
 ghost use Prim.Native.Nat.{_+_, _*_, _≤_, _<_};
 ghost use lib.ListN.{length};
 ghost use Rattle.value_table.specs.Value.{recordSize, kindAt, zeroAt, keyAt, spanAt};
+ghost use Rattle.value_table.specs.Judged.{badLength};
 
 pub const SIZE: usize = 8;
+
+const MAX_LENGTH: usize = 65536;
 
 pub const RECORD: u8 = 5;
 
@@ -40,4 +43,14 @@ pub fn span_at(table: &[u8], i: usize) -> usize
     ensures { λ r. ⌜ (r ≡ spanAt (now (table .entry)) i) × (r < 4294967296) ⌝ }
 {
     number32(table, SIZE * i + 4)
+}
+
+// A length that is no multiple of the record size, or above the limit.
+pub fn bad_length(n: usize) -> bool
+    ensures { λ r. ⌜ r ≡ badLength n ⌝ }
+{
+    if n % SIZE != 0 {
+        return true;
+    }
+    MAX_LENGTH < n
 }

@@ -12,10 +12,8 @@ ghost use Prim.Native.Nat.{_+_, _*_, _%_, _≤_};
 ghost use lib.ListN.{length};
 ghost use Rattle.value_table.specs.Value.{recordSize, maxLength, maxDepth, records, kindAt};
 ghost use Rattle.value_table.specs.Outcome.{outcomeOf};
-ghost use Rattle.value_table.specs.Judged.{badLength, walk};
+ghost use Rattle.value_table.specs.Judged.{walk};
 ghost use Rattle.value_table.specs.Siblings.{innermostOf, firstOf, messagesAt};
-
-const MAX_LENGTH: usize = 65536;
 
 // The open values around the next record: the end of each, the first field of each that is a record (else 0), and how many
 // there are.
@@ -23,15 +21,6 @@ struct Walk {
     ends: [usize; 32],
     fields: [usize; 32],
     depth: usize,
-}
-
-pub fn bad_length(n: usize) -> bool
-    ensures { λ r. ⌜ r ≡ badLength n ⌝ }
-{
-    if n % record::SIZE != 0 {
-        return true;
-    }
-    MAX_LENGTH < n
 }
 
 // What the innermost of `depth` levels holds, or `outside` where there is none.

@@ -2,21 +2,24 @@
 use mathlib.Core.Path.{_≡_, refl, sym, _∙_, ap}
 use mathlib.Core.Bool.{false, true≢false}
 use mathlib.Core.List.{List, []}
-use Prim.Native.Nat.{ℕ, _+_, _*_, _≤_}
+use Prim.Native.Nat.{ℕ, _+_, _*_, _≤_, _<_}
 use native.Mathlib.Omega.{arith}
 use lib.ListN.{length, take, length-append}
 use lib.Seq.{take-at}
 use Rattle.value_table.specs.Value.{maxLength, Values}
 use Rattle.value_table.specs.Acceptance.{Table}
 use Rattle.value_table.proofs.Header as table
-use Rattle.counting_type.specs.declared.inferring.Inferred.{Inferred}
-use Rattle.counting_type.specs.declared.inferring.Inferred.the-variants.{Records, Full}
+use Rattle.counting_type.specs.declared.Answered.the-variants.{Accepted, Refused}
+use Rattle.counting_type.specs.declared.Refusal.the-variants.{Room}
 use Rattle.counting_type.specs.Trie.{nil, size, add}
-use Rattle.counting_type.specs.Label.{Equivalence, Counting}
+use Rattle.counting_type.specs.Label.{Equivalence, Counting, CountingType}
 use Rattle.counting_type.specs.Raw.{raw, profileOf}
 use Rattle.counting_type.specs.Encoding.{typeSize, encode}
-use Rattle.counting_type.specs.Inferring.{TableRun, Holds, Added, InferredIn}
+use Rattle.counting_type.specs.Answers.{stored}
+use Rattle.counting_type.specs.Outcomes.{Front}
+use Rattle.counting_type.specs.Inferring.{TableRun, Holds, Grown}
 use Rattle.counting_type.proofs.Encoding.Header.{length-encode}
+use Rattle.counting_type.proofs.Fronts.{front-room, front-stored}
 
 pub table-run : {t : List ℕ} {ms : Values} {n : ℕ} → Table t ms n → TableRun false t ms
 table-run {t} {ms} x =
@@ -34,13 +37,17 @@ pub holds-nothing : (e : Equivalence) (a : List ℕ) → length a ≤ maxLength 
 unfolding encode size
 holds-nothing e a h = record { bytes = refl; count = refl; used = refl; short = h; siblings = record { tagged = tt; sorted = tt; keyed = tt } }
 
-pub inferred-in : (e : Equivalence) (ms : Values) (r : Inferred) (b : List ℕ) → Added (add Counting (raw e false ms) nil) [] 0 r b → InferredIn e ms r b
-unfolding profileOf
-inferred-in e ms Full b h = record { fits = λ l. absurd (omega arith); full = λ l. refl }
-inferred-in e ms (Records n) b h =
-    let g = add Counting (raw e false ms) nil in
-    let z : length b ≡ typeSize * size g + length (h .free) = ap length (h .bytes) ∙ length-append (encode g) (h .free) ∙ ap (λ k. k + length (h .free)) (length-encode g) in
-    record {
-      fits = λ l. (ap Records (h .count), ap (take (typeSize * size g)) (h .bytes) ∙ take-at (encode g) (h .free) (typeSize * size g) (length-encode g));
-      full = λ l. absurd (omega arith);
-    }
+-- the answer of the run, on the whole arena
+module _ (e : Equivalence) (ms : Values) (b : List ℕ) (n : ℕ) (l : length b ≡ n) where
+  abbrev g : CountingType
+  g = add Counting (raw e false ms) nil
+
+  pub inferred-room : length b < typeSize * (size g + 0) → Front (stored n (profileOf e ms)) (Refused Room 0) b
+  unfolding profileOf
+  inferred-room h = front-room g n b (omega (arith, length-encode g))
+
+  pub inferred-stored : (k : ℕ) → Grown g [] k b → Front (stored n (profileOf e ms)) (Accepted k) b
+  unfolding profileOf
+  inferred-stored k h =
+      let z : length b ≡ length (encode g) + length (h .free) = ap length (h .bytes) ∙ length-append (encode g) (h .free) in
+      front-stored g n k b (h .count) (omega arith) (ap (take (length (encode g))) (h .bytes) ∙ take-at (encode g) (h .free) (length (encode g)) refl)

@@ -1,4 +1,6 @@
 -- `merge` meets its contract.
+use mathlib.Core.Path.{refl}
+use mathlib.Core.List.{[]}
 use native.Mathlib.Omega.{arith}
 use borrow.Author.Needs.{needs}
 use Rattle.counting_type.proofs.Fronts.{front-length, front-cleared}
@@ -19,7 +21,7 @@ same-length : tie.Need-same-length
 same-length c = search needs
 
 returns : tie.Need-returns
-returns c = front-cleared (exact-merged _ _ _ _) (c .before .before .before .before .before .before .before .merge-front .ensures) (c .before .before .before .before .before .before .before .before .before .before .before .before .args .arena .now) _ (c .before .before .before .before .before .before .before .merge-front .kept .1 .1 .1 .0) (rw (c .before .before .before .bytes-written .ensures) at (c .before .before .clear-from .ensures))
+returns c = front-cleared (exact-merged _ _ _ _) (c .before .before .before .before .before .before .before .merge-front .ensures) (c .before .before .before .before .before .before .before .before .before .before .before .before .args .arena .now) _ [] _ (c .before .before .before .before .before .before .before .merge-front .kept .1 .1 .1 .0) (rw (c .before .before .before .bytes-written .ensures) at (c .before .before .clear-from .ensures)) refl
 
 pub merge-spec : {M : Type 1} → statement M
 merge-spec =

@@ -2,7 +2,7 @@
 use mathlib.Core.Path.{sym, _∙_}
 use native.Mathlib.Omega.{arith}
 use borrow.Author.Needs.{needs}
-use Rattle.counting_type.proofs.Fronts.{front-room, front-stored, front-within, front-total, sets-front}
+use Rattle.counting_type.proofs.Fronts.{front-room, front-bytes, front-within, front-total, sets-front}
 use Rattle.counting_type.proofs.merge_checked.Statement.{statement}
 use Rattle.counting_type.proofs.merge_checked.Tie as tie
 
@@ -27,7 +27,7 @@ same-length-3 c = search needs
 returns-3 : tie.Need-returns-3
 returns-3 c =
     let m = c .before .before .before .before .merge-types in
-    rw (m .ensures .1 .0) (front-within _ _ (sym (c .before .before .before .before .merge-types .ensures .1 .1) ∙ c .before .if1 .left) _ _ (front-stored _ _ _ (omega (arith, c .if2 .left, m .kept .1 .1 .1 .0, m .ensures .1 .0)) (rw (m .ensures .0) (sets-front _ _ (omega (arith, c .if2 .left, m .kept .1 .1 .1 .0, m .ensures .1 .0))))))
+    rw (m .ensures .1 .0) (front-within _ _ (sym (c .before .before .before .before .merge-types .ensures .1 .1) ∙ c .before .if1 .left) _ _ (front-bytes _ _ _ (omega (arith, c .if2 .left, m .kept .1 .1 .1 .0, m .ensures .1 .0)) (rw (m .ensures .0) (sets-front _ _ (omega (arith, c .if2 .left, m .kept .1 .1 .1 .0, m .ensures .1 .0))))))
 
 pub merge-checked-spec : {M : Type 1} → statement M
 merge-checked-spec =

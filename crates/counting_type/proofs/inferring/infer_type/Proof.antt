@@ -1,9 +1,9 @@
 -- `infer_type` meets its contract.
 use mathlib.Core.List.{[]}
 use borrow.Author.Needs.{needs}
-use Rattle.counting_type.specs.Checker.{under}
 use Rattle.counting_type.specs.Trie.{nil}
-use Rattle.counting_type.proofs.InPlace.Whole.{table-run, holds-nothing, inferred-in}
+use Rattle.counting_type.proofs.InPlace.Whole.{table-run, holds-nothing, inferred-room, inferred-stored}
+use Rattle.counting_type.proofs.InPlace.Steps.{added-full, added-records}
 use Rattle.counting_type.proofs.inferring.infer_type.Statement.{statement}
 use Rattle.counting_type.proofs.inferring.infer_type.Tie as tie
 
@@ -11,9 +11,15 @@ add-run-requires : tie.Need-add-run-requires
 add-run-requires c κs =
     let s = c .before .before .before .before .before in (
       record { f = nil; q = []; free = _; holds = holds-nothing _ _ (s .pre .1) },
-      record { values = s .pre .0 .messages; run = table-run (s .pre .0 .is-table) },
+      record { values = _; run = table-run (s .pre .0 .is-table) },
       s .pre .2,
     )
+
+enum-known-n : tie.Need-enum-known-n
+enum-known-n c = search needs
+
+enum-told : tie.Need-enum-told
+enum-told c = search needs
 
 same-length : tie.Need-same-length
 same-length c = search needs
@@ -22,10 +28,33 @@ same-length-2 : tie.Need-same-length-2
 same-length-2 c = search needs
 
 returns : tie.Need-returns
-returns c ms n x =
-    let s = c .before .before .before .before .before .before .before .before .before .before in
-    let k = c .before .before .before .before .add-run in
-    inferred-in (under (s .args .label)) ms (k .result) (k .last .0) (k .ensures nil [] _ ms (holds-nothing _ _ (s .pre .1)) (table-run x))
+returns c =
+    let s = c .before .before .before .before .before .before .before .before .before .before .before .before .before in
+    let k = c .before .before .before .before .before .before .before .add-run in
+    inferred-stored _ _ _ _ (k .kept .0) _ (added-records _ _ _ _ _ _ (c .before .n .given .1) (k .ensures nil [] _ _ (holds-nothing _ _ (s .pre .1)) (table-run (s .pre .0 .is-table))))
+
+same-length-3 : tie.Need-same-length-3
+same-length-3 c = search needs
+
+same-length-4 : tie.Need-same-length-4
+same-length-4 c = search needs
+
+returns-2 : tie.Need-returns-2
+returns-2 c =
+    let s = c .before .before .before .before .before .before .before .before .before .before .before .before in
+    let k = c .before .before .before .before .before .before .add-run in
+    inferred-room _ _ _ _ (k .kept .0) (added-full _ _ _ _ _ (c .enum-told .given .1) (k .ensures nil [] _ _ (holds-nothing _ _ (s .pre .1)) (table-run (s .pre .0 .is-table))))
 
 pub infer-type-spec : {M : Type 1} → statement M
-infer-type-spec = tie.close (tie.spec add-run-requires same-length same-length-2 returns)
+infer-type-spec =
+    tie.close
+    (tie.spec
+    add-run-requires
+    enum-known-n
+    enum-told
+    same-length
+    same-length-2
+    returns
+    same-length-3
+    same-length-4
+    returns-2)

@@ -1,8 +1,8 @@
 -- `bad_length` meets its contract.
 use borrow.Author.Tests.{eq-eqb, ne-eqb}
 use Rattle.value_table.specs.Judged.{badLength}
-use Rattle.value_table.proofs.walk.bad_length.Statement.{statement}
-use Rattle.value_table.proofs.walk.bad_length.Tie as tie
+use Rattle.value_table.proofs.record.bad_length.Statement.{statement}
+use Rattle.value_table.proofs.record.bad_length.Tie as tie
 
 returns : tie.Need-returns
 unfolding badLength

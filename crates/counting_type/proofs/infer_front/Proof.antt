@@ -1,0 +1,89 @@
+-- `infer_front` meets its contract.
+use mathlib.Core.Path.{_≡_, refl, sym, _∙_, ap}
+use mathlib.Core.Bool.{false, not, _||_}
+use mathlib.Core.List.{List}
+use Prim.Native.Nat.{ℕ, _≤_}
+use native.Mathlib.Omega.{arith}
+use lib.Dec.{eqb}
+use lib.ListN.{length}
+use borrow.Author.Tests.{eqb-true, not-false}
+use borrow.Author.Needs.{needs}
+use Rattle.value_table.specs.Value.{maxLength}
+use Rattle.value_table.specs.Judged.{badLength}
+use Rattle.value_table.specs.Outcome.{outcomeOf}
+use Rattle.value_table.proofs.Tests.{or-parts}
+use Rattle.value_table.proofs.Acceptance.{accepts}
+use Rattle.counting_type.specs.Answers.{inferred}
+use Rattle.counting_type.specs.declared.Refusal.the-variants.{Length, Equivalence, Table}
+use Rattle.counting_type.specs.WellFormed.{badTypeLength}
+use Rattle.counting_type.proofs.Fronts.{front-refused, refused-from}
+use Rattle.counting_type.proofs.Equivalence.{known, unknown}
+use Rattle.counting_type.proofs.WellFormed.Whole.{type-length}
+use Rattle.counting_type.proofs.infer_front.Statement.{statement}
+use Rattle.counting_type.proofs.infer_front.Tie as tie
+
+buffers : (table arena work : ℕ) → (badLength table || badTypeLength arena || not (eqb work arena)) ≡ false → (arena ≤ maxLength) × (arena ≤ work)
+buffers table arena work h =
+    let p = or-parts (badLength table || badTypeLength arena) (not (eqb work arena)) h in
+    (type-length arena (or-parts (badLength table) (badTypeLength arena) (p .0) .1) .1, omega (arith, eqb-true work arena (not-false _ (p .1))))
+
+bad-buffers-requires : tie.Need-bad-buffers-requires
+bad-buffers-requires c κs = search needs
+
+returns : tie.Need-returns
+unfolding inferred
+returns c = front-refused Length 0 _ (rw (sym (c .before .bad-buffers .ensures) ∙ c .if1 .taken) refl)
+
+returns-2 : tie.Need-returns-2
+unfolding inferred
+returns-2 c = front-refused Equivalence 0 _ (rw (sym (c .before .before .bad-buffers .ensures) ∙ c .before .if1 .left, unknown _ (c .if2 .taken)) refl)
+
+judge-requires : tie.Need-judge-requires
+judge-requires c κs = search needs
+
+enum-known-why : tie.Need-enum-known-why
+enum-known-why c = search needs
+
+enum-told : tie.Need-enum-told
+enum-told c = search needs
+
+infer-type-requires : tie.Need-infer-type-requires
+infer-type-requires c κs =
+    let j = sym (c .before .before .before .before .judge .ensures) ∙ ap outcomeOf (c .before .before .enum-told .given .1) in
+    let l = buffers (length (c .before .before .before .before .before .before .before .before .before .before .before .args .table .now)) (length (c .before .before .before .before .before .before .before .before .before .before .before .args .arena .now)) (length (c .before .before .before .before .before .before .before .before .before .before .before .args .work .now)) (sym (c .before .before .before .before .before .before .before .bad-buffers .ensures) ∙ c .before .before .before .before .before .before .if1 .left) in
+    (record { count = _; is-table = accepts _ _ (λ p. c .before .before .before .before .before .before .before .before .before .before .shared-slice-known .given p .fits) .0 j }, l .0, l .1)
+
+returns-3 : tie.Need-returns-3
+unfolding inferred
+returns-3 c =
+    let j = sym (c .before .before .before .judge .ensures) ∙ ap outcomeOf (c .before .why .given .1) in
+    let why = c .before .why .given .0 in
+    front-refused (Table (why .0)) (why .1 .0) _ (rw (sym (c .before .before .before .before .before .before .bad-buffers .ensures) ∙ c .before .before .before .before .before .if1 .left, known _ (c .before .before .before .before .if2 .left), j) (refused-from (why .0) (why .1 .0) _ _ _))
+
+same-length : tie.Need-same-length
+same-length c = search needs
+
+same-length-2 : tie.Need-same-length-2
+same-length-2 c = search needs
+
+returns-4 : tie.Need-returns-4
+unfolding inferred
+returns-4 c =
+    let j = sym (c .before .before .before .before .before .before .before .before .before .judge .ensures) ∙ ap outcomeOf (c .before .before .before .before .before .before .before .enum-told .given .1) in
+    rw (sym (c .before .before .before .before .before .before .before .before .before .before .before .before .bad-buffers .ensures) ∙ c .before .before .before .before .before .before .before .before .before .before .before .if1 .left, known _ (c .before .before .before .before .before .before .before .before .before .before .if2 .left), j) (c .before .before .before .before .infer-type .ensures)
+
+pub infer-front-spec : {M : Type 1} → statement M
+infer-front-spec =
+    tie.close
+    (tie.spec
+    bad-buffers-requires
+    returns
+    returns-2
+    judge-requires
+    enum-known-why
+    enum-told
+    infer-type-requires
+    returns-3
+    same-length
+    same-length-2
+    returns-4)
