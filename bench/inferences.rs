@@ -3,7 +3,9 @@
 use crate::pair::{Answer, Buffers, Inputs, Pair, Workload, KIND, LABEL};
 use crate::plain_inference;
 use crate::sequence::shuffled;
-use crate::tables::{fifty_shapes, messages, nested, one_field_shapes, with_keys};
+use crate::tables::{
+    fifty_shapes, matrices, messages, nested, one_field_shapes, varied, with_keys,
+};
 
 extern "C" {
     fn ct_infer(
@@ -90,10 +92,10 @@ static INFER_DEFAULT: Pair = Pair {
     plain: plain_default,
 };
 
-fn workload(pair: &'static Pair, name: &'static str, equivalence: u64, first: &[u8]) -> Workload {
+fn workload(pair: &'static Pair, name: &str, equivalence: u64, first: &[u8]) -> Workload {
     Workload {
         pair,
-        name,
+        name: name.to_string(),
         inputs: Inputs {
             first: first.to_vec(),
             second: Vec::new(),
@@ -106,28 +108,21 @@ fn workload(pair: &'static Pair, name: &'static str, equivalence: u64, first: &[
 /// fit no arena.
 pub fn workloads(n: usize) -> Vec<Workload> {
     let f = (n / 4 - 1) as u16;
-    let up = with_keys(1..=f);
-    let down = with_keys((1..=f).rev());
-    let mixed = with_keys(shuffled(1..=f));
-    let messages = messages(n / 13);
-    let shapes = fifty_shapes(n / 11);
-    let nested = nested(n / 32);
-    let many = one_field_shapes((n / 6) as u16);
-    vec![
-        workload(&INFER_DEFAULT, "messages", KIND, &messages),
-        workload(&INFER, "messages, kind", KIND, &messages),
-        workload(&INFER, "messages, label", LABEL, &messages),
-        workload(&INFER, "fifty shapes, kind", KIND, &shapes),
-        workload(&INFER, "fifty shapes, label", LABEL, &shapes),
-        workload(&INFER, "nested, kind", KIND, &nested),
-        workload(&INFER, "nested, label", LABEL, &nested),
-        workload(&INFER, "fields ascending, kind", KIND, &up),
-        workload(&INFER, "fields ascending, label", LABEL, &up),
-        workload(&INFER, "fields descending, kind", KIND, &down),
-        workload(&INFER, "fields descending, label", LABEL, &down),
-        workload(&INFER, "fields mixed, kind", KIND, &mixed),
-        workload(&INFER, "fields mixed, label", LABEL, &mixed),
-        workload(&INFER, "many shapes, kind", KIND, &many),
-        workload(&INFER, "many shapes, label", LABEL, &many),
-    ]
+    let tables = [
+        ("messages", messages(n / 13)),
+        ("varied", varied(n / 13)),
+        ("fifty shapes", fifty_shapes(n / 11)),
+        ("nested", nested(n / 32)),
+        ("matrices", matrices(n / 21)),
+        ("fields ascending", with_keys(1..=f)),
+        ("fields descending", with_keys((1..=f).rev())),
+        ("fields mixed", with_keys(shuffled(1..=f))),
+        ("many shapes", one_field_shapes((n / 6) as u16)),
+    ];
+    let mut workloads = vec![workload(&INFER_DEFAULT, "messages", KIND, &tables[0].1)];
+    for (name, table) in tables {
+        workloads.push(workload(&INFER, &format!("{name}, kind"), KIND, &table));
+        workloads.push(workload(&INFER, &format!("{name}, label"), LABEL, &table));
+    }
+    workloads
 }

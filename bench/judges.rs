@@ -52,11 +52,11 @@ static TYPES: Pair = Pair {
     plain: plain_type,
 };
 
-fn workload(pair: &'static Pair, name: &'static str, equivalence: u64, first: Vec<u8>) -> Workload {
+fn workload(pair: &'static Pair, name: &str, equivalence: u64, first: Vec<u8>) -> Workload {
     let second = Vec::new();
     Workload {
         pair,
-        name,
+        name: name.to_string(),
         inputs: Inputs {
             first,
             second,

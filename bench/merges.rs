@@ -73,10 +73,10 @@ fn equal(make: fn(Vec<u16>) -> Vec<u8>, n: u16) -> [Vec<u8>; 2] {
     [1, 1].map(|first| make((first..=n).collect()))
 }
 
-fn workload(name: &'static str, equivalence: u64, [first, second]: [Vec<u8>; 2]) -> Workload {
+fn workload(name: &str, equivalence: u64, [first, second]: [Vec<u8>; 2]) -> Workload {
     Workload {
         pair: &MERGE,
-        name,
+        name: name.to_string(),
         inputs: Inputs {
             first,
             second,

@@ -60,7 +60,7 @@ pub struct Pair {
 /// A call on inputs that it accepts.
 pub struct Workload {
     pub pair: &'static Pair,
-    pub name: &'static str,
+    pub name: String,
     pub inputs: Inputs,
 }
 

@@ -1,8 +1,10 @@
 //! Tables for the workloads.
 
-use crate::sequence::shuffled;
+use crate::sequence::{shuffled, Sequence};
 
+const NULL: u8 = 1;
 const NUMBER: u8 = 3;
+const STRING: u8 = 4;
 const RECORD: u8 = 5;
 const ARRAY: u8 = 6;
 
@@ -30,16 +32,41 @@ pub fn nested(n: usize) -> Vec<u8> {
     message.repeat(n)
 }
 
-/// n messages of ten fields, one of them a small array.
-pub fn messages(n: usize) -> Vec<u8> {
+/// A message of ten fields, one of them a small array; `kind` gives the kinds of the others.
+fn message(mut kind: impl FnMut(u16) -> u8) -> Vec<u8> {
     let mut message = Vec::new();
     put(&mut message, RECORD, 0, 13);
     for key in 1..=9 {
-        put(&mut message, 1 + (key % 4) as u8, key, 1);
+        put(&mut message, kind(key), key, 1);
     }
     put(&mut message, ARRAY, 10, 3);
     put(&mut message, NUMBER, 0, 1);
     put(&mut message, NUMBER, 0, 1);
+    message
+}
+
+/// n equal messages of ten fields.
+pub fn messages(n: usize) -> Vec<u8> {
+    message(|key| 1 + (key % 4) as u8).repeat(n)
+}
+
+/// n messages of ten fields that are now a null, now a string.
+pub fn varied(n: usize) -> Vec<u8> {
+    let mut sequence = Sequence::new();
+    let mut kind = |_| [NULL, STRING][sequence.below(2)];
+    (0..n).flat_map(|_| message(&mut kind)).collect()
+}
+
+/// n messages of four arrays with four numbers each.
+pub fn matrices(n: usize) -> Vec<u8> {
+    let mut row = Vec::new();
+    put(&mut row, ARRAY, 0, 5);
+    for _ in 0..4 {
+        put(&mut row, NUMBER, 0, 1);
+    }
+    let mut message = Vec::new();
+    put(&mut message, ARRAY, 0, 21);
+    message.extend(row.repeat(4));
     message.repeat(n)
 }
 
