@@ -9,12 +9,12 @@ use native.Mathlib.Decide.{decLt}
 use lib.Dec.{ltb}
 use borrow.Author.Tests.{lt-ltb, le-ltb, eq-eqb, ne-eqb}
 use Rattle.value_table.specs.Value.{recordKind}
-use Rattle.counting_type.specs.Order.{then, comparePair, compareList, compareOn}
-use Rattle.counting_type.specs.Label.{Equivalence, listed, labelOf, compareLabel}
-use Rattle.counting_type.specs.Encoding.{typeKind, typeKey, typeSpan}
-use Rattle.counting_type.specs.WellFormed.{isLt}
+use Rattle.counting_theory.specs.Order.{then, comparePair, compareList, compareOn}
+use Rattle.counting_theory.specs.Label.{Equivalence, listed, labelOf, compareLabel}
+use Rattle.counting_theory.specs.Encoding.{typeKind, typeKey, typeSpan}
+use Rattle.counting_theory.specs.WellFormed.{isLt}
 use Rattle.counting_type.specs.Checker.{keysFrom, keysIn, labelAt, under, FieldChain, done, then as next, FieldsInside}
-use Rattle.counting_type.proofs.Order.{number-refl, less-compare, more-compare}
+use Rattle.counting_theory.proofs.Order.{number-refl, less-compare, more-compare}
 
 -- what is known at a field of a chain
 pub record Field (b : List ℕ) (end p : ℕ) (ks : List ℕ) : Type 0 where

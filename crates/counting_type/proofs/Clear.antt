@@ -6,7 +6,7 @@ use native.Mathlib.Numerals.{add-one, unary-clauses}
 use native.Mathlib.Omega.{arith}
 use lib.ListN.{length, take, set, replicate, length-set}
 use lib.Seq.{take-suc-set, take-all}
-use Rattle.counting_type.specs.Answers.{zeros}
+use Rattle.counting_theory.specs.Answers.{zeros}
 
 -- the bytes before i, then zeros
 abbrev pub clearedFrom : List ℕ → ℕ → List ℕ

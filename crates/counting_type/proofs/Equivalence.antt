@@ -5,7 +5,7 @@ use Prim.Native.Nat.{ℕ, zero, suc, _≤_, _<_}
 use native.Mathlib.Omega.{arith}
 use lib.Dec.{eqb}
 use Rattle.counting_type.specs.Checker.{under}
-use Rattle.counting_type.specs.Answers.{equivalenceOf}
+use Rattle.counting_theory.specs.Answers.{equivalenceOf}
 
 pub known : (n : ℕ) → n ≤ 1 → equivalenceOf n ≡ some (under (eqb n 1))
 known zero h = refl

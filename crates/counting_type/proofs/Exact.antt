@@ -8,13 +8,13 @@ use lib.Dec.{eqb, ltb}
 use lib.ListN.{length, take}
 use Rattle.value_table.specs.Outcome.{Outcome}
 use Rattle.value_table.specs.Judged.{badLength, judged, messages}
-use Rattle.counting_type.specs.Trie.{size, reduce, largestTotal}
-use Rattle.counting_type.specs.Label.{Equivalence, Counting, CountingType}
-use Rattle.counting_type.specs.Raw.{profileOf}
-use Rattle.counting_type.specs.Encoding.{typeSize, typeOf}
-use Rattle.counting_type.specs.WellFormed.{maxTotal, wellFormed, badTypeLength}
-use Rattle.counting_type.specs.Answers.{equivalenceOf, Written, turnedDown, arenaWith, stored, inferredFrom, inferredUnder, inferred, mergedUnder, merged}
-use Rattle.counting_type.proofs.Encoding.Header.{length-encode}
+use Rattle.counting_theory.specs.Trie.{size, reduce, largestTotal}
+use Rattle.counting_theory.specs.Label.{Equivalence, Counting, CountingType}
+use Rattle.counting_theory.specs.Raw.{profileOf}
+use Rattle.counting_theory.specs.Encoding.{typeSize, typeOf}
+use Rattle.counting_theory.specs.WellFormed.{maxTotal, wellFormed, badTypeLength}
+use Rattle.counting_theory.specs.Answers.{equivalenceOf, Written, turnedDown, arenaWith, stored, inferredFrom, inferredUnder, inferred, mergedUnder, merged}
+use Rattle.counting_theory.proofs.Encoding.Header.{length-encode}
 use Rattle.counting_type.proofs.Clear.{clearedFrom}
 
 abbrev pub Exact : Written → Type 0

@@ -1,7 +1,7 @@
 -- What the calls that write a type leave: first the type in the front of the arena, then zeros behind it.
 use mathlib.Core.Path.{_≡_, refl, ap, _∙_}
 use mathlib.Core.Bool.{true, false}
-use mathlib.Core.List.{List, []}
+use mathlib.Core.List.{List}
 use Prim.Native.Nat.{ℕ, _*_, _/_, _≤_, _<_}
 use native.Mathlib.Omega.{arith}
 use lib.Dec.{ltb}
@@ -16,13 +16,13 @@ use Rattle.counting_type.specs.declared.Answered.{Answered}
 use Rattle.counting_type.specs.declared.Answered.the-variants.{Accepted, Refused}
 use Rattle.counting_type.specs.declared.Refusal.{Refusal}
 use Rattle.counting_type.specs.declared.Refusal.the-variants.{Total, Room}
-use Rattle.counting_type.specs.Trie.{size, largestTotal}
-use Rattle.counting_type.specs.Label.{Equivalence, Counting, CountingType}
-use Rattle.counting_type.specs.Encoding.{typeSize, encode}
-use Rattle.counting_type.specs.WellFormed.{maxTotal}
-use Rattle.counting_type.specs.Answers.{Written, turnedDown, zeros, leaves, stored, inferredFrom, mergedTypes}
+use Rattle.counting_theory.specs.Trie.{size, largestTotal}
+use Rattle.counting_theory.specs.Label.{Equivalence, Counting, CountingType}
+use Rattle.counting_theory.specs.Encoding.{typeSize, encode}
+use Rattle.counting_theory.specs.WellFormed.{maxTotal}
+use Rattle.counting_theory.specs.Answers.{Written, turnedDown, zeros, leaves, stored, inferredFrom, mergedTypes}
 use Rattle.counting_type.specs.Outcomes.{numberOfRefusal, outcomeOf, leftBy, Front}
-use Rattle.counting_type.proofs.Encoding.Header.{length-encode}
+use Rattle.counting_theory.proofs.Encoding.Header.{length-encode}
 use Rattle.counting_type.proofs.Clear.{clearedFrom}
 use Rattle.counting_type.proofs.Exact.{Exact, cleared-arena}
 

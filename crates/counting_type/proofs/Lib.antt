@@ -1,13 +1,4 @@
--- The laws behind the statements; a folder for each function's proof.
-pub mod Order
-pub mod Trie
-pub mod KeyList
-pub mod Label
-pub mod Tagged
-pub mod Encoding
-pub mod Published
-pub mod Values
-pub mod WellFormed
+-- The laws behind the code's loops; a folder for each function's proof.
 pub mod Chain
 pub mod OnePass
 pub mod TypeMerge
@@ -16,5 +7,3 @@ pub mod Equivalence
 pub mod Clear
 pub mod Exact
 pub mod Fronts
-pub mod Ways
-pub mod Trials

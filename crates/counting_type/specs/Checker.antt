@@ -10,9 +10,9 @@ use lib.ListN.{length}
 use Rattle.value_table.specs.Value.{recordKind, maxLength}
 use Rattle.counting_type.specs.declared.checker.Checked.{Checked}
 use Rattle.counting_type.specs.declared.checker.Checked.the-variants.{Total, Faulty}
-use Rattle.counting_type.specs.Label.{Equivalence, byKind, byLabel, Label, labelOf, compareLabel}
-use Rattle.counting_type.specs.Encoding.{typeSize, typeKind, typeKey, typeSpan, typeCount}
-use Rattle.counting_type.specs.WellFormed.{maxTotal, typeRecord, isLt, fieldCount}
+use Rattle.counting_theory.specs.Label.{Equivalence, byKind, byLabel, Label, labelOf, compareLabel}
+use Rattle.counting_theory.specs.Encoding.{typeSize, typeKind, typeKey, typeSpan, typeCount}
+use Rattle.counting_theory.specs.WellFormed.{maxTotal, typeRecord, isLt, fieldCount}
 
 -- the keys of the fields in records i to end; k bounds their number
 unfoldable pub keysFrom : List ℕ → ℕ → ℕ → ℕ → List ℕ

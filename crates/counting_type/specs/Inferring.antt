@@ -22,10 +22,10 @@ use Rattle.counting_type.specs.declared.placing.Put.the-variants.{NoRoom
 use Rattle.counting_type.specs.declared.inferring.Inferred.{Inferred}
 use Rattle.counting_type.specs.declared.inferring.Inferred.the-variants.{Records, Full}
 use Rattle.counting_type.specs.declared.inferring.Item.{Item}
-use Rattle.counting_type.specs.Trie.{nil, node, append, size, insert, add, Sorted}
-use Rattle.counting_type.specs.Label.{Equivalence, Label, fieldKind, listed, labelOf, compareLabel, Counting, CountingType}
-use Rattle.counting_type.specs.Raw.{ascending, raw}
-use Rattle.counting_type.specs.Encoding.{typeSize, typeKind, header, encode, Tagged}
+use Rattle.counting_theory.specs.Trie.{nil, node, append, size, insert, add, Sorted}
+use Rattle.counting_theory.specs.Label.{Equivalence, Label, fieldKind, listed, labelOf, compareLabel, Counting, CountingType}
+use Rattle.counting_theory.specs.Raw.{ascending, raw}
+use Rattle.counting_theory.specs.Encoding.{typeSize, typeKind, header, encode, Tagged}
 use Rattle.counting_type.specs.Checker.{InTable, FieldsInside}
 
 -- the first n keys of a key list in bytes, two bytes a key

@@ -1,17 +1,5 @@
--- The statements of the upper library: generic tries, then labels, values and bytes over them.
-pub mod Order
-pub mod Trie
-pub mod Label
-pub mod Raw
-pub mod Place
-pub mod Encoding
-pub mod Published
-pub mod Meaning
-pub mod WellFormed
+-- What the contracts of the upper library cite beside the theory.
 pub mod Checker
 pub mod Merging
 pub mod Inferring
-pub mod Answers
 pub mod Outcomes
-pub mod Ways
-pub mod Trials

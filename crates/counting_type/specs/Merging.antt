@@ -10,11 +10,11 @@ use Rattle.value_table.specs.Value.{maxDepth, recordKind}
 use Rattle.counting_type.specs.declared.addend.Level.{Level}
 use Rattle.counting_type.specs.declared.addend.Order.{Order}
 use Rattle.counting_type.specs.declared.addend.Order.the-variants.{Less, Same, More}
-use Rattle.counting_type.specs.Trie.{size, reduce, largestBelow, largestTotal}
-use Rattle.counting_type.specs.Label.{Equivalence, Counting, CountingType}
-use Rattle.counting_type.specs.Place.{FieldTotals}
-use Rattle.counting_type.specs.Encoding.{typeSize, typeKind, typeKey, typeSpan, typeCount, header, encode, typeOf, Tagged, Fitting}
-use Rattle.counting_type.specs.WellFormed.{maxTotal, Shallow}
+use Rattle.counting_theory.specs.Trie.{size, reduce, largestBelow, largestTotal}
+use Rattle.counting_theory.specs.Label.{Equivalence, Counting, CountingType}
+use Rattle.counting_theory.specs.Place.{FieldTotals}
+use Rattle.counting_theory.specs.Encoding.{typeSize, typeKind, typeKey, typeSpan, typeCount, header, encode, typeOf, Tagged, Fitting}
+use Rattle.counting_theory.specs.WellFormed.{maxTotal, Shallow}
 use Rattle.counting_type.specs.Checker.{under}
 
 -- the code's comparisons

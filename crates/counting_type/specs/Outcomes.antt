@@ -5,7 +5,7 @@ use Prim.Native.Nat.{ℕ}
 use lib.ListN.{length, take}
 use Rattle.value_table.specs.Outcome.{Outcome, accepted, refused}
 use Rattle.value_table.specs.Outcome as table
-use Rattle.counting_type.specs.Answers.{Written, Left}
+use Rattle.counting_theory.specs.Answers.{Written, Left}
 use Rattle.counting_type.specs.declared.Answered.{Answered}
 use Rattle.counting_type.specs.declared.Answered.the-variants.{Accepted, Refused}
 use Rattle.counting_type.specs.declared.Refusal.{Refusal}

@@ -8,10 +8,10 @@ ghost use mathlib.Core.Path.{_≡_};
 ghost use mathlib.Core.Bool.{true, cond};
 ghost use Prim.Native.Nat.{_≤_, _<_, compare};
 ghost use lib.ListN.{length};
-ghost use Rattle.counting_type.specs.Trie.{total};
-ghost use Rattle.counting_type.specs.Order.{compareList};
-ghost use Rattle.counting_type.specs.Label.{byLabel, compareLabel, Counting};
-ghost use Rattle.counting_type.specs.Encoding.{siblingKeys, typeOf};
+ghost use Rattle.counting_theory.specs.Trie.{total};
+ghost use Rattle.counting_theory.specs.Order.{compareList};
+ghost use Rattle.counting_theory.specs.Label.{byLabel, compareLabel, Counting};
+ghost use Rattle.counting_theory.specs.Encoding.{siblingKeys, typeOf};
 ghost use Rattle.counting_type.specs.Checker.{under, labelAt};
 ghost use Rattle.counting_type.specs.Merging.{orderingOf, front, body, rest, Headed, Coded, Part, insideOf};
 

@@ -11,10 +11,10 @@ ghost use Prim.Native.Nat.{ℕ, _+_, _-_, _≤_, _<_, compare};
 ghost use lib.ListN.{length};
 ghost use lib.Dec.{eqb, leb, ltb};
 ghost use Rattle.value_table.specs.Value.{maxDepth, arrayKind, lastScalar};
-ghost use Rattle.counting_type.specs.Order.{compareList};
-ghost use Rattle.counting_type.specs.Label.{compareLabel};
-ghost use Rattle.counting_type.specs.Encoding.{typeKind, typeSpan, typeCount};
-ghost use Rattle.counting_type.specs.WellFormed.{maxTotal, badTypeLength, wellFormed, isLt, placedRecord, fieldRecord, typeRecord, fieldCount};
+ghost use Rattle.counting_theory.specs.Order.{compareList};
+ghost use Rattle.counting_theory.specs.Label.{compareLabel};
+ghost use Rattle.counting_theory.specs.Encoding.{typeKind, typeSpan, typeCount};
+ghost use Rattle.counting_theory.specs.WellFormed.{maxTotal, badTypeLength, wellFormed, isLt, placedRecord, fieldRecord, typeRecord, fieldCount};
 ghost use Rattle.counting_type.specs.Checker.{InTable, RunOf, under, checkedOf, isSome, hasTotal, addends, fields, fits, keysIn, labelAt, ordered, addendRight, checkRun, FieldsInside, AddendInside};
 
 const MAX_TOTAL: usize = 1000000000000000;

@@ -8,7 +8,7 @@ mod merging;
 mod placing;
 mod search;
 mod store;
-mod type_record;
+pub mod type_record;
 mod type_store;
 
 use checker::well_formed;
@@ -27,12 +27,12 @@ ghost use lib.Dec.{eqb};
 ghost use lib.ListN.{length};
 ghost use Rattle.value_table.specs.Judged.{badLength};
 ghost use Rattle.value_table.specs.Outcome.{outcomeOfAnswer};
-ghost use Rattle.counting_type.specs.Trie.{reduce};
-ghost use Rattle.counting_type.specs.Label.{Counting};
-ghost use Rattle.counting_type.specs.Encoding.{typeSize, typeOf};
-ghost use Rattle.counting_type.specs.WellFormed.{badTypeLength, IsType};
+ghost use Rattle.counting_theory.specs.Trie.{reduce};
+ghost use Rattle.counting_theory.specs.Label.{Counting};
+ghost use Rattle.counting_theory.specs.Encoding.{typeSize, typeOf};
+ghost use Rattle.counting_theory.specs.WellFormed.{badTypeLength, IsType};
 ghost use Rattle.counting_type.specs.Checker.{under};
-ghost use Rattle.counting_type.specs.Answers.{judgedType, leaves, inferred, inferredDefault, merged, mergedTypes};
+ghost use Rattle.counting_theory.specs.Answers.{judgedType, leaves, inferred, inferredDefault, merged, mergedTypes};
 ghost use Rattle.counting_type.specs.Outcomes.{numberOfRefusal, outcomeOf, leftBy, Front};
 
 // The equivalence of call 3: kind.

@@ -19,10 +19,10 @@ ghost use Prim.Native.Nat.{_+_, _^_, _<_};
 ghost use lib.Dec.{ltb};
 ghost use lib.ListN.{length};
 ghost use lib.Seq.{sets};
-ghost use Rattle.counting_type.specs.Trie.{reduce, total, largestTotal};
-ghost use Rattle.counting_type.specs.Label.{Counting};
-ghost use Rattle.counting_type.specs.Encoding.{typeKind, encode, typeOf};
-ghost use Rattle.counting_type.specs.WellFormed.{maxTotal, IsType};
+ghost use Rattle.counting_theory.specs.Trie.{reduce, total, largestTotal};
+ghost use Rattle.counting_theory.specs.Label.{Counting};
+ghost use Rattle.counting_theory.specs.Encoding.{typeKind, encode, typeOf};
+ghost use Rattle.counting_theory.specs.WellFormed.{maxTotal, IsType};
 ghost use Rattle.counting_type.specs.Checker.{under};
 ghost use Rattle.counting_type.specs.Merging.{Headed, Part, Kept, Ran, Stored, Joined};
 

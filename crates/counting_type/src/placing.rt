@@ -12,8 +12,8 @@ ghost use Prim.Native.Nat.{ℕ, _+_, _*_, _≤_};
 ghost use lib.Dec.{eqb};
 ghost use lib.ListN.{length};
 ghost use Rattle.value_table.specs.Value.{recordKind, Values};
-ghost use Rattle.counting_type.specs.Trie.{size};
-ghost use Rattle.counting_type.specs.Label.{CountingType};
+ghost use Rattle.counting_theory.specs.Trie.{size};
+ghost use Rattle.counting_theory.specs.Label.{CountingType};
 ghost use Rattle.counting_type.specs.Checker.{under};
 ghost use Rattle.counting_type.specs.Inferring.{TableRun, SomeRun, wanted, Holds, Starts, HeldFrom, split, CountedWithin, PlacedAt, labelFor, withItem};
 

@@ -10,8 +10,8 @@ ghost use mathlib.Core.List.{List};
 ghost use Prim.Native.Nat.{ℕ, _*_, _≤_, compare};
 ghost use lib.Dec.{ltb};
 ghost use lib.ListN.{length};
-ghost use Rattle.counting_type.specs.Order.{compareList};
-ghost use Rattle.counting_type.specs.Label.{compareLabel, CountingType};
+ghost use Rattle.counting_theory.specs.Order.{compareList};
+ghost use Rattle.counting_theory.specs.Label.{compareLabel, CountingType};
 ghost use Rattle.counting_type.specs.Checker.{under, keysIn, labelAt, FieldsInside};
 ghost use Rattle.counting_type.specs.Inferring.{keysOf, comparedOf, Comparable, wanted, spot, Holds, Starts, Shown};
 

@@ -5,7 +5,7 @@ ghost use Prim.Native.Nat.{_+_, _-_, _%_, _^_, _≤_, _<_, min};
 ghost use lib.ListN.{length};
 ghost use lib.Seq.{sets};
 ghost use Rattle.value_table.specs.Number.{bytesOf};
-ghost use Rattle.counting_type.specs.Encoding.{typeSize};
+ghost use Rattle.counting_theory.specs.Encoding.{typeSize};
 ghost use Rattle.counting_type.specs.Merging.{headerOf};
 
 // The lowest byte of v.
@@ -16,7 +16,7 @@ fn low(v: usize) -> u8
 }
 
 // Stores the two lowest bytes of v.
-fn store16(out: &mut [u8], at: usize, v: usize)
+pub fn store16(out: &mut [u8], at: usize, v: usize)
     requires { ⌜ at + 2 ≤ length (now out) ⌝ }
     ensures { λ _. ⌜ now (out .exit) ≡ sets (now (out .entry)) at (bytesOf 2 v) ⌝ }
 {
@@ -25,7 +25,7 @@ fn store16(out: &mut [u8], at: usize, v: usize)
 }
 
 // Stores the four lowest bytes of v.
-fn store32(out: &mut [u8], at: usize, v: usize)
+pub fn store32(out: &mut [u8], at: usize, v: usize)
     requires { ⌜ at + 4 ≤ length (now out) ⌝ }
     ensures { λ _. ⌜ now (out .exit) ≡ sets (now (out .entry)) at (bytesOf 4 v) ⌝ }
 {
@@ -34,7 +34,7 @@ fn store32(out: &mut [u8], at: usize, v: usize)
 }
 
 // Stores the eight bytes of v.
-fn store64(out: &mut [u8], at: usize, v: usize)
+pub fn store64(out: &mut [u8], at: usize, v: usize)
     requires { ⌜ at + 8 ≤ length (now out) ⌝ }
     ensures { λ _. ⌜ now (out .exit) ≡ sets (now (out .entry)) at (bytesOf 8 v) ⌝ }
 {
@@ -43,7 +43,7 @@ fn store64(out: &mut [u8], at: usize, v: usize)
 }
 
 // Stores a type record where there is room for it.
-fn store_record(out: &mut [u8], at: usize, kind: u8, key: usize, span: usize, count: usize)
+pub fn store_record(out: &mut [u8], at: usize, kind: u8, key: usize, span: usize, count: usize)
     requires { ⌜ at + typeSize ≤ length (now out) ⌝ }
     ensures { λ _. ⌜ now (out .exit) ≡ sets (now (out .entry)) at (headerOf kind key span count) ⌝ }
 {

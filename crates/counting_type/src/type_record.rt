@@ -5,8 +5,8 @@ use value_table::little_endian::number64;
 ghost use mathlib.Core.Path.{_≡_};
 ghost use Prim.Native.Nat.{_+_, _*_, _≤_, _<_};
 ghost use lib.ListN.{length};
-ghost use Rattle.counting_type.specs.WellFormed.{badTypeLength};
-ghost use Rattle.counting_type.specs.Encoding.{typeSize, typeKind, typeZero, typeKey, typeSpan, typeCount};
+ghost use Rattle.counting_theory.specs.WellFormed.{badTypeLength};
+ghost use Rattle.counting_theory.specs.Encoding.{typeSize, typeKind, typeZero, typeKey, typeSpan, typeCount};
 
 pub const SIZE: usize = 16;
 

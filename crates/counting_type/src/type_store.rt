@@ -1,40 +1,14 @@
-// Stores in an arena: numbers, a record's count, and a new record with the gap for it.
+// Stores in an arena: one more in a record's count, and a new record with the gap for it.
+use crate::store::store_record;
+use crate::store::store64;
+use crate::type_record;
 use value_table::little_endian::number64;
 ghost use mathlib.Core.Path.{_≡_};
 ghost use mathlib.Core.List.{List, _++_};
 ghost use Prim.Native.Nat.{ℕ, _+_, _≤_, _<_};
 ghost use lib.ListN.{length, take, drop};
-ghost use lib.Seq.{sets};
-ghost use Rattle.value_table.specs.Number.{bytesOf};
-ghost use Rattle.counting_type.specs.Label.{Label};
-ghost use Rattle.counting_type.specs.Encoding.{typeSize, header};
-
-// Stores x in two bytes from p.
-pub fn put16(b: &mut [u8], p: usize, x: usize)
-    requires { ⌜ p + 2 ≤ length (now b) ⌝ }
-    ensures { λ _. ⌜ now (b .exit) ≡ sets (now (b .entry)) p (bytesOf 2 x) ⌝ }
-{
-    b[p] = (x % 256) as u8;
-    b[p + 1] = (x / 256 % 256) as u8;
-}
-
-// Stores x in four bytes from p.
-pub fn put32(b: &mut [u8], p: usize, x: usize)
-    requires { ⌜ p + 4 ≤ length (now b) ⌝ }
-    ensures { λ _. ⌜ now (b .exit) ≡ sets (now (b .entry)) p (bytesOf 4 x) ⌝ }
-{
-    put16(b, p, x);
-    put16(b, p + 2, x / 65536);
-}
-
-// Stores x in eight bytes from p.
-fn put64(b: &mut [u8], p: usize, x: usize)
-    requires { ⌜ p + 8 ≤ length (now b) ⌝ }
-    ensures { λ _. ⌜ now (b .exit) ≡ sets (now (b .entry)) p (bytesOf 8 x) ⌝ }
-{
-    put32(b, p, x);
-    put32(b, p + 4, x / 4294967296);
-}
+ghost use Rattle.counting_theory.specs.Label.{Label};
+ghost use Rattle.counting_theory.specs.Encoding.{typeSize, header};
 
 // Counts one more in the record at the front. A wrapped sum has the bytes of the whole one, so no bound on counts is asked.
 pub fn count_one(b: &mut [u8])
@@ -42,7 +16,7 @@ pub fn count_one(b: &mut [u8])
     ensures { λ _. ⌜ ((l : Label) (span count : ℕ) (q : List ℕ) → now (b .entry) ≡ header l span count ++ q → now (b .exit) ≡ header l span (count + 1) ++ q) ⌝ }
 {
     let count = number64(b, 8);
-    put64(b, 8, std::num::wrapping_add_usize(count, 1));
+    store64(b, 8, std::num::wrapping_add_usize(count, 1));
 }
 
 // Moves the first n bytes up by `gap`, the last one first.
@@ -62,9 +36,6 @@ pub fn insert_record(b: &mut [u8], n: usize, kind: u8, key: usize)
     requires { ⌜ n + typeSize ≤ length (now b) ⌝ }
     ensures { λ _. ⌜ ((l : Label) → l .kind ≡ kind → l .key ≡ key → now (b .exit) ≡ header l 1 1 ++ (take n (now (b .entry)) ++ drop (n + typeSize) (now (b .entry)))) ⌝ }
 {
-    open_gap(b, n, 16);
-    put16(b, 0, kind as usize);
-    put16(b, 2, key);
-    put32(b, 4, 1);
-    put64(b, 8, 1);
+    open_gap(b, n, type_record::SIZE);
+    store_record(b, 0, kind, key, 1, 1);
 }

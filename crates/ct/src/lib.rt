@@ -5,7 +5,7 @@ ghost use Rattle.value_table.specs.Outcome.{outcomeOfAnswer};
 ghost use Rattle.value_table.specs.Judged.{judged};
 ghost use mathlib.Core.List.{[]};
 ghost use lib.ListN.{length};
-ghost use Rattle.counting_type.specs.Answers.{judgedType, leaves, inferred, inferredDefault, merged};
+ghost use Rattle.counting_theory.specs.Answers.{judgedType, leaves, inferred, inferredDefault, merged};
 ghost use Rattle.ct.specs.Left.{answerLeft};
 
 // Call 1: judges a table.

@@ -5,13 +5,13 @@ use Prim.Native.Nat.{ℕ}
 use Rattle.value_table.specs.Number.{bytesOf, numberOf, numberAt}
 use Rattle.value_table.specs.Value.{header, keys, member, kindAt, zeroAt, keyAt, spanAt}
 use Rattle.value_table.specs.Judged.{badLength, badKind, badSpan, badKey, repeated, tooDeep, fault, faultIn, close, enter, walk, judged, decode, messages}
-use Rattle.counting_type.specs.Order.{then, comparePair, compareList, compareOn}
-use Rattle.counting_type.specs.Trie.{nil, node, size, insertStep, insert, add, total}
-use Rattle.counting_type.specs.Label.{byKind, listed, labelOf, CountingType}
-use Rattle.counting_type.specs.Raw.{insertKey, ascending, raw, profileOf}
-use Rattle.counting_type.specs.Encoding as type
-use Rattle.counting_type.specs.WellFormed.{badTypeLength}
-use Rattle.counting_type.specs.Answers.{inferred}
+use Rattle.counting_theory.specs.Order.{then, comparePair, compareList, compareOn}
+use Rattle.counting_theory.specs.Trie.{nil, node, size, insertStep, insert, add, total}
+use Rattle.counting_theory.specs.Label.{byKind, listed, labelOf, CountingType}
+use Rattle.counting_theory.specs.Raw.{insertKey, ascending, raw, profileOf}
+use Rattle.counting_theory.specs.Encoding as type
+use Rattle.counting_theory.specs.WellFormed.{badTypeLength}
+use Rattle.counting_theory.specs.Answers.{inferred}
 use Rattle.report.specs.Decimal.{text, divisions, digitCount, digits}
 use Rattle.report.specs.Line.{kindWord, share, lineOf, refusalLine}
 use Rattle.report.specs.Report.{linesOf, largestCount, report, printed}

@@ -4,12 +4,12 @@ use mathlib.Core.Bool.{Bool}
 use mathlib.Core.List.{List}
 use Prim.Native.Nat.{ℕ, suc, _+_, _-_, _≤_, _<_, max}
 use native.Mathlib.Omega.{arith}
-use Rattle.counting_type.specs.Trie.{nil, node, size}
-use Rattle.counting_type.specs.Label.{CountingType}
-use Rattle.counting_type.specs.Encoding.{typeSpan, typeCount}
-use Rattle.counting_type.specs.WellFormed.{maxTotal}
-use Rattle.counting_type.specs.Answers.{houseDefault}
-use Rattle.counting_type.proofs.WellFormed.Holds.{Holds, holds-first}
+use Rattle.counting_theory.specs.Trie.{nil, node, size}
+use Rattle.counting_theory.specs.Label.{CountingType}
+use Rattle.counting_theory.specs.Encoding.{typeSpan, typeCount}
+use Rattle.counting_theory.specs.WellFormed.{maxTotal}
+use Rattle.counting_theory.specs.Answers.{houseDefault}
+use Rattle.counting_theory.proofs.WellFormed.Holds.{Holds, holds-first}
 use Rattle.report.specs.Report.{largestCount}
 use Rattle.report.specs.Walk.{largestFrom, Shares}
 

@@ -6,4 +6,5 @@ pub mod Runs
 pub mod Largest
 pub mod Walking
 pub mod Whole
+pub mod Program
 pub mod Example

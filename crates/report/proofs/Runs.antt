@@ -8,16 +8,16 @@ use lib.Dec.{eqb}
 use lib.ListN.{length}
 use borrow.Author.Tests.{ne-eqb}
 use Rattle.value_table.specs.Value.{recordKind}
-use Rattle.counting_type.specs.Trie.{nil, node, size, total}
-use Rattle.counting_type.specs.Label.{Label, Counting, CountingType}
-use Rattle.counting_type.specs.Encoding.{typeSize, typeKind, typeSpan, typeCount}
-use Rattle.counting_type.specs.WellFormed.{depthInside}
-use Rattle.counting_type.specs.Answers.{houseDefault}
-use Rattle.counting_type.proofs.Label.{kind-eq}
-use Rattle.counting_type.proofs.Tagged.Parts.{holdsFields, Shape, tagged-parts}
-use Rattle.counting_type.proofs.Encoding.Decode.{decode-run}
-use Rattle.counting_type.proofs.WellFormed.Fitting.{weight-addend}
-use Rattle.counting_type.proofs.WellFormed.Holds.{Holds, holds-first}
+use Rattle.counting_theory.specs.Trie.{nil, node, size, total}
+use Rattle.counting_theory.specs.Label.{Label, Counting, CountingType}
+use Rattle.counting_theory.specs.Encoding.{typeSize, typeKind, typeSpan, typeCount}
+use Rattle.counting_theory.specs.WellFormed.{depthInside}
+use Rattle.counting_theory.specs.Answers.{houseDefault}
+use Rattle.counting_theory.proofs.Label.{kind-eq}
+use Rattle.counting_theory.proofs.Tagged.Parts.{holdsFields, Shape, tagged-parts}
+use Rattle.counting_theory.proofs.Encoding.Decode.{decode-run}
+use Rattle.counting_theory.proofs.WellFormed.Fitting.{weight-addend}
+use Rattle.counting_theory.proofs.WellFormed.Holds.{Holds, holds-first}
 use Rattle.report.specs.Report.{wholeInside, linesOf}
 use Rattle.report.specs.Walk.{typeIn, lineAt, depthIn, wholeIn, Shares, Union, Run, Printable}
 

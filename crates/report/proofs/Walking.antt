@@ -3,7 +3,7 @@ use mathlib.Core.Path.{refl}
 use mathlib.Core.List.{List}
 use Prim.Native.Nat.{ℕ, _+_, _-_, _*_, _≤_, _<_}
 use native.Mathlib.Omega.{arith}
-use Rattle.counting_type.specs.Encoding.{typeSpan}
+use Rattle.counting_theory.specs.Encoding.{typeSpan}
 use Rattle.report.specs.Decimal.{Stored}
 use Rattle.report.specs.Line.{lineLimit}
 use Rattle.report.specs.Report.{linesOf}

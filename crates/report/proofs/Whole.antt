@@ -9,17 +9,17 @@ use lib.ListN.{length}
 use borrow.Author.Tests.{leb-true}
 use Rattle.value_table.specs.Value.{recordKind, maxLength}
 use Rattle.value_table.proofs.Tests.{and-parts}
-use Rattle.counting_type.specs.Trie.{nil, node, total, largestBelow, largestTotal}
-use Rattle.counting_type.specs.Label.{Label, Counting, CountingType}
-use Rattle.counting_type.specs.Encoding.{typeRecords, Tagged}
-use Rattle.counting_type.specs.WellFormed.{maxTotal, counted, fieldsOf, fieldCounts, IsType}
-use Rattle.counting_type.specs.Answers.{houseDefault}
-use Rattle.counting_type.proofs.Tagged.Parts.{Shape, tagged-parts}
-use Rattle.counting_type.proofs.Encoding.Header.{length-encode}
-use Rattle.counting_type.proofs.WellFormed.Nodes.{counted-parts, fieldCounts-parts}
-use Rattle.counting_type.proofs.WellFormed.Fitting.{weight-addend}
-use Rattle.counting_type.proofs.WellFormed.Holds.{Holds}
-use Rattle.counting_type.proofs.WellFormed.Whole.{type-holds}
+use Rattle.counting_theory.specs.Trie.{nil, node, total, largestBelow, largestTotal}
+use Rattle.counting_theory.specs.Label.{Label, Counting, CountingType}
+use Rattle.counting_theory.specs.Encoding.{typeRecords, Tagged}
+use Rattle.counting_theory.specs.WellFormed.{maxTotal, counted, fieldsOf, fieldCounts, IsType}
+use Rattle.counting_theory.specs.Answers.{houseDefault}
+use Rattle.counting_theory.proofs.Tagged.Parts.{Shape, tagged-parts}
+use Rattle.counting_theory.proofs.Encoding.Header.{length-encode}
+use Rattle.counting_theory.proofs.WellFormed.Nodes.{counted-parts, fieldCounts-parts}
+use Rattle.counting_theory.proofs.WellFormed.Fitting.{weight-addend}
+use Rattle.counting_theory.proofs.WellFormed.Holds.{Holds}
+use Rattle.counting_theory.proofs.WellFormed.Whole.{type-holds}
 use Rattle.report.specs.Decimal.{digitCount}
 use Rattle.report.specs.Report.{linesOf, report}
 use Rattle.report.specs.Walk.{typeIn, largestFrom, Shares, Union, Run}

@@ -4,11 +4,11 @@ use mathlib.Core.List.{List, [], _++_}
 use Prim.Native.Nat.{ℕ, zero, suc, max}
 use lib.Dec.{eqb}
 use Rattle.value_table.specs.Value.{maxLength, recordKind}
-use Rattle.counting_type.specs.Trie.{nil, node, total}
-use Rattle.counting_type.specs.Label.{Label, Counting, CountingType}
-use Rattle.counting_type.specs.Encoding.{typeOf}
-use Rattle.counting_type.specs.WellFormed.{depthInside}
-use Rattle.counting_type.specs.Answers.{houseDefault, inferredDefault}
+use Rattle.counting_theory.specs.Trie.{nil, node, total}
+use Rattle.counting_theory.specs.Label.{Label, Counting, CountingType}
+use Rattle.counting_theory.specs.Encoding.{typeOf}
+use Rattle.counting_theory.specs.WellFormed.{depthInside}
+use Rattle.counting_theory.specs.Answers.{houseDefault, Written, inferredDefault}
 use Rattle.report.specs.Decimal.{digitCount}
 use Rattle.report.specs.Line.{share, lineOf, refusalLine}
 
@@ -32,9 +32,12 @@ largestCount (node l count inner next) = max count (max (largestCount inner) (la
 unfoldable pub report : CountingType → List ℕ
 report t = linesOf (digitCount (largestCount t)) 1 (total Counting t) t
 
--- What the program prints for its input: the report of the type under the house default, or the line of the refusal. Input above
--- 65,536 bytes is refused by 1, as is any other wrong length.
+-- the report of the type, or the line of the refusal, by the refusal number
+abbrev pub textOf : ℕ → Written → List ℕ
+textOf zero w = report (typeOf houseDefault (w .bytes))
+textOf (suc n) w = refusalLine (suc n) (w .outcome .place)
+
+-- What the program prints for its input, which the house default reads with the largest arena. Input above 65,536 bytes is refused by
+-- 1, as is any other wrong length.
 unfoldable pub printed : List ℕ → List ℕ
-printed input =
-    let w = inferredDefault input maxLength maxLength in
-    elim (w .outcome .number) [ zero ↦ report (typeOf houseDefault (w .bytes)) | suc n ↦ refusalLine (suc n) (w .outcome .place) ]
+printed input = let w = inferredDefault input maxLength maxLength in textOf (w .outcome .number) w

@@ -5,12 +5,12 @@ use Prim.Native.Nat.{ℕ, zero, suc, _+_, _-_, _*_, _≤_, max}
 use lib.Dec.{eqb}
 use lib.ListN.{length}
 use Rattle.value_table.specs.Value.{maxLength, recordKind}
-use Rattle.counting_type.specs.Trie.{nil, node, total}
-use Rattle.counting_type.specs.Label.{Counting, CountingType}
-use Rattle.counting_type.specs.Encoding.{typeSize, typeKind, typeKey, typeSpan, typeCount, decode}
-use Rattle.counting_type.specs.WellFormed.{maxTotal, depthInside}
-use Rattle.counting_type.specs.Answers.{houseDefault}
-use Rattle.counting_type.proofs.WellFormed.Holds.{Holds}
+use Rattle.counting_theory.specs.Trie.{nil, node, total}
+use Rattle.counting_theory.specs.Label.{Counting, CountingType}
+use Rattle.counting_theory.specs.Encoding.{typeSize, typeKind, typeKey, typeSpan, typeCount, decode}
+use Rattle.counting_theory.specs.WellFormed.{maxTotal, depthInside}
+use Rattle.counting_theory.specs.Answers.{houseDefault}
+use Rattle.counting_theory.proofs.WellFormed.Holds.{Holds}
 use Rattle.report.specs.Line.{share, lineOf}
 use Rattle.report.specs.Report.{wholeInside}
 

@@ -3,7 +3,7 @@ ghost use mathlib.Core.Path.{_≡_};
 ghost use mathlib.Core.List.{[], _∷_};
 ghost use Prim.Native.Nat.{_+_, _-_, _^_, _≤_, _<_};
 ghost use lib.ListN.{length, replicate};
-ghost use Rattle.counting_type.specs.WellFormed.{maxTotal};
+ghost use Rattle.counting_theory.specs.WellFormed.{maxTotal};
 ghost use Rattle.report.specs.Decimal.{digitCount, digits, decimal, padded, Stored};
 
 const MAX_DIGITS: usize = 16;

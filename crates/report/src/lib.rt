@@ -1,9 +1,11 @@
-// The report of a type: one line per type record.
+// The text of the profile program: the report of a type, one line per type record, or the line of a refusal.
 mod decimal;
 mod line;
-mod record;
 mod walk;
 
+use counting_type::answer_of;
+use counting_type::infer_default;
+use counting_type::type_record;
 use decimal::digit_count;
 use decimal::put_text;
 use line::put_number_and;
@@ -12,30 +14,44 @@ use walk::put_run;
 use walk::union_total;
 ghost use Prim.Native.Nat.{_*_, _≤_};
 ghost use lib.ListN.{length};
-ghost use Rattle.counting_type.specs.Encoding.{typeRecords, typeOf};
-ghost use Rattle.counting_type.specs.WellFormed.{maxTotal, IsType};
-ghost use Rattle.counting_type.specs.Answers.{houseDefault};
+ghost use Rattle.counting_theory.specs.Encoding.{typeRecords, typeOf};
+ghost use Rattle.counting_theory.specs.WellFormed.{maxTotal, IsType};
+ghost use Rattle.counting_theory.specs.Answers.{houseDefault};
 ghost use Rattle.report.specs.Decimal.{Front};
 ghost use Rattle.report.specs.Line.{lineLimit, refusalLimit, refusalLine};
-ghost use Rattle.report.specs.Report.{report};
+ghost use Rattle.report.specs.Report.{report, printed};
 
 // Stores the report of a well-formed type at the front of the buffer, and answers its length.
-pub fn put_report(bytes: &[u8], out: &mut [u8]) -> usize
+fn put_report(bytes: &[u8], out: &mut [u8]) -> usize
     requires { ⌜ IsType houseDefault (now bytes) (typeOf houseDefault (now bytes)) × (lineLimit * typeRecords (now bytes) ≤ length (now out)) ⌝ }
     ensures { λ r. ⌜ Front (now (out .entry)) (report (typeOf houseDefault (now (bytes .entry)))) (now (out .exit)) r ⌝ }
 {
-    let n = bytes.len() / record::SIZE;
+    let n = bytes.len() / type_record::SIZE;
     let width = digit_count(largest_count(bytes, n));
     let whole = union_total(bytes, 0, n);
     put_run(bytes, 0, n, 1, whole, width, out, 0)
 }
 
 // Stores the line of a refusal at the front of the buffer, and answers its length.
-pub fn put_refusal(number: usize, place: usize, out: &mut [u8]) -> usize
+fn put_refusal(number: usize, place: usize, out: &mut [u8]) -> usize
     requires { ⌜ (number ≤ maxTotal) × (place ≤ maxTotal) × (refusalLimit ≤ length (now out)) ⌝ }
     ensures { λ r. ⌜ Front (now (out .entry)) (refusalLine number place) (now (out .exit)) r ⌝ }
 {
     let first = put_text(out, 0, b"refused ");
     let second = put_number_and(out, first, number, b' ');
     put_number_and(out, second, place, b'\n')
+}
+
+// Stores what the profile program prints for its input at the front of the buffer, and answers its length.
+pub fn put_profile(input: &[u8], out: &mut [u8; 303104]) -> usize
+    ensures { λ r. ⌜ Front (now (out .entry)) (printed (now (input .entry))) (now (out .exit)) r ⌝ }
+{
+    let mut arena = [0u8; 65536];
+    let mut work = [0u8; 65536];
+    let answer = answer_of(infer_default(input, &mut arena, &mut work));
+    if answer.number == 0 {
+        let n = type_record::SIZE * (answer.count as usize);
+        return put_report(&arena[..n], out);
+    }
+    put_refusal(answer.number as usize, answer.place as usize, out)
 }

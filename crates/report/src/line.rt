@@ -7,7 +7,7 @@ ghost use mathlib.Core.Path.{_≡_};
 ghost use mathlib.Core.List.{[], _∷_, _++_};
 ghost use Prim.Native.Nat.{_+_, _≤_};
 ghost use lib.ListN.{length};
-ghost use Rattle.counting_type.specs.WellFormed.{maxTotal};
+ghost use Rattle.counting_theory.specs.WellFormed.{maxTotal};
 ghost use Rattle.report.specs.Decimal.{decimal, Stored};
 ghost use Rattle.report.specs.Line.{kindWord, share as shareOf, lineOf, lineLimit};
 

@@ -1,19 +1,19 @@
 // The walk over the records of a type.
 use crate::line::put_line;
 use crate::line::share;
-use crate::record;
-use crate::record::count_at;
-use crate::record::key_at;
-use crate::record::kind_at;
-use crate::record::span_at;
+use counting_type::type_record;
+use counting_type::type_record::count_at;
+use counting_type::type_record::key_at;
+use counting_type::type_record::kind_at;
+use counting_type::type_record::span_at;
 ghost use mathlib.Core.Path.{_≡_};
 ghost use Prim.Native.Nat.{_+_, _-_, _*_, _≤_, _<_, max};
 ghost use lib.ListN.{length};
 ghost use Rattle.value_table.specs.Value.{recordKind, maxLength};
-ghost use Rattle.counting_type.specs.Trie.{total};
-ghost use Rattle.counting_type.specs.Label.{Counting};
-ghost use Rattle.counting_type.specs.Encoding.{typeSize, typeKind, typeSpan};
-ghost use Rattle.counting_type.specs.WellFormed.{maxTotal};
+ghost use Rattle.counting_theory.specs.Trie.{total};
+ghost use Rattle.counting_theory.specs.Label.{Counting};
+ghost use Rattle.counting_theory.specs.Encoding.{typeSize, typeKind, typeSpan};
+ghost use Rattle.counting_theory.specs.WellFormed.{maxTotal};
 ghost use Rattle.report.specs.Decimal.{Stored};
 ghost use Rattle.report.specs.Line.{lineLimit};
 ghost use Rattle.report.specs.Report.{linesOf};
@@ -57,7 +57,7 @@ fn whole_inside(b: &[u8], p: usize, end: usize) -> usize
     requires { ⌜ (typeSize * p + typeSize ≤ length (now b)) × (end ≡ p + typeSpan (now b) p) × ((typeKind (now b) p ≡ recordKind → ⊥) → Union (now b) (p + 1) end) ⌝ }
     ensures { λ r. ⌜ r ≡ wholeIn (now (b .entry)) p ⌝ }
 {
-    if kind_at(b, p) == record::RECORD {
+    if kind_at(b, p) == type_record::RECORD {
         return count_at(b, p);
     }
     union_total(b, p + 1, end)
@@ -68,7 +68,7 @@ fn depth_inside(b: &[u8], p: usize, depth: usize) -> usize
     requires { ⌜ (typeSize * p + typeSize ≤ length (now b)) × (depth ≤ maxTotal) ⌝ }
     ensures { λ r. ⌜ r ≡ depthIn (now (b .entry)) p depth ⌝ }
 {
-    if kind_at(b, p) == record::RECORD {
+    if kind_at(b, p) == type_record::RECORD {
         depth
     } else {
         depth + 1

@@ -1,6 +1,5 @@
 // The walk over the records of a table.
 use crate::Judged;
-use crate::Refusal;
 use crate::faults::Fault;
 use crate::faults::fault_at;
 use crate::record;

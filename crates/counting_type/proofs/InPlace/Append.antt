@@ -4,14 +4,14 @@ use mathlib.Core.Bool.{Bool}
 use mathlib.Core.List.{_++_, append-assoc}
 use Prim.Native.Nat.{ℕ, _+_, Ordering, Ordering·lt as lt, Ordering·eq as eq, Ordering·gt as gt}
 use native.Mathlib.Omega.{arith}
-use Rattle.counting_type.specs.Order.{flip}
-use Rattle.counting_type.specs.Trie.{nil, node, append, size, Before, Sorted}
-use Rattle.counting_type.specs.Label.{Equivalence, Label, compareLabel, Counting, CountingType}
-use Rattle.counting_type.specs.Encoding.{encode}
+use Rattle.counting_theory.specs.Order.{flip}
+use Rattle.counting_theory.specs.Trie.{nil, node, append, size, Before, Sorted}
+use Rattle.counting_theory.specs.Label.{Equivalence, Label, compareLabel, Counting, CountingType}
+use Rattle.counting_theory.specs.Encoding.{encode}
 use Rattle.counting_type.specs.Inferring.{Siblings}
-use Rattle.counting_type.proofs.Trie.Sorted.{before-trans}
-use Rattle.counting_type.proofs.Label.{label-order, counting-laws}
-use Rattle.counting_type.proofs.Tagged.Parts.{tagged-parts}
+use Rattle.counting_theory.proofs.Trie.Sorted.{before-trans}
+use Rattle.counting_theory.proofs.Label.{label-order, counting-laws}
+use Rattle.counting_theory.proofs.Tagged.Parts.{tagged-parts}
 
 pub encode-append : (f g : CountingType) → encode (append f g) ≡ encode f ++ encode g
 unfolding encode append

@@ -12,12 +12,12 @@ use Rattle.value_table.specs.Number.{numberAt}
 use Rattle.value_table.specs.Value.{recordKind}
 use Rattle.counting_type.specs.declared.search.Compared.{Compared}
 use Rattle.counting_type.specs.declared.search.Compared.the-variants.{Less, Equal, Greater}
-use Rattle.counting_type.specs.Order.{then, comparePair, compareList, compareOn}
-use Rattle.counting_type.specs.Label.{listed, compareLabel}
-use Rattle.counting_type.specs.Encoding.{typeKind, typeKey, typeSpan}
+use Rattle.counting_theory.specs.Order.{then, comparePair, compareList, compareOn}
+use Rattle.counting_theory.specs.Label.{listed, compareLabel}
+use Rattle.counting_theory.specs.Encoding.{typeKind, typeKey, typeSpan}
 use Rattle.counting_type.specs.Checker.{under, keysIn, labelAt, FieldChain, FieldsInside}
 use Rattle.counting_type.specs.Inferring.{keysOf, comparedOf, wanted}
-use Rattle.counting_type.proofs.Order.{number-refl, less-compare, more-compare}
+use Rattle.counting_theory.proofs.Order.{number-refl, less-compare, more-compare}
 use Rattle.counting_type.proofs.Chain.{Field, chain-field, chain-done, inside-keys}
 use Rattle.counting_type.proofs.InPlace.KeyBytes.{length-keys, keys-at}
 

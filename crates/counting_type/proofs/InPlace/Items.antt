@@ -12,14 +12,14 @@ use Rattle.counting_type.specs.declared.key_list.Listed.{Listed}
 use Rattle.counting_type.specs.declared.key_list.Listed.the-variants.{Keys, TooMany}
 use Rattle.counting_type.specs.declared.placing.Put.{Put}
 use Rattle.counting_type.specs.declared.placing.Put.the-variants.{NoRoom, At}
-use Rattle.counting_type.specs.Trie.{nil, node, size, insert, add, profile}
-use Rattle.counting_type.specs.Label.{Equivalence, byKind, byLabel, Label, listed, Counting, CountingType}
-use Rattle.counting_type.specs.Raw.{insertKey, ascending, raw}
-use Rattle.counting_type.specs.Encoding.{typeSize, siblingKeys}
+use Rattle.counting_theory.specs.Trie.{nil, node, size, insert, add, profile}
+use Rattle.counting_theory.specs.Label.{Equivalence, byKind, byLabel, Label, listed, Counting, CountingType}
+use Rattle.counting_theory.specs.Raw.{insertKey, ascending, raw}
+use Rattle.counting_theory.specs.Encoding.{typeSize, siblingKeys}
 use Rattle.counting_type.specs.Inferring.{keysOf, ListedIn, LabelListed, wanted, labelFor, withItem, split, Siblings, TableRun, PlacedAt, CountedWithin}
-use Rattle.counting_type.proofs.Label.{counting-laws}
-use Rattle.counting_type.proofs.Trie.Growth.{add-grows, profile-grows}
-use Rattle.counting_type.proofs.Tagged.Profile.{inferred}
+use Rattle.counting_theory.proofs.Label.{counting-laws}
+use Rattle.counting_theory.proofs.Trie.Growth.{add-grows, profile-grows}
+use Rattle.counting_theory.proofs.Tagged.Profile.{inferred}
 use Rattle.counting_type.proofs.InPlace.Append.{size-append}
 use Rattle.counting_type.proofs.InPlace.Splits.{insert-split, content-siblings}
 

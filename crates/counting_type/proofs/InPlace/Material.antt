@@ -5,16 +5,16 @@ use Prim.Native.Nat.{ℕ, suc, _<_, Ordering, Ordering·lt as lt, Ordering·eq a
 use native.Mathlib.Omega.{arith}
 use lib.Dec.{eqb}
 use Rattle.value_table.specs.Value.{recordKind, Values, none, value, ValidAt}
-use Rattle.counting_type.specs.Trie.{nil, node, insertStep, insert, add, profile, reduce}
-use Rattle.counting_type.specs.Label.{Equivalence, Label, compareLabel, Counting, CountingType}
-use Rattle.counting_type.specs.Raw.{classOf, addend, raw}
-use Rattle.counting_type.specs.Encoding.{Tagged}
+use Rattle.counting_theory.specs.Trie.{nil, node, insertStep, insert, add, profile, reduce}
+use Rattle.counting_theory.specs.Label.{Equivalence, Label, compareLabel, Counting, CountingType}
+use Rattle.counting_theory.specs.Raw.{classOf, addend, raw}
+use Rattle.counting_theory.specs.Encoding.{Tagged}
 use Rattle.counting_type.specs.Inferring.{Keyed, Siblings}
-use Rattle.counting_type.proofs.Label.{counting-laws}
-use Rattle.counting_type.proofs.Trie.Sorted.{sorted-add, sorted-profile}
-use Rattle.counting_type.proofs.Trie.Profile.{add-comm, reduce-add}
-use Rattle.counting_type.proofs.Tagged.Profile.{inferred}
-use Rattle.counting_type.proofs.Tagged.Reduce.{tagged-reduce}
+use Rattle.counting_theory.proofs.Label.{counting-laws}
+use Rattle.counting_theory.proofs.Trie.Sorted.{sorted-add, sorted-profile}
+use Rattle.counting_theory.proofs.Trie.Profile.{add-comm, reduce-add}
+use Rattle.counting_theory.proofs.Tagged.Profile.{inferred}
+use Rattle.counting_theory.proofs.Tagged.Reduce.{tagged-reduce}
 use Rattle.counting_type.proofs.InPlace.Runs.{key-fits}
 
 -- values that are no fields: their keys make no difference

@@ -8,14 +8,14 @@ use lib.ListN.{length, drop, length-append, length-drop}
 use lib.Seq.{drop-drop, drop-at}
 use Rattle.value_table.specs.Number.{bytesOf, numberOf}
 use Rattle.value_table.specs.Value.{maxLength}
-use Rattle.counting_type.specs.Trie.{nil, node, size}
-use Rattle.counting_type.specs.Label.{Equivalence, Label, CountingType}
-use Rattle.counting_type.specs.Encoding.{typeSize, typeKind, typeKey, typeSpan, siblingKeys, encode, Tagged}
+use Rattle.counting_theory.specs.Trie.{nil, node, size}
+use Rattle.counting_theory.specs.Label.{Equivalence, Label, CountingType}
+use Rattle.counting_theory.specs.Encoding.{typeSize, typeKind, typeKey, typeSpan, siblingKeys, encode, Tagged}
 use Rattle.counting_type.specs.Checker.{labelAt, InTable, FieldChain, done, then as next, FieldsInside}
 use Rattle.counting_type.specs.Inferring.{Keyed}
 use Rattle.counting_type.proofs.Chain.{inside-keys}
-use Rattle.counting_type.proofs.Tagged.Parts.{tagged-parts, shape-label}
-use Rattle.counting_type.proofs.Encoding.Header.{Fields, length-encode, header-fields}
+use Rattle.counting_theory.proofs.Tagged.Parts.{tagged-parts, shape-label}
+use Rattle.counting_theory.proofs.Encoding.Header.{Fields, length-encode, header-fields}
 
 pub record NodeIn (b : List ℕ) (i : ℕ) (l : Label) (c s : CountingType) (q : List ℕ) : Type 0 where
   pub kind-is : typeKind b i ≡ l .kind

@@ -8,11 +8,11 @@ use native.Mathlib.Omega.{arith}
 use lib.ListN.{length, take, drop, length-append}
 use lib.Seq.{take-at, drop-append-add}
 use borrow.Rule.Slice.PartMut.{putMid}
-use Rattle.counting_type.specs.Trie.{node, size}
-use Rattle.counting_type.specs.Label.{Equivalence, Label, CountingType}
-use Rattle.counting_type.specs.Encoding.{typeSize, header, encode}
+use Rattle.counting_theory.specs.Trie.{node, size}
+use Rattle.counting_theory.specs.Label.{Equivalence, Label, CountingType}
+use Rattle.counting_theory.specs.Encoding.{typeSize, header, encode}
 use Rattle.counting_type.specs.Inferring.{Holds, Split, Counted}
-use Rattle.counting_type.proofs.Encoding.Header.{length-encode}
+use Rattle.counting_theory.proofs.Encoding.Header.{length-encode}
 use Rattle.counting_type.proofs.InPlace.Part.{tail-part, tail-put}
 use Rattle.counting_type.proofs.InPlace.Append.{encode-append, size-append}
 use Rattle.counting_type.proofs.InPlace.Splits.{HereAt, MissingAt}

@@ -12,12 +12,12 @@ use borrow.Author.Tests.{lt-ltb, le-ltb}
 use Rattle.value_table.specs.Value.{maxLength}
 use Rattle.counting_type.specs.declared.search.Compared.the-variants.{Less, Equal, Greater}
 use Rattle.counting_type.specs.declared.search.Found.the-variants.{Here, Missing}
-use Rattle.counting_type.specs.Trie.{nil, node, append, size}
-use Rattle.counting_type.specs.Label.{Equivalence, Label, compareLabel, CountingType}
-use Rattle.counting_type.specs.Encoding.{typeSize, typeSpan, encode}
+use Rattle.counting_theory.specs.Trie.{nil, node, append, size}
+use Rattle.counting_theory.specs.Label.{Equivalence, Label, compareLabel, CountingType}
+use Rattle.counting_theory.specs.Encoding.{typeSize, typeSpan, encode}
 use Rattle.counting_type.specs.Checker.{labelAt, InTable, FieldsInside}
 use Rattle.counting_type.specs.Inferring.{comparedOf, Comparable, spotHere, spot, Siblings, Holds, Starts}
-use Rattle.counting_type.proofs.Encoding.Header.{length-encode}
+use Rattle.counting_theory.proofs.Encoding.Header.{length-encode}
 use Rattle.counting_type.proofs.InPlace.Part.{tail-drop}
 use Rattle.counting_type.proofs.InPlace.Nodes.{node-in, fields-in, table-in, label-in}
 use Rattle.counting_type.proofs.InPlace.Append.{encode-append, size-append, siblings-next, siblings-last, AllBefore, all-before}

@@ -7,11 +7,11 @@ use native.Mathlib.Omega.{arith}
 use lib.Dec.{eqb}
 use Rattle.value_table.specs.Value.{recordKind}
 use Rattle.counting_type.specs.declared.search.Found.the-variants.{Here, Missing}
-use Rattle.counting_type.specs.Trie.{nil, node, append, size, insertStep, insert}
-use Rattle.counting_type.specs.Label.{Equivalence, Label, compareLabel, Counting, CountingType}
+use Rattle.counting_theory.specs.Trie.{nil, node, append, size, insertStep, insert}
+use Rattle.counting_theory.specs.Label.{Equivalence, Label, compareLabel, Counting, CountingType}
 use Rattle.counting_type.specs.Inferring.{spotHere, spot, Siblings, Split, splitHere, split}
-use Rattle.counting_type.proofs.Label.{kind-eq, label-order}
-use Rattle.counting_type.proofs.Tagged.Parts.{holdsFields, Shape, tagged-parts}
+use Rattle.counting_theory.proofs.Label.{kind-eq, label-order}
+use Rattle.counting_theory.proofs.Tagged.Parts.{holdsFields, Shape, tagged-parts}
 use Rattle.counting_type.proofs.InPlace.Append.{siblings-next}
 
 -- the label stands at record p

@@ -14,11 +14,11 @@ use Rattle.value_table.specs.Value.{maxLength, recordKind, Values}
 use Rattle.value_table.proofs.Number.{numberOf-bytesOf}
 use Rattle.counting_type.specs.declared.inferring.Inferred.{Inferred}
 use Rattle.counting_type.specs.declared.inferring.Inferred.the-variants.{Records, Full}
-use Rattle.counting_type.specs.Trie.{size, insert}
-use Rattle.counting_type.specs.Label.{Equivalence, Label, Counting, CountingType}
-use Rattle.counting_type.specs.Encoding.{typeSize, typeSpan, header, encode}
+use Rattle.counting_theory.specs.Trie.{size, insert}
+use Rattle.counting_theory.specs.Label.{Equivalence, Label, Counting, CountingType}
+use Rattle.counting_theory.specs.Encoding.{typeSize, typeSpan, header, encode}
 use Rattle.counting_type.specs.Inferring.{TableRun, Siblings, Holds, Starts, Split, split, Counted, Grown, Added}
-use Rattle.counting_type.proofs.Encoding.Header.{length-encode}
+use Rattle.counting_theory.proofs.Encoding.Header.{length-encode}
 use Rattle.counting_type.proofs.InPlace.Part.{tail-drop, tail-part, tail-put}
 use Rattle.counting_type.proofs.InPlace.Append.{encode-append}
 use Rattle.counting_type.proofs.InPlace.Splits.{insert-split, content-siblings}

@@ -1,42 +1,16 @@
--- Stores of numbers in parts, of a count that grows by one, and of a whole header.
+-- Stores of a count that grows by one, and of a whole header.
 use mathlib.Core.Path.{_≡_, refl, sym, _∙_, ap}
-use mathlib.Core.List.{List, [], _∷_, _++_}
+use mathlib.Core.List.{List, _∷_, _++_}
 use Prim.Native.Nat.{ℕ, zero, suc, _+_, _*_, _/_, _%_, _^_, _≤_, _<_}
-use native.Mathlib.Nat.{add-zero, pow-suc, mul-comm, mul-assoc}
+use native.Mathlib.Nat.{pow-suc, mul-comm, mul-assoc}
 use native.Mathlib.Omega.{arith}
 use native.Mathlib.Decide.{decLt}
-use lib.ListN.{length, drop, set}
+use lib.ListN.{length, drop}
 use lib.Seq.{sets, sets-eq}
 use Rattle.value_table.specs.Number.{bytesOf, numberOf, numberAt}
-use Rattle.value_table.proofs.Number.{length-bytesOf}
-use Rattle.counting_type.specs.Label.{Label}
-use Rattle.counting_type.specs.Encoding.{header}
-
-sets-append : (l xs ys : List ℕ) (p q : ℕ) → q ≡ p + length xs → sets (sets l p xs) q ys ≡ sets l p (xs ++ ys)
-sets-append l [] ys p q e = ap (λ k. sets l k ys) (e ∙ add-zero p)
-sets-append l (x ∷ xs) ys p q e = sets-append (set l p x) xs ys (suc p) q (omega arith)
-
-halves-4 : (x : ℕ) → bytesOf 2 x ++ bytesOf 2 (x / 65536) ≡ bytesOf 4 x
-unfolding bytesOf
-halves-4 x = let e : x / 256 / 256 ≡ x / 65536 = omega arith in rw e
-
-halves-8 : (x : ℕ) → bytesOf 4 x ++ bytesOf 4 (x / 4294967296) ≡ bytesOf 8 x
-unfolding bytesOf
-halves-8 x = let e : x / 256 / 256 / 256 / 256 ≡ x / 4294967296 = omega arith in rw e
-
--- a number stored in two halves
-module _ (l t u : List ℕ) (p x : ℕ) where
-  pub stored-4 : t ≡ sets l p (bytesOf 2 x) → u ≡ sets t (p + 2) (bytesOf 2 (x / 65536)) → u ≡ sets l p (bytesOf 4 x)
-  stored-4 e f =
-      f ∙ ap (λ t. sets t (p + 2) (bytesOf 2 (x / 65536))) e
-      ∙ sets-append l (bytesOf 2 x) (bytesOf 2 (x / 65536)) p (p + 2) (ap (λ n. p + n) (sym (length-bytesOf 2 x)))
-      ∙ ap (sets l p) (halves-4 x)
-
-  pub stored-8 : t ≡ sets l p (bytesOf 4 x) → u ≡ sets t (p + 4) (bytesOf 4 (x / 4294967296)) → u ≡ sets l p (bytesOf 8 x)
-  stored-8 e f =
-      f ∙ ap (λ t. sets t (p + 4) (bytesOf 4 (x / 4294967296))) e
-      ∙ sets-append l (bytesOf 4 x) (bytesOf 4 (x / 4294967296)) p (p + 4) (ap (λ n. p + n) (sym (length-bytesOf 4 x)))
-      ∙ ap (sets l p) (halves-8 x)
+use Rattle.counting_theory.specs.Label.{Label}
+use Rattle.counting_theory.specs.Encoding.{typeSize, header}
+use Rattle.counting_type.specs.Merging.{headerOf}
 
 -- what lies past the width has no bytes
 bytes-past : (w y k : ℕ) → bytesOf w (y + 256 ^ w * k) ≡ bytesOf w y
@@ -104,21 +78,8 @@ counted-one b c x y l span count q ex ey ec e =
     ∙ ap (sets (header l span count ++ q) 8) (count-bytes x y count (ex ∙ ap (λ t. numberAt 8 t 8) e ∙ count-read l span count q) ey)
     ∙ count-written l span count (count + 1) q
 
-kind-bytes : (kind : ℕ) → kind < 256 → bytesOf 2 kind ≡ kind ∷ 0 ∷ []
-unfolding bytesOf
-kind-bytes kind h =
-    let low : kind % 256 ≡ kind = omega arith in
-    let high : kind / 256 % 256 ≡ 0 = omega arith in
-    rw (low, high)
-
-stored-header : (g : List ℕ) (l : Label) → 16 ≤ length g →
-    sets (sets (sets (sets g 0 (l .kind ∷ 0 ∷ [])) 2 (bytesOf 2 (l .key))) 4 (bytesOf 4 1)) 8 (bytesOf 8 1) ≡ header l 1 1 ++ drop 16 g
-unfolding header bytesOf
-stored-header g l h = sets-eq (header l 1 1) g 0 h
-
 -- a header stored over the first sixteen bytes
-pub header-stored : (g b₁ b₂ b₃ b₄ x : List ℕ) (l : Label) (kind key : ℕ) → kind < 256 → l .kind ≡ kind → l .key ≡ key → 16 ≤ length g → drop 16 g ≡ x →
-    b₁ ≡ sets g 0 (bytesOf 2 kind) → b₂ ≡ sets b₁ 2 (bytesOf 2 key) → b₃ ≡ sets b₂ 4 (bytesOf 4 1) → b₄ ≡ sets b₃ 8 (bytesOf 8 1) → b₄ ≡ header l 1 1 ++ x
-header-stored g b₁ b₂ b₃ b₄ x l kind key small ek ey h e e₁ e₂ e₃ e₄ =
-    e₄ ∙ ap (λ t. sets t 8 (bytesOf 8 1)) (e₃ ∙ ap (λ t. sets t 4 (bytesOf 4 1)) (e₂ ∙ ap (λ t. sets t 2 (bytesOf 2 key)) (e₁ ∙ ap (sets g 0) (kind-bytes kind small))))
-    ∙ rw (← ek, ← ey) (stored-header g l h) ∙ ap (λ t. header l 1 1 ++ t) e
+pub header-stored : (g b x : List ℕ) (l : Label) (kind key : ℕ) → l .kind ≡ kind → l .key ≡ key → typeSize ≤ length g → drop typeSize g ≡ x →
+    b ≡ sets g 0 (headerOf kind key 1 1) → b ≡ header l 1 1 ++ x
+unfolding header bytesOf
+header-stored g b x l kind key ek ey h e f = f ∙ rw (← ek, ← ey) (sets-eq (header l 1 1) g 0 h) ∙ ap (λ t. header l 1 1 ++ t) e

@@ -12,15 +12,15 @@ use Rattle.value_table.specs.Value as table
 use Rattle.counting_type.specs.declared.inferring.Item.{Item}
 use Rattle.counting_type.specs.declared.placing.Put.{Put}
 use Rattle.counting_type.specs.declared.placing.Put.the-variants.{At, NoRoom}
-use Rattle.counting_type.specs.Trie.{nil, node, append, size, add}
-use Rattle.counting_type.specs.Label.{Equivalence, fieldKind, Counting, CountingType}
-use Rattle.counting_type.specs.Raw.{ascending, classOf, raw}
-use Rattle.counting_type.specs.Encoding.{typeSize}
-use Rattle.counting_type.specs.Encoding as bytes
+use Rattle.counting_theory.specs.Trie.{nil, node, append, size, add}
+use Rattle.counting_theory.specs.Label.{Equivalence, fieldKind, Counting, CountingType}
+use Rattle.counting_theory.specs.Raw.{ascending, classOf, raw}
+use Rattle.counting_theory.specs.Encoding.{typeSize}
+use Rattle.counting_theory.specs.Encoding as bytes
 use Rattle.counting_type.specs.Inferring.{TableRun, Siblings, Holds, Starts, split, Grown, AddedAt, labelFor, withItem, ItemAt}
-use Rattle.counting_type.proofs.Label.{counting-laws}
-use Rattle.counting_type.proofs.Trie.Growth.{add-grows}
-use Rattle.counting_type.proofs.Tagged.Parts.{listed-field}
+use Rattle.counting_theory.proofs.Label.{counting-laws}
+use Rattle.counting_theory.proofs.Trie.Growth.{add-grows}
+use Rattle.counting_theory.proofs.Tagged.Parts.{listed-field}
 use Rattle.counting_type.proofs.InPlace.Runs.{FirstValue, first-of, none-left}
 use Rattle.counting_type.proofs.InPlace.Splits.{insert-split}
 use Rattle.counting_type.proofs.InPlace.Material.{add-siblings}

@@ -11,14 +11,14 @@ use Rattle.value_table.specs.Acceptance.{Table}
 use Rattle.value_table.proofs.Header as table
 use Rattle.counting_type.specs.declared.Answered.the-variants.{Accepted, Refused}
 use Rattle.counting_type.specs.declared.Refusal.the-variants.{Room}
-use Rattle.counting_type.specs.Trie.{nil, size, add}
-use Rattle.counting_type.specs.Label.{Equivalence, Counting, CountingType}
-use Rattle.counting_type.specs.Raw.{raw, profileOf}
-use Rattle.counting_type.specs.Encoding.{typeSize, encode}
-use Rattle.counting_type.specs.Answers.{stored}
+use Rattle.counting_theory.specs.Trie.{nil, size, add}
+use Rattle.counting_theory.specs.Label.{Equivalence, Counting, CountingType}
+use Rattle.counting_theory.specs.Raw.{raw, profileOf}
+use Rattle.counting_theory.specs.Encoding.{typeSize, encode}
+use Rattle.counting_theory.specs.Answers.{stored}
 use Rattle.counting_type.specs.Outcomes.{Front}
 use Rattle.counting_type.specs.Inferring.{TableRun, Holds, Grown}
-use Rattle.counting_type.proofs.Encoding.Header.{length-encode}
+use Rattle.counting_theory.proofs.Encoding.Header.{length-encode}
 use Rattle.counting_type.proofs.Fronts.{front-room, front-stored}
 
 pub table-run : {t : List ℕ} {ms : Values} {n : ℕ} → Table t ms n → TableRun false t ms

@@ -10,15 +10,15 @@ use lib.ListN.{length}
 use borrow.Author.Tests.{eqb-true, eqb-false}
 use Rattle.value_table.specs.Number.{Bytes}
 use Rattle.value_table.proofs.Tests.{and-parts}
-use Rattle.counting_type.specs.Trie.{nil, node, size, total, largestBelow}
-use Rattle.counting_type.specs.Label.{Equivalence, CountingType}
-use Rattle.counting_type.specs.Encoding.{typeSize, typeSpan, typeCount}
-use Rattle.counting_type.specs.WellFormed.{maxTotal, counted, fieldsOf, fieldCounts}
+use Rattle.counting_theory.specs.Trie.{nil, node, size, total, largestBelow}
+use Rattle.counting_theory.specs.Label.{Equivalence, CountingType}
+use Rattle.counting_theory.specs.Encoding.{typeSize, typeSpan, typeCount}
+use Rattle.counting_theory.specs.WellFormed.{maxTotal, counted, fieldsOf, fieldCounts}
 use Rattle.counting_type.specs.Checker.{Run, addends, fields, totalOf, fits, after, content, checkRun}
-use Rattle.counting_type.proofs.WellFormed.Nodes.{counted-parts}
-use Rattle.counting_type.proofs.WellFormed.Record.{TypeRecord}
-use Rattle.counting_type.proofs.WellFormed.Holds.{Holds, holds-nil, holds-first, labelWith}
-use Rattle.counting_type.proofs.WellFormed.LaidOut.{inside-label, record-held, holds-record}
+use Rattle.counting_theory.proofs.WellFormed.Nodes.{counted-parts}
+use Rattle.counting_theory.proofs.WellFormed.Record.{TypeRecord}
+use Rattle.counting_theory.proofs.WellFormed.Holds.{Holds, holds-nil, holds-first, labelWith}
+use Rattle.counting_theory.proofs.WellFormed.LaidOut.{inside-label, record-held, holds-record}
 use Rattle.counting_type.proofs.OnePass.Fits.{isFields, depthOf, Follows, fits-record, record-fits}
 use Rattle.counting_type.proofs.OnePass.Steps.{check-end, check-step}
 use Rattle.counting_type.proofs.OnePass.Rest.{sumOf, Totals, Beside, Rest}

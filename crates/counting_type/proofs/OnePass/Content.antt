@@ -8,13 +8,13 @@ use native.Mathlib.Omega.{arith}
 use lib.Dec.{eqb, lit≤}
 use borrow.Author.Tests.{eqb-true, eq-eqb}
 use Rattle.value_table.specs.Value.{recordKind}
-use Rattle.counting_type.specs.Trie.{nil, node, total}
-use Rattle.counting_type.specs.Label.{Equivalence, Label, CountingType}
-use Rattle.counting_type.specs.Encoding.{typeKind, typeCount}
-use Rattle.counting_type.specs.WellFormed.{maxTotal, holdsFields as fieldsInside, depthInside}
+use Rattle.counting_theory.specs.Trie.{nil, node, total}
+use Rattle.counting_theory.specs.Label.{Equivalence, Label, CountingType}
+use Rattle.counting_theory.specs.Encoding.{typeKind, typeCount}
+use Rattle.counting_theory.specs.WellFormed.{maxTotal, holdsFields as fieldsInside, depthInside}
 use Rattle.counting_type.specs.Checker.{Run, addends, fields, totalOf, after, content, agrees}
-use Rattle.counting_type.proofs.WellFormed.Fitting.{weight-addend}
-use Rattle.counting_type.proofs.WellFormed.Holds.{Holds, holds-first}
+use Rattle.counting_theory.proofs.WellFormed.Fitting.{weight-addend}
+use Rattle.counting_theory.proofs.WellFormed.Holds.{Holds, holds-first}
 use Rattle.counting_type.proofs.OnePass.Fits.{isFields, depthOf, Follows}
 use Rattle.counting_type.proofs.OnePass.Rest.{sumOf, Totals}
 

@@ -6,13 +6,13 @@ use Prim.Native.Nat.{ℕ, _+_, _≤_, _<_, Ordering·lt as lt}
 use lib.Dec.{eqb, leb, ltb}
 use borrow.Author.Tests.{leb-true, le-leb, ltb-true, lt-ltb}
 use Rattle.value_table.proofs.Tests.{and-parts}
-use Rattle.counting_type.specs.Label.{Equivalence, compareLabel}
-use Rattle.counting_type.specs.Encoding.{typeKey, typeCount}
-use Rattle.counting_type.specs.WellFormed.{maxTotal, typeRecord, isLt, fieldCount}
+use Rattle.counting_theory.specs.Label.{Equivalence, compareLabel}
+use Rattle.counting_theory.specs.Encoding.{typeKey, typeCount}
+use Rattle.counting_theory.specs.WellFormed.{maxTotal, typeRecord, isLt, fieldCount}
 use Rattle.counting_type.specs.Checker.{labelAt, Run, addends, fields, fits}
-use Rattle.counting_type.proofs.WellFormed.Tests.{both, three-parts, three}
-use Rattle.counting_type.proofs.WellFormed.Rules.{isLt-true}
-use Rattle.counting_type.proofs.WellFormed.Record.{TypeRecord, type-record, record-test}
+use Rattle.counting_theory.proofs.WellFormed.Tests.{both, three-parts, three}
+use Rattle.counting_theory.proofs.WellFormed.Rules.{isLt-true}
+use Rattle.counting_theory.proofs.WellFormed.Record.{TypeRecord, type-record, record-test}
 
 -- whether a run is one of fields, and its depth
 abbrev pub isFields : Run → Bool

@@ -5,13 +5,13 @@ use mathlib.Core.List.{List, _∷_}
 use Prim.Native.Nat.{ℕ, zero, suc, _+_, _-_}
 use native.Mathlib.Omega.{arith}
 use lib.Dec.{ltb}
-use Rattle.counting_type.specs.Trie.{node}
-use Rattle.counting_type.specs.Label.{Equivalence, Label, CountingType}
-use Rattle.counting_type.specs.Encoding.{typeKey, typeSpan, siblingKeys, decode}
+use Rattle.counting_theory.specs.Trie.{node}
+use Rattle.counting_theory.specs.Label.{Equivalence, Label, CountingType}
+use Rattle.counting_theory.specs.Encoding.{typeKey, typeSpan, siblingKeys, decode}
 use Rattle.counting_type.specs.Checker.{keysFrom, keysIn, labelAt}
-use Rattle.counting_type.proofs.Tagged.Parts.{tagged-parts, shape-label}
-use Rattle.counting_type.proofs.Encoding.Decode.{decode-run}
-use Rattle.counting_type.proofs.WellFormed.Holds.{Holds, holds-first}
+use Rattle.counting_theory.proofs.Tagged.Parts.{tagged-parts, shape-label}
+use Rattle.counting_theory.proofs.Encoding.Decode.{decode-run}
+use Rattle.counting_theory.proofs.WellFormed.Holds.{Holds, holds-first}
 
 module _ (e : Equivalence) (b : List ℕ) where
   pub keys-decode : (k i end : ℕ) → keysFrom b k i end ≡ siblingKeys (decode e b k i end)

@@ -9,9 +9,9 @@ use native.Mathlib.Omega.{arith}
 use lib.Dec.{leb}
 use borrow.Author.Tests.{leb-true}
 use Rattle.value_table.proofs.Tests.{and-parts}
-use Rattle.counting_type.specs.Label.{Equivalence}
-use Rattle.counting_type.specs.Encoding.{typeKey, typeSpan, typeCount}
-use Rattle.counting_type.specs.WellFormed.{maxTotal}
+use Rattle.counting_theory.specs.Label.{Equivalence}
+use Rattle.counting_theory.specs.Encoding.{typeKey, typeSpan, typeCount}
+use Rattle.counting_theory.specs.WellFormed.{maxTotal}
 use Rattle.counting_type.specs.Checker.{addends, fields, fits, ordered, checkRun, isSome, hasTotal, addendRight, RunOf, InTable, AddendInside}
 use Rattle.counting_type.proofs.OnePass.Fits.{fits-record}
 use Rattle.counting_type.proofs.OnePass.Steps.{check-end}

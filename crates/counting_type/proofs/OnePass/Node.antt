@@ -8,17 +8,17 @@ use lib.Dec.{eqb}
 use borrow.Author.Tests.{eqb-true, ne-eqb}
 use Rattle.value_table.specs.Value.{recordKind}
 use Rattle.value_table.proofs.Tests.{and-parts}
-use Rattle.counting_type.specs.Trie.{node, total}
-use Rattle.counting_type.specs.Label.{Equivalence, Label, fieldLabel, compareLabel, CountingType}
-use Rattle.counting_type.specs.Encoding.{typeKey, typeSpan}
-use Rattle.counting_type.specs.WellFormed.{fieldCount, fieldsOf}
+use Rattle.counting_theory.specs.Trie.{node, total}
+use Rattle.counting_theory.specs.Label.{Equivalence, Label, fieldLabel, compareLabel, CountingType}
+use Rattle.counting_theory.specs.Encoding.{typeKey, typeSpan}
+use Rattle.counting_theory.specs.WellFormed.{fieldCount, fieldsOf}
 use Rattle.counting_type.specs.Checker.{Run, addends, fields, after, content}
-use Rattle.counting_type.proofs.Order.{compare-less, less-compare}
-use Rattle.counting_type.proofs.Label.{kind-eq, compare-fields}
-use Rattle.counting_type.proofs.WellFormed.Tests.{both}
-use Rattle.counting_type.proofs.WellFormed.Fitting.{weight-addend}
-use Rattle.counting_type.proofs.WellFormed.Record.{TypeRecord}
-use Rattle.counting_type.proofs.WellFormed.Holds.{Holds, holds-first}
+use Rattle.counting_theory.proofs.Order.{compare-less, less-compare}
+use Rattle.counting_theory.proofs.Label.{kind-eq, compare-fields}
+use Rattle.counting_theory.proofs.WellFormed.Tests.{both}
+use Rattle.counting_theory.proofs.WellFormed.Fitting.{weight-addend}
+use Rattle.counting_theory.proofs.WellFormed.Record.{TypeRecord}
+use Rattle.counting_theory.proofs.WellFormed.Holds.{Holds, holds-first}
 use Rattle.counting_type.proofs.OnePass.Fits.{isFields, depthOf, Follows}
 use Rattle.counting_type.proofs.OnePass.Keys.{label-held}
 use Rattle.counting_type.proofs.OnePass.Ruled.{NodeRuled, ruled-node, ruled-parts}

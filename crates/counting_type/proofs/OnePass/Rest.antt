@@ -6,15 +6,15 @@ use Prim.Native.Nat.{ℕ, _+_, _≤_}
 use native.Mathlib.Omega.{arith}
 use lib.Dec.{eqb}
 use borrow.Author.Tests.{eq-eqb}
-use Rattle.counting_type.specs.Trie.{nil, node, size, Before, total}
-use Rattle.counting_type.specs.Label.{Equivalence, fieldLabel, compareLabel, Counting, CountingType}
-use Rattle.counting_type.specs.Encoding.{typeCount, Tagged}
-use Rattle.counting_type.specs.WellFormed.{maxTotal, counted, fieldsOf, Shallow}
+use Rattle.counting_theory.specs.Trie.{nil, node, size, Before, total}
+use Rattle.counting_theory.specs.Label.{Equivalence, fieldLabel, compareLabel, Counting, CountingType}
+use Rattle.counting_theory.specs.Encoding.{typeCount, Tagged}
+use Rattle.counting_theory.specs.WellFormed.{maxTotal, counted, fieldsOf, Shallow}
 use Rattle.counting_type.specs.Checker.{labelAt, Run, addends, fields}
-use Rattle.counting_type.proofs.Order.{less-compare}
-use Rattle.counting_type.proofs.Label.{kind-eq, compare-fields}
-use Rattle.counting_type.proofs.WellFormed.Nodes.{counted-parts}
-use Rattle.counting_type.proofs.WellFormed.Fitting.{weight-addend}
+use Rattle.counting_theory.proofs.Order.{less-compare}
+use Rattle.counting_theory.proofs.Label.{kind-eq, compare-fields}
+use Rattle.counting_theory.proofs.WellFormed.Nodes.{counted-parts}
+use Rattle.counting_theory.proofs.WellFormed.Fitting.{weight-addend}
 use Rattle.counting_type.proofs.OnePass.Ruled.{Ruled}
 
 -- the total of a run that ends with f

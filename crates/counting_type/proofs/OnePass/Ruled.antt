@@ -7,12 +7,12 @@ use native.Mathlib.Omega.{arith}
 use lib.Dec.{eqb}
 use borrow.Author.Tests.{le-leb}
 use Rattle.value_table.specs.Value.{recordKind}
-use Rattle.counting_type.specs.Trie.{node, Before, Sorted, total, largestBelow}
-use Rattle.counting_type.specs.Label.{Equivalence, Label, fieldKind, Counting, CountingType}
-use Rattle.counting_type.specs.Place.{FieldTotals}
-use Rattle.counting_type.specs.WellFormed.{maxTotal, counted, fieldsOf, fieldCounts}
-use Rattle.counting_type.proofs.WellFormed.Tests.{three, implies}
-use Rattle.counting_type.proofs.WellFormed.Nodes.{counted-parts, fieldCounts-parts}
+use Rattle.counting_theory.specs.Trie.{node, Before, Sorted, total, largestBelow}
+use Rattle.counting_theory.specs.Label.{Equivalence, Label, fieldKind, Counting, CountingType}
+use Rattle.counting_theory.specs.Place.{FieldTotals}
+use Rattle.counting_theory.specs.WellFormed.{maxTotal, counted, fieldsOf, fieldCounts}
+use Rattle.counting_theory.proofs.WellFormed.Tests.{three, implies}
+use Rattle.counting_theory.proofs.WellFormed.Nodes.{counted-parts, fieldCounts-parts}
 
 pub record Ruled (e : Equivalence) (f : CountingType) : Type 0 where
   pub counts : counted f ≡ true

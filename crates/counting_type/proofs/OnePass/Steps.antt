@@ -7,8 +7,8 @@ use Prim.Native.Nat.{ℕ, zero, suc, _+_, _-_, _≤_, _<_}
 use native.Mathlib.Omega.{arith}
 use lib.Dec.{eqb}
 use borrow.Author.Tests.{eqb-true, eqb-false, eq-eqb, ne-eqb}
-use Rattle.counting_type.specs.Label.{Equivalence}
-use Rattle.counting_type.specs.Encoding.{typeSpan}
+use Rattle.counting_theory.specs.Label.{Equivalence}
+use Rattle.counting_theory.specs.Encoding.{typeSpan}
 use Rattle.counting_type.specs.Checker.{Run, totalOf, fits, after, content, agrees, check, checkRun}
 use Rattle.counting_type.proofs.OnePass.Fits.{fits-record}
 

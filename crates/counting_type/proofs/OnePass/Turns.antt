@@ -9,11 +9,11 @@ use lib.Dec.{eqb, leb}
 use borrow.Author.Tests.{eqb-true, eqb-false, eq-eqb, ne-eqb}
 use Rattle.value_table.specs.Value.{recordKind, maxDepth}
 use Rattle.value_table.proofs.Tests.{and-parts}
-use Rattle.counting_type.specs.Label.{Equivalence}
-use Rattle.counting_type.specs.Encoding.{typeKind, typeKey, typeSpan, typeCount}
-use Rattle.counting_type.specs.WellFormed.{maxTotal, typeRecord}
+use Rattle.counting_theory.specs.Label.{Equivalence}
+use Rattle.counting_theory.specs.Encoding.{typeKind, typeKey, typeSpan, typeCount}
+use Rattle.counting_theory.specs.WellFormed.{maxTotal, typeRecord}
 use Rattle.counting_type.specs.Checker.{addends, fields, fits, ordered, agrees, checkRun, isSome, hasTotal, addendRight, RunOf, FieldChain, done, then as next, AddendInside}
-use Rattle.counting_type.proofs.WellFormed.Record.{type-record}
+use Rattle.counting_theory.proofs.WellFormed.Record.{type-record}
 use Rattle.counting_type.proofs.OnePass.Fits.{fits-record}
 use Rattle.counting_type.proofs.OnePass.Steps.{check-end, check-step}
 

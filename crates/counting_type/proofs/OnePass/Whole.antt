@@ -8,13 +8,13 @@ use native.Mathlib.Omega.{arith}
 use lib.Dec.{lit≤}
 use lib.ListN.{length}
 use Rattle.value_table.specs.Number.{Bytes}
-use Rattle.counting_type.specs.Trie.{largestTotal}
-use Rattle.counting_type.specs.Label.{Equivalence, CountingType}
-use Rattle.counting_type.specs.Encoding.{typeRecords, typeOf}
-use Rattle.counting_type.specs.WellFormed.{wellFormed, badTypeLength}
+use Rattle.counting_theory.specs.Trie.{largestTotal}
+use Rattle.counting_theory.specs.Label.{Equivalence, CountingType}
+use Rattle.counting_theory.specs.Encoding.{typeRecords, typeOf}
+use Rattle.counting_theory.specs.WellFormed.{wellFormed, badTypeLength}
 use Rattle.counting_type.specs.Checker.{Run, addends, checkRun, isSome}
-use Rattle.counting_type.proofs.WellFormed.Rules.{Rules}
-use Rattle.counting_type.proofs.WellFormed.Whole.{type-holds, type-rules, holds-type, type-unique, well-formed-type}
+use Rattle.counting_theory.proofs.WellFormed.Rules.{Rules}
+use Rattle.counting_theory.proofs.WellFormed.Whole.{type-holds, type-rules, holds-type, type-unique, well-formed-type}
 use Rattle.counting_type.proofs.OnePass.Rest.{Rest}
 use Rattle.counting_type.proofs.OnePass.Accepts.{check-complete, check-sound}
 

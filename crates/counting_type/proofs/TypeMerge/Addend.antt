@@ -8,15 +8,15 @@ use lib.Dec.{eqb}
 use lib.ListN.{length, take, drop, length-append, length-take, length-drop}
 use lib.Seq.{take-at, drop-at, drop-length, take-all}
 use Rattle.value_table.specs.Value.{recordKind}
-use Rattle.counting_type.specs.Trie.{nil, node, size}
-use Rattle.counting_type.specs.Label.{Equivalence, Label, labelOf, CountingType}
-use Rattle.counting_type.specs.Encoding.{typeSize, typeKind, typeKey, typeSpan, typeCount, header, encode, siblingKeys, decode, typeOf, Fitting}
+use Rattle.counting_theory.specs.Trie.{nil, node, size}
+use Rattle.counting_theory.specs.Label.{Equivalence, Label, labelOf, CountingType}
+use Rattle.counting_theory.specs.Encoding.{typeSize, typeKind, typeKey, typeSpan, typeCount, header, encode, siblingKeys, decode, typeOf, Fitting}
 use Rattle.counting_type.specs.Checker.{keysIn, labelAt}
 use Rattle.counting_type.specs.Merging.{headerOf, front, body, rest, Headed, Coded}
-use Rattle.counting_type.proofs.Tagged.Parts.{holdsFields, Shape, Parts, tagged-parts, shape-label}
-use Rattle.counting_type.proofs.Encoding.Header.{length-encode}
-use Rattle.counting_type.proofs.Encoding.Node.{NodeAt, node-read}
-use Rattle.counting_type.proofs.Encoding.Decode.{decode-run, decode-encode}
+use Rattle.counting_theory.proofs.Tagged.Parts.{holdsFields, Shape, Parts, tagged-parts, shape-label}
+use Rattle.counting_theory.proofs.Encoding.Header.{length-encode}
+use Rattle.counting_theory.proofs.Encoding.Node.{NodeAt, node-read}
+use Rattle.counting_theory.proofs.Encoding.Decode.{decode-run, decode-encode}
 use Rattle.counting_type.proofs.OnePass.Keys.{keys-decode}
 use Rattle.counting_type.proofs.TypeMerge.Sets.{length-headerOf}
 

@@ -7,13 +7,13 @@ use native.Mathlib.Omega.{arith}
 use lib.ListN.{length}
 use borrow.Author.Tests.{eq-eqb, ne-eqb}
 use Rattle.value_table.specs.Value.{recordKind}
-use Rattle.counting_type.specs.Order.{then, comparePair, compareList, compareOn}
-use Rattle.counting_type.specs.Label.{Equivalence, byKind, byLabel, Label, listed, compareLabel}
-use Rattle.counting_type.specs.Encoding.{typeKind, typeKey, siblingKeys, typeOf}
+use Rattle.counting_theory.specs.Order.{then, comparePair, compareList, compareOn}
+use Rattle.counting_theory.specs.Label.{Equivalence, byKind, byLabel, Label, listed, compareLabel}
+use Rattle.counting_theory.specs.Encoding.{typeKind, typeKey, siblingKeys, typeOf}
 use Rattle.counting_type.specs.Checker.{under, labelAt}
 use Rattle.counting_type.specs.Merging.{body, rest, Coded}
-use Rattle.counting_type.proofs.Order.{number-refl, less-compare, more-compare}
-use Rattle.counting_type.proofs.Label.{label-order, kind-eq, keys-eq}
+use Rattle.counting_theory.proofs.Order.{number-refl, less-compare, more-compare}
+use Rattle.counting_theory.proofs.Label.{label-order, kind-eq, keys-eq}
 use Rattle.counting_type.proofs.TypeMerge.Addend.{Addend, addend, type-empty}
 
 by-parts : (l m : Label) → compareLabel l m ≡ then (compare (l .kind) (m .kind)) (then (compare (l .key) (m .key)) (compareList compare (l .keys) (m .keys)))

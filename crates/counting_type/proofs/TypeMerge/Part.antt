@@ -10,18 +10,18 @@ use lib.ListN.{length}
 use borrow.Author.Tests.{le-ltb, eq-eqb}
 use Rattle.value_table.specs.Value.{maxLength, maxDepth, recordKind}
 use Rattle.counting_type.specs.declared.addend.Level.{Level}
-use Rattle.counting_type.specs.Trie.{nil, node, total, largestBelow, largestTotal}
-use Rattle.counting_type.specs.Label.{Equivalence, Label, fieldKind, Counting, CountingType}
-use Rattle.counting_type.specs.Place.{FieldTotals}
-use Rattle.counting_type.specs.Encoding.{typeKind, typeCount, typeOf, Tagged}
-use Rattle.counting_type.specs.WellFormed.{maxTotal, depthInside, Shallow, IsType}
+use Rattle.counting_theory.specs.Trie.{nil, node, total, largestBelow, largestTotal}
+use Rattle.counting_theory.specs.Label.{Equivalence, Label, fieldKind, Counting, CountingType}
+use Rattle.counting_theory.specs.Place.{FieldTotals}
+use Rattle.counting_theory.specs.Encoding.{typeKind, typeCount, typeOf, Tagged}
+use Rattle.counting_theory.specs.WellFormed.{maxTotal, depthInside, Shallow, IsType}
 use Rattle.counting_type.specs.Checker.{under, labelAt}
 use Rattle.counting_type.specs.Merging.{body, rest, Coded, depthOf, Part, insideOf, exceeds}
-use Rattle.counting_type.proofs.Label.{kind-eq}
-use Rattle.counting_type.proofs.Tagged.Parts.{holdsFields}
-use Rattle.counting_type.proofs.WellFormed.Nodes.{Placed, depthUnder, shallow-parts}
-use Rattle.counting_type.proofs.WellFormed.Fitting.{weight-addend, count-within, type-fitting}
-use Rattle.counting_type.proofs.Encoding.Header.{length-encode}
+use Rattle.counting_theory.proofs.Label.{kind-eq}
+use Rattle.counting_theory.proofs.Tagged.Parts.{holdsFields}
+use Rattle.counting_theory.proofs.WellFormed.Nodes.{Placed, depthUnder, shallow-parts}
+use Rattle.counting_theory.proofs.WellFormed.Fitting.{weight-addend, count-within, type-fitting}
+use Rattle.counting_theory.proofs.Encoding.Header.{length-encode}
 use Rattle.counting_type.proofs.TypeMerge.Addend.{Addend, addend, coded-type, type-empty}
 
 -- an addend has a level left

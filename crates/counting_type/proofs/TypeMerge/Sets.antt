@@ -10,7 +10,7 @@ use lib.ListN.{length, set, drop, getD, drop-of-length-le}
 use lib.Seq.{sets, sets-eq, set-comm, set-out, drop-cons}
 use Rattle.value_table.specs.Number.{bytesOf}
 use Rattle.value_table.proofs.Number.{length-bytesOf}
-use Rattle.counting_type.specs.Encoding.{typeSize, header}
+use Rattle.counting_theory.specs.Encoding.{typeSize, header}
 use Rattle.counting_type.specs.Merging.{headerOf}
 
 pub sets-append : (xs ys l : List ℕ) (i : ℕ) → sets l i (xs ++ ys) ≡ sets (sets l i xs) (i + length xs) ys

@@ -9,10 +9,10 @@ use lib.Dec.{ltb}
 use lib.ListN.{length, length-append}
 use lib.Seq.{sets, length-sets}
 use Rattle.counting_type.specs.declared.addend.Level.{Level}
-use Rattle.counting_type.specs.Trie.{size, total}
-use Rattle.counting_type.specs.Label.{Equivalence, Counting}
-use Rattle.counting_type.specs.Encoding.{typeSize, typeKind, typeKey, typeCount, typeOf}
-use Rattle.counting_type.specs.WellFormed.{maxTotal}
+use Rattle.counting_theory.specs.Trie.{size, total}
+use Rattle.counting_theory.specs.Label.{Equivalence, Counting}
+use Rattle.counting_theory.specs.Encoding.{typeSize, typeKind, typeKey, typeCount, typeOf}
+use Rattle.counting_theory.specs.WellFormed.{maxTotal}
 use Rattle.counting_type.specs.Merging.{headerOf, front, body, rest, Part, insideOf, exceedsBelow, both, mergedBytes, joinedBytes, Kept, Ran, Stored, Joined}
 use Rattle.counting_type.proofs.TypeMerge.Sets.{sets-append, sets-last, length-headerOf}
 use Rattle.counting_type.proofs.TypeMerge.Addend.{body-rest, front-rest}

@@ -2,7 +2,7 @@
 use mathlib.Core.Path.{_∙_, ap}
 use native.Mathlib.Omega.{arith}
 use borrow.Author.Needs.{needs}
-use Rattle.counting_type.specs.Answers.{zeros}
+use Rattle.counting_theory.specs.Answers.{zeros}
 use Rattle.counting_type.proofs.Fronts.{front-length, front-cleared}
 use Rattle.counting_type.proofs.Clear.{cleared-whole}
 use Rattle.counting_type.proofs.Exact.{exact-inferred}

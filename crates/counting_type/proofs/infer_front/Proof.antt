@@ -1,7 +1,6 @@
 -- `infer_front` meets its contract.
 use mathlib.Core.Path.{_≡_, refl, sym, _∙_, ap}
 use mathlib.Core.Bool.{false, not, _||_}
-use mathlib.Core.List.{List}
 use Prim.Native.Nat.{ℕ, _≤_}
 use native.Mathlib.Omega.{arith}
 use lib.Dec.{eqb}
@@ -13,12 +12,12 @@ use Rattle.value_table.specs.Judged.{badLength}
 use Rattle.value_table.specs.Outcome.{outcomeOf}
 use Rattle.value_table.proofs.Tests.{or-parts}
 use Rattle.value_table.proofs.Acceptance.{accepts}
-use Rattle.counting_type.specs.Answers.{inferred}
+use Rattle.counting_theory.specs.Answers.{inferred}
 use Rattle.counting_type.specs.declared.Refusal.the-variants.{Length, Equivalence, Table}
-use Rattle.counting_type.specs.WellFormed.{badTypeLength}
+use Rattle.counting_theory.specs.WellFormed.{badTypeLength}
 use Rattle.counting_type.proofs.Fronts.{front-refused, refused-from}
 use Rattle.counting_type.proofs.Equivalence.{known, unknown}
-use Rattle.counting_type.proofs.WellFormed.Whole.{type-length}
+use Rattle.counting_theory.proofs.WellFormed.Whole.{type-length}
 use Rattle.counting_type.proofs.infer_front.Statement.{statement}
 use Rattle.counting_type.proofs.infer_front.Tie as tie
 

@@ -2,8 +2,8 @@
 use mathlib.Core.Path.{sym, ap, _∙_}
 use native.Mathlib.Omega.{arith}
 use borrow.Author.Needs.{needs}
-use Rattle.counting_type.specs.Trie.{total}
-use Rattle.counting_type.specs.Label.{Counting}
+use Rattle.counting_theory.specs.Trie.{total}
+use Rattle.counting_theory.specs.Label.{Counting}
 use Rattle.report.specs.Decimal.{digitCount}
 use Rattle.report.proofs.Storing.{stored-front}
 use Rattle.report.proofs.Whole.{whole-type, whole-short, whole-run, whole-union, whole-largest, whole-lines}

@@ -1,7 +1,7 @@
 -- `body_of` meets its contract.
 use mathlib.Core.Path.{ap}
 use Prim.Native.Nat.{_*_}
-use Rattle.counting_type.specs.Encoding.{typeSize}
+use Rattle.counting_theory.specs.Encoding.{typeSize}
 use Rattle.counting_type.proofs.TypeMerge.Addend.{body-is}
 use borrow.Author.Needs.{needs}
 use Rattle.counting_type.proofs.addend.body_of.Statement.{statement}

@@ -2,7 +2,7 @@
 use mathlib.Core.Path.{sym, ap}
 use Prim.Native.Nat.{_*_}
 use lib.Seq.{length-take-le}
-use Rattle.counting_type.specs.Encoding.{typeSize}
+use Rattle.counting_theory.specs.Encoding.{typeSize}
 use Rattle.counting_type.proofs.TypeMerge.Addend.{front-is}
 use borrow.Author.Needs.{needs}
 use native.Mathlib.Omega.{arith}

@@ -6,7 +6,7 @@ use borrow.Author.Needs.{needs}
 use borrow.Author.Tests.{not-true, not-false}
 use borrow.Fn.Kinds.{In}
 use borrow.Fn.PlainCycle.{Measures, is, falls, and}
-use Rattle.counting_type.specs.Encoding.{typeSpan, typeCount}
+use Rattle.counting_theory.specs.Encoding.{typeSpan, typeCount}
 use Rattle.counting_type.specs.Checker.{under, checkedOf, isSome, hasTotal, addends, checkRun, addendRight}
 use Rattle.counting_type.proofs.OnePass.Turns.{addend-inside, wrong-record, record-span, with-fields, with-union, with-nothing}
 use Rattle.counting_type.proofs.OnePass.Loops.{run-from, run-within, in-table, Addends, addends-start, addends-done, last-inside, wrong-addend, wrong-count, wrong-order, addend-span, count-below, addends-next, Fields, fields-start, fields-done, wrong-field, field-span, wrong-total, fields-next}

@@ -4,7 +4,7 @@ use Prim.Native.Nat.{_-_}
 use native.Mathlib.Omega.{arith}
 use borrow.Author.Tests.{eq-eqb, ne-eqb, le-leb, not-true, not-false}
 use borrow.Author.Needs.{needs}
-use Rattle.counting_type.specs.WellFormed.{typeRecord}
+use Rattle.counting_theory.specs.WellFormed.{typeRecord}
 use Rattle.counting_type.proofs.checker.addend_record.Statement.{statement}
 use Rattle.counting_type.proofs.checker.addend_record.Tie as tie
 

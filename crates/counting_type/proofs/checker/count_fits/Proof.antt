@@ -6,7 +6,7 @@ use native.Mathlib.Omega.{arith}
 use lib.Dec.{leb}
 use borrow.Author.Tests.{lt-leb, le-leb, leb-true, leb-false}
 use borrow.Author.Needs.{needs}
-use Rattle.counting_type.specs.WellFormed.{maxTotal}
+use Rattle.counting_theory.specs.WellFormed.{maxTotal}
 use Rattle.counting_type.proofs.checker.count_fits.Statement.{statement}
 use Rattle.counting_type.proofs.checker.count_fits.Tie as tie
 

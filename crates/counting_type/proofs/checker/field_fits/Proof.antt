@@ -3,7 +3,7 @@ use mathlib.Core.Path.{sym, _∙_}
 use borrow.Author.Tests.{le-ltb, lt-ltb, not-true, not-false}
 use borrow.Author.Needs.{needs}
 use Rattle.counting_type.specs.Checker.{fits}
-use Rattle.counting_type.specs.WellFormed.{typeRecord}
+use Rattle.counting_theory.specs.WellFormed.{typeRecord}
 use Rattle.counting_type.proofs.checker.field_fits.Statement.{statement}
 use Rattle.counting_type.proofs.checker.field_fits.Tie as tie
 

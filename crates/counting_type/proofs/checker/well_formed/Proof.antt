@@ -5,7 +5,7 @@ use lib.ListN.{length}
 use borrow.Author.Needs.{needs}
 use Rattle.counting_type.specs.Checker.{checkedOf, isSome}
 use Rattle.counting_type.proofs.OnePass.Whole.{check-well-formed}
-use Rattle.counting_type.proofs.WellFormed.Whole.{type-length}
+use Rattle.counting_theory.proofs.WellFormed.Whole.{type-length}
 use Rattle.counting_type.proofs.checker.well_formed.Statement.{statement}
 use Rattle.counting_type.proofs.checker.well_formed.Tie as tie
 

@@ -9,10 +9,10 @@ use lib.ListN.{length, take, drop, length-take, length-drop}
 use borrow.Author.Needs.{needs}
 use borrow.Rule.Slice.PartMut.{putMid, same-len-mid}
 use Rattle.value_table.specs.Value.{recordKind, Values}
-use Rattle.counting_type.specs.Trie.{size, add}
-use Rattle.counting_type.specs.Label.{Label, Counting, CountingType}
-use Rattle.counting_type.specs.Raw.{raw}
-use Rattle.counting_type.specs.Encoding.{encode}
+use Rattle.counting_theory.specs.Trie.{size, add}
+use Rattle.counting_theory.specs.Label.{Label, Counting, CountingType}
+use Rattle.counting_theory.specs.Raw.{raw}
+use Rattle.counting_theory.specs.Encoding.{encode}
 use Rattle.counting_type.specs.Checker.{under}
 use Rattle.counting_type.specs.Inferring.{TableRun, Holds, split, Counted, Grown, labelFor, withItem, AddedAt}
 use Rattle.counting_type.proofs.InPlace.Steps.{Task, step-length, step-within, step-span, step-holds, step-full, step-grown, added-full, added-records, grown-length}
@@ -29,7 +29,7 @@ use Rattle.counting_type.proofs.inferring.+add_item+add_run.Lts-add_run
 use Rattle.counting_type.proofs.inferring.read_item.Reads as read-item-reads
 use Rattle.counting_type.proofs.placing.locate.Reads as locate-reads
 use Rattle.counting_type.proofs.type_record.span_at.Reads as span-at-reads
-use Rattle.counting_type.proofs.type_store.put32.Reads as put32-reads
+use Rattle.counting_type.proofs.store.store32.Reads as store32-reads
 use Rattle.counting_type.proofs.inferring.+add_item+add_run.{statement}
 use Rattle.counting_type.proofs.inferring.+add_item+add_run.Tie.{close}
 
@@ -52,7 +52,7 @@ abbrev add-run-below : ℕ → In 3 add-run-kinds.ps
 add-run-below t = and 3 add-run-kinds.ps (falls 3 add-run-kinds.ps _<_ μ-add-run t) add-run.Pre
 
 abbrev add-item-calls : ℕ → add-item-lts.Claims
-add-item-calls t = (locate-reads.Asked, locate-reads.Learnt, span-at-reads.Asked, span-at-reads.Learnt, add-run-below t, add-run.Post, put32-reads.Asked, put32-reads.Learnt)
+add-item-calls t = (locate-reads.Asked, locate-reads.Learnt, span-at-reads.Asked, span-at-reads.Learnt, add-run-below t, add-run.Post, store32-reads.Asked, store32-reads.Learnt)
 
 module _ (t : ℕ) where
   -- the label has its record
@@ -110,7 +110,7 @@ module _ (t : ℕ) where
     material x = raw (under (begun at .args .label)) (eqb (begun at .args .kind) recordKind) (x .vs)
 
   -- what is below it has been added
-  module _ (c : add-item-lts.After-put32-arg (add-item-calls t) (add-item-at t) add-item.Post) where
+  module _ (c : add-item-lts.After-store32-arg (add-item-calls t) (add-item-at t) add-item.Post) where
     abbrev sp : add-item-lts.After-span-at (add-item-calls t) (add-item-at t) add-item.Post
     sp = c .before .before .before .before .before .before .before .before .before .before .before
 
@@ -207,14 +207,14 @@ module _ (t : ℕ) where
       step-full f _ (h .used) (short (at i)) (counted (at i) x) _ (span i x) (add Counting (material i x)) (k .last .0)
       (added-full _ _ _ (k .last .0) _ (c .enum-told2 .given .1) (k .ensures _ _ _ vs (inner i x) r))
 
-  add-item-add-put32 : add-item-lts.Need-add-put32 (add-item-calls t) (add-item-at t) add-item.Post
-  add-item-add-put32 c = omega (arith, small c, bound (at (sp c)))
+  add-item-add-store32 : add-item-lts.Need-add-store32 (add-item-calls t) (add-item-at t) add-item.Post
+  add-item-add-store32 c = omega (arith, small c, bound (at (sp c)))
 
-  add-item-add-put32-2 : add-item-lts.Need-add-put32-2 (add-item-calls t) (add-item-at t) add-item.Post
-  add-item-add-put32-2 c = omega (arith, small c, bound (at (sp c)))
+  add-item-add-store32-2 : add-item-lts.Need-add-store32-2 (add-item-calls t) (add-item-at t) add-item.Post
+  add-item-add-store32-2 c = omega (arith, small c, bound (at (sp c)))
 
-  add-item-put32-requires : add-item-lts.Need-put32-requires (add-item-calls t) (add-item-at t) add-item.Post
-  add-item-put32-requires c κs = omega (arith, small c, same c)
+  add-item-store32-requires : add-item-lts.Need-store32-requires (add-item-calls t) (add-item-at t) add-item.Post
+  add-item-store32-requires c κs = omega (arith, small c, same c)
 
   add-item-add-t25 : add-item-lts.Need-add-t25 (add-item-calls t) (add-item-at t) add-item.Post
   add-item-add-t25 c = let i = c .before .before .before in omega (arith, small i, numbers (sp i), bound (at (sp i)))
@@ -226,7 +226,7 @@ module _ (t : ℕ) where
   add-item-sub-t36 c = let i = c .before .before .before in omega (arith, small i, numbers (sp i), bound (at (sp i)))
 
   add-item-same-length-5 : add-item-lts.Need-same-length-5 (add-item-calls t) (add-item-at t) add-item.Post
-  add-item-same-length-5 c = c .before .before .put32 .kept .0 ∙ same (c .before .before .before) ∙ c .before .before .before .before .before .before .before .before .before .before .before .before .before .before .before .before .before .before .before .before .before .before .before .locate .kept .0
+  add-item-same-length-5 c = c .before .before .store32 .kept .0 ∙ same (c .before .before .before) ∙ c .before .before .before .before .before .before .before .before .before .before .before .before .before .before .before .before .before .before .before .before .before .before .before .locate .kept .0
 
   add-item-same-length-6 : add-item-lts.Need-same-length-6 (add-item-calls t) (add-item-at t) add-item.Post
   add-item-same-length-6 c = c .before .before .before .before .before .before .before .before .before .before .before .add-run .kept .1 .1 .1 .1 .1 .1 .0 ∙ c .before .before .before .before .before .before .before .before .before .before .before .before .before .before .before .before .before .before .before .before .before .before .before .locate .kept .1 .1 .1 .1 .1 .1 .1 .1 .0
@@ -236,7 +236,7 @@ module _ (t : ℕ) where
       let i = c .before .before .before in
       let j = at (sp i) in
       let x : Asked j = record { field = field; f = f; q = q; free = free; vs = vs; holds = h; starts = s; run = r } in
-      (step-grown f _ (h .used) (short j) (counted j x) _ (span (sp i) x) (add Counting (material (sp i) x)) _ _ _ (grown i x) (c .before .before .put32 .ensures), counted j x .place)
+      (step-grown f _ (h .used) (short j) (counted j x) _ (span (sp i) x) (add Counting (material (sp i) x)) _ _ _ (grown i x) (c .before .before .store32 .ensures), counted j x .place)
 
 abbrev add-run-Inv-loop : add-run-lts.InvT-loop
 add-run-Inv-loop a₀ n rest t field label work₀ end m₀ i₀ from₀ a work m i from = (end ≡ length t / 8) × (length a ≡ length a₀) × (length work ≡ length work₀) × ((f : CountingType) (q free : List ℕ) (vs : Values) → Holds (under label) field a₀ n rest f q free → TableRun field t vs → Ran (under label) field vs f q a t m i from)
@@ -371,5 +371,5 @@ module _ (t : ℕ) where
 pub +add-item+add-run-spec : {M : Type 1} → statement M
 +add-item+add-run-spec =
     close μ-add-item μ-add-run
-    (λ t. add-item-lts.spec (add-item-calls t) (add-item-at t) add-item.Post (add-item-locate-requires t) (add-item-enum-known-p t) (add-item-enum-told t) (add-item-same-length t) (add-item-same-length-2 t) (add-item-returns t) (add-item-span-at-requires t) (add-item-mul-o t) (add-item-add-inner t) (add-item-add-behind t) (add-item-sub-behind t) (add-item-sub-behind-2 t) (add-item-sub-add-run t) (add-item-part-add-run-start t) (add-item-part-add-run-end t) (add-item-sub-add-run-2 t) (add-item-add-run-requires t) (add-item-enum-known-size t) (add-item-enum-told-2 t) (add-item-same-length-3 t) (add-item-same-length-4 t) (add-item-returns-2 t) (add-item-add-put32 t) (add-item-add-put32-2 t) (add-item-put32-requires t) (add-item-add-t25 t) (add-item-add-t26 t) (add-item-sub-t36 t) (add-item-same-length-5 t) (add-item-same-length-6 t) (add-item-returns-3 t))
+    (λ t. add-item-lts.spec (add-item-calls t) (add-item-at t) add-item.Post (add-item-locate-requires t) (add-item-enum-known-p t) (add-item-enum-told t) (add-item-same-length t) (add-item-same-length-2 t) (add-item-returns t) (add-item-span-at-requires t) (add-item-mul-o t) (add-item-add-inner t) (add-item-add-behind t) (add-item-sub-behind t) (add-item-sub-behind-2 t) (add-item-sub-add-run t) (add-item-part-add-run-start t) (add-item-part-add-run-end t) (add-item-sub-add-run-2 t) (add-item-add-run-requires t) (add-item-enum-known-size t) (add-item-enum-told-2 t) (add-item-same-length-3 t) (add-item-same-length-4 t) (add-item-returns-2 t) (add-item-add-store32 t) (add-item-add-store32-2 t) (add-item-store32-requires t) (add-item-add-t25 t) (add-item-add-t26 t) (add-item-sub-t36 t) (add-item-same-length-5 t) (add-item-same-length-6 t) (add-item-returns-3 t))
     (λ t. add-run-lts.spec (add-run-calls t) (add-run-at t) add-run.Post add-run-Inv-loop add-run-μ-loop (add-run-loop-holds t) (add-run-read-item-requires t) (add-run-mul-stop t) (add-run-sub-add-item t) (add-run-part-add-item-start t) (add-run-part-add-item-end t) (add-run-add-item-requires t) (add-run-enum-known-p t) (add-run-enum-told t) (add-run-same-length t) (add-run-same-length-2 t) (add-run-returns t) (add-run-loop-less t) (add-run-loop-again t) (add-run-same-length-3 t) (add-run-same-length-4 t) (add-run-returns-2 t))

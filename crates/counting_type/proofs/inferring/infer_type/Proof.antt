@@ -1,7 +1,7 @@
 -- `infer_type` meets its contract.
 use mathlib.Core.List.{[]}
 use borrow.Author.Needs.{needs}
-use Rattle.counting_type.specs.Trie.{nil}
+use Rattle.counting_theory.specs.Trie.{nil}
 use Rattle.counting_type.proofs.InPlace.Whole.{table-run, holds-nothing, inferred-room, inferred-stored}
 use Rattle.counting_type.proofs.InPlace.Steps.{added-full, added-records}
 use Rattle.counting_type.proofs.inferring.infer_type.Statement.{statement}

@@ -9,7 +9,7 @@ use borrow.Author.Needs.{needs}
 use Rattle.counting_type.specs.declared.key_list.Listed.the-variants.{Keys}
 use Rattle.counting_type.specs.Inferring.{TableRun, LabelListed}
 use Rattle.counting_type.specs.Checker.{under}
-use Rattle.counting_type.specs.Encoding.{typeSize}
+use Rattle.counting_theory.specs.Encoding.{typeSize}
 use Rattle.counting_type.proofs.InPlace.Items.{label-is, located, too-many}
 use Rattle.value_table.specs.Value.{recordKind, Values, keys}
 use Rattle.counting_type.proofs.placing.locate.Statement.{statement}

@@ -8,7 +8,7 @@ use lib.ListN.{length, length-take, length-drop}
 use borrow.Author.Needs.{needs}
 use Rattle.counting_type.specs.Inferring.{wanted, Holds, Starts, split}
 use Rattle.counting_type.specs.Checker.{under}
-use Rattle.counting_type.specs.Label.{Label, CountingType}
+use Rattle.counting_theory.specs.Label.{Label, CountingType}
 use Rattle.counting_type.proofs.InPlace.Placing.{holds-length, here-within, here-counted, missing-within, missing-full, missing-counted}
 use Rattle.counting_type.proofs.InPlace.Splits.{HereAt, MissingAt, here-at, missing-at}
 use Rattle.counting_type.proofs.placing.place.Statement.{statement}

@@ -8,7 +8,7 @@ use borrow.Author.Tests.{not-true, not-false}
 use borrow.Author.Needs.{needs}
 use Rattle.counting_type.specs.Inferring.{wanted, Holds, Starts}
 use Rattle.counting_type.specs.Checker.{under}
-use Rattle.counting_type.specs.Label.{Label, CountingType}
+use Rattle.counting_theory.specs.Label.{Label, CountingType}
 use Rattle.counting_type.proofs.InPlace.Seeking.{Seen, Stop, seen-start, seen-resumed, stop, seen-end, stop-comparable, compared-less, compared-equal, compared-greater}
 use Rattle.counting_type.proofs.search.search.Statement.{statement}
 use Rattle.counting_type.proofs.search.search.Tie as tie

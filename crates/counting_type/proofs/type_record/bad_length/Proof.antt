@@ -1,6 +1,6 @@
 -- `bad_length` meets its contract.
 use borrow.Author.Tests.{eq-eqb, ne-eqb}
-use Rattle.counting_type.specs.WellFormed.{badTypeLength}
+use Rattle.counting_theory.specs.WellFormed.{badTypeLength}
 use Rattle.counting_type.proofs.type_record.bad_length.Statement.{statement}
 use Rattle.counting_type.proofs.type_record.bad_length.Tie as tie
 

@@ -1,6 +1,6 @@
 -- `count_at` meets its contract.
 use borrow.Author.Needs.{needs}
-use Rattle.counting_type.specs.Encoding.{typeCount}
+use Rattle.counting_theory.specs.Encoding.{typeCount}
 use Rattle.counting_type.proofs.type_record.count_at.Statement.{statement}
 use Rattle.counting_type.proofs.type_record.count_at.Tie as tie
 

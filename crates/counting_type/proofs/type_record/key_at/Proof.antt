@@ -1,6 +1,6 @@
 -- `key_at` meets its contract.
 use borrow.Author.Needs.{needs}
-use Rattle.counting_type.specs.Encoding.{typeKey}
+use Rattle.counting_theory.specs.Encoding.{typeKey}
 use Rattle.counting_type.proofs.type_record.key_at.Statement.{statement}
 use Rattle.counting_type.proofs.type_record.key_at.Tie as tie
 

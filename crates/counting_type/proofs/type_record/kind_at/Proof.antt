@@ -1,6 +1,6 @@
 -- `kind_at` meets its contract.
 use borrow.Author.Needs.{needs}
-use Rattle.counting_type.specs.Encoding.{typeKind}
+use Rattle.counting_theory.specs.Encoding.{typeKind}
 use Rattle.counting_type.proofs.type_record.kind_at.Statement.{statement}
 use Rattle.counting_type.proofs.type_record.kind_at.Tie as tie
 

@@ -1,6 +1,6 @@
 -- `zero_at` meets its contract.
 use borrow.Author.Needs.{needs}
-use Rattle.counting_type.specs.Encoding.{typeZero}
+use Rattle.counting_theory.specs.Encoding.{typeZero}
 use Rattle.counting_type.proofs.type_record.zero_at.Statement.{statement}
 use Rattle.counting_type.proofs.type_record.zero_at.Tie as tie
 

@@ -10,16 +10,16 @@ number64-requires c κs = search needs
 wrapping-add-usize-requires : tie.Need-wrapping-add-usize-requires
 wrapping-add-usize-requires c κs = search needs
 
-put64-requires : tie.Need-put64-requires
-put64-requires c κs = search needs
+store64-requires : tie.Need-store64-requires
+store64-requires c κs = search needs
 
 same-length : tie.Need-same-length
 same-length c = search needs
 
 returns : tie.Need-returns
-returns c l span count q e = counted-one _ _ _ _ l span count q (c .before .before .before .before .before .number64 .ensures) (c .before .before .before .wrapping-add-usize .ensures) (c .before .before .put64 .ensures) e
+returns c l span count q e = counted-one _ _ _ _ l span count q (c .before .before .before .before .before .number64 .ensures) (c .before .before .before .wrapping-add-usize .ensures) (c .before .before .store64 .ensures) e
 
 pub count-one-spec : {M : Type 1} → statement M
 count-one-spec =
     tie.close
-    (tie.spec number64-requires wrapping-add-usize-requires put64-requires same-length returns)
+    (tie.spec number64-requires wrapping-add-usize-requires store64-requires same-length returns)

@@ -2,8 +2,8 @@
 use native.Mathlib.Omega.{arith}
 use mathlib.Core.Path.{_≡_}
 use Prim.Native.Nat.{_+_, _-_}
-use Rattle.counting_type.specs.Trie.{total}
-use Rattle.counting_type.specs.Label.{Counting}
+use Rattle.counting_theory.specs.Trie.{total}
+use Rattle.counting_theory.specs.Label.{Counting}
 use Rattle.report.specs.Walk.{typeIn, Union}
 use Rattle.report.proofs.Runs.{union-first, union-done}
 use Rattle.report.proofs.walk.union_total.Statement.{statement}

@@ -1,0 +1,12 @@
+-- The laws behind the statements.
+pub mod Order
+pub mod Trie
+pub mod KeyList
+pub mod Label
+pub mod Tagged
+pub mod Encoding
+pub mod Published
+pub mod Values
+pub mod WellFormed
+pub mod Ways
+pub mod Trials

@@ -1,0 +1,54 @@
+-- A field's count is the total of its union, in a profile and in the reduce of two types.
+use mathlib.Core.Path.{_≡_, refl, _∙_, ap}
+use mathlib.Core.Bool.{Bool, true, false}
+use Prim.Native.Nat.{ℕ, suc, _+_, Ordering, Ordering·lt as lt, Ordering·eq as eq, Ordering·gt as gt}
+use native.Mathlib.Omega.{arith}
+use lib.Dec.{eqb}
+use borrow.Author.Tests.{ne-eqb}
+use Rattle.value_table.specs.Value.{Values, none, value, recordKind, ValidAt, Valid}
+use Rattle.counting_theory.specs.Trie.{nil, node, insertStep, insert, add, reduce, Sorted, total}
+use Rattle.counting_theory.specs.Label.{Equivalence, Label, fieldKind, compareLabel, Counting, CountingType}
+use Rattle.counting_theory.specs.Raw.{raw, profileOf}
+use Rattle.counting_theory.specs.Place.{FieldTotals}
+use Rattle.counting_theory.proofs.Label.{label-order, counting-laws}
+use Rattle.counting_theory.proofs.Trie.Growth.{total-add}
+use Rattle.counting_theory.proofs.Trie.Profile.{reduce-add}
+
+-- the node l a c is inserted, and g adds its children c
+module _ (l : Label) (a : ℕ) (c : CountingType) (g : CountingType → CountingType) (field : l .kind ≡ fieldKind → a ≡ total Counting c)
+    (adds : (d : CountingType) → total Counting (g d) ≡ total Counting c + total Counting d)
+    (keeps : (d : CountingType) → FieldTotals d → FieldTotals (g d)) where
+  insert-totals : (f : CountingType) → FieldTotals f → FieldTotals (insert Counting l a g f)
+  unfolding insert insertStep total
+  insert-totals nil h = (λ i. omega (arith, field i, adds nil), keeps nil tt, tt)
+  insert-totals (node k b d s) h = go (compareLabel l k) refl (insert-totals s (h .2))
+    where
+      go : (o : Ordering) → compareLabel l k ≡ o → FieldTotals (insert Counting l a g s) → FieldTotals (insertStep Counting o l a g k b d s (insert Counting l a g s))
+      go lt e i = (λ j. omega (arith, field j, adds nil), keeps nil tt, h)
+      go eq e i = (λ j. omega (arith, field (ap (λ (m : Label). m .kind) (label-order .compare-eq e) ∙ j), h .0 j, adds d), keeps d (h .1), h .2)
+      go gt e i = (h .0, h .1, i)
+
+add-totals : (r f : CountingType) → FieldTotals r → FieldTotals f → FieldTotals (add Counting r f)
+unfolding add
+add-totals nil f h i = i
+add-totals (node l a c s) f h i =
+    add-totals s (insert Counting l a (add Counting c) f) (h .2)
+    (insert-totals l a c (add Counting c) (h .0) (total-add counting-laws c) (λ d. add-totals c d (h .1)) f i)
+
+raw-totals : (e : Equivalence) (field : Bool) (depth : ℕ) (c : Values) → ValidAt field depth c → FieldTotals (raw e field c)
+unfolding raw ValidAt total
+raw-totals e field depth none h = tt
+raw-totals e true depth (value kind key content next) h = (
+  λ i. rw (ne-eqb kind fieldKind (λ z. omega arith)) refl,
+  (λ i. omega arith, raw-totals e (eqb kind recordKind) (suc depth) content (h .1), tt),
+  raw-totals e true depth next (h .2),
+)
+raw-totals e false depth (value kind key content next) h =
+    (λ i. omega arith, raw-totals e (eqb kind recordKind) (suc depth) content (h .1), raw-totals e false depth next (h .2))
+
+pub profile-totals : (e : Equivalence) (messages : Values) → Valid messages → FieldTotals (profileOf e messages)
+unfolding profileOf
+profile-totals e messages h = add-totals (raw e false messages) nil (raw-totals e false 1 messages h) tt
+
+pub reduce-totals : (f g : CountingType) → Sorted Counting f → Sorted Counting g → FieldTotals f → FieldTotals g → FieldTotals (reduce Counting f g)
+reduce-totals f g u v h i = rw (reduce-add counting-laws f g u v) (add-totals f g h i)

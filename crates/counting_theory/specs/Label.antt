@@ -1,0 +1,49 @@
+-- 'Classes and places' of document 01: labels, their order, and the counting trie over them.
+use mathlib.Core.Bool.{cond}
+use mathlib.Core.List.{List, []}
+use Prim.Native.Nat.{ℕ, _+_, compare, Ordering}
+use lib.Dec.{eqb}
+use Rattle.value_table.specs.Value.{recordKind}
+use Rattle.counting_theory.specs.Order.{comparePair, compareList, compareOn}
+use Rattle.counting_theory.specs.Trie.{TrieOps, Trie}
+
+-- document 01's equivalence 0 and equivalence 1
+pub data Equivalence : Type 0 where
+  byKind byLabel : Equivalence
+
+abbrev pub fieldKind : ℕ
+fieldKind = 7
+
+-- What stands at one step of a place: the class of a value (key 0), or a field (its kind and key).
+pub record Label : Type 0 where
+  pub kind : ℕ
+  pub key : ℕ
+  pub keys : List ℕ
+
+-- the key list that belongs to a class: that of a record, under label
+unfoldable pub listed : Equivalence → ℕ → List ℕ → List ℕ
+listed byKind kind keys = []
+listed byLabel kind keys = cond (eqb kind recordKind) keys []
+
+abbrev pub labelOf : Equivalence → ℕ → ℕ → List ℕ → Label
+labelOf eq kind key keys = record { kind = kind; key = key; keys = listed eq kind keys }
+
+abbrev pub fieldLabel : ℕ → Label
+fieldLabel key = record { kind = fieldKind; key = key; keys = [] }
+
+-- by kind, then by key, then by key list: the first key that differs settles, and a list that begins the other comes first
+abbrev pub parts : Label → ℕ × (ℕ × List ℕ)
+parts l = (l .kind, (l .key, l .keys))
+
+abbrev pub compareLabel : Label → Label → Ordering
+compareLabel = compareOn (comparePair compare (comparePair compare (compareList compare))) parts
+
+-- counts add; the counts of a union total, those of a record's fields don't
+abbrev pub weightOf : Label → ℕ → ℕ
+weightOf l count = cond (eqb (l .kind) fieldKind) 0 count
+
+abbrev pub Counting : TrieOps
+Counting = record { Label = Label; Payload = ℕ; compare = compareLabel; join = _+_; weight = weightOf }
+
+abbrev pub CountingType : Type 0
+CountingType = Trie Counting

@@ -1,0 +1,100 @@
+-- How many values have a place, counted on the values themselves with the path operators of document 000 (Definition 3.3).
+use mathlib.Core.Bool.{Bool, cond, _&&_}
+use mathlib.Core.List.{List, [], _∷_, flatMap}
+use mathlib.Core.Logic.{_↔_}
+use mathlib.Core.Option.{Option, none as absent, some}
+use mathlib.Core.Path.{_≡_}
+use Prim.Native.Nat.{ℕ, zero, suc}
+use lib.Dec.{eqb, isEq}
+use lib.ListN.{length}
+use Rattle.value_table.specs.Value.{Values, none, value, keys, member, Distinct, Valid, recordKind, arrayKind}
+use Rattle.counting_theory.specs.Trie.{nil, node, lookup, total}
+use Rattle.counting_theory.specs.Label.{Equivalence, byLabel, Label, fieldKind, fieldLabel, compareLabel, Counting, CountingType}
+use Rattle.counting_theory.specs.Raw.{classOf, profileOf}
+
+-- a value without its key; a list of these stands for a multiset of document 000
+pub record Value : Type 0 where
+  pub kind : ℕ
+  pub content : Values
+
+unfoldable pub valuesOf : Values → List Value
+valuesOf none = []
+valuesOf (value kind key content next) = record { kind = kind; content = content } ∷ valuesOf next
+
+unfoldable pub valuesWith : ℕ → Values → List Value
+valuesWith k none = []
+valuesWith k (value kind key content next) = cond (eqb k key) (record { kind = kind; content = content } ∷ valuesWith k next) (valuesWith k next)
+
+-- M/[*]: the elements of the arrays of M
+abbrev pub elementsOf : Value → List Value
+elementsOf v = cond (eqb (v .kind) arrayKind) (valuesOf (v .content)) []
+
+unfoldable pub elements : List Value → List Value
+elements M = flatMap elementsOf M
+
+-- M/k: the values that the records of M have under key k
+abbrev pub fieldOf : ℕ → Value → List Value
+fieldOf k v = cond (eqb (v .kind) recordKind) (valuesWith k (v .content)) []
+
+unfoldable pub under : ℕ → List Value → List Value
+under k M = flatMap (fieldOf k) M
+
+unfoldable pub select : (Value → Bool) → List Value → List Value
+select test [] = []
+select test (v ∷ M) = cond (test v) (v ∷ select test M) (select test M)
+
+abbrev pub sameLabel : Label → Label → Bool
+sameLabel l m = isEq (compareLabel l m)
+
+-- the values of M that have this class
+unfoldable pub ofClass : Equivalence → Label → List Value → List Value
+ofClass eq class M = select (λ v. sameLabel class (classOf eq (v .kind) (v .content))) M
+
+-- the records of M that have key k
+unfoldable pub having : ℕ → List Value → List Value
+having k M = select (λ v. eqb (v .kind) recordKind && member k (keys (v .content))) M
+
+-- Where a path has led: to the values of a class, or to the field k of the records M.
+pub data Reached : Type 0 where
+  values : (M : List Value) → Reached
+  field : (k : ℕ) (M : List Value) → Reached
+
+-- A place of document 01 is a path of labels: a message's class; then for a field's value the field's label and its own class,
+-- and for an element its own class, which stands for the step "element" too. A path that ends in a field's label is that of a
+-- field record.
+unfoldable pub follow : Equivalence → Reached → Label → Reached
+follow eq (values M) l = cond (sameLabel l (fieldLabel (l .key))) (field (l .key) M) (values (ofClass eq l (elements M)))
+follow eq (field k M) l = values (ofClass eq l (under k M))
+
+-- the values there, or the records there that have the field
+unfoldable pub countReached : Reached → ℕ
+countReached (values M) = length M
+countReached (field k M) = length (having k M)
+
+unfoldable pub countFrom : Equivalence → Reached → List Label → ℕ
+countFrom eq r [] = countReached r
+countFrom eq r (l ∷ q) = countFrom eq (follow eq r l) q
+
+unfoldable pub valuesAt : Equivalence → List Value → List Label → ℕ
+valuesAt eq M [] = 0
+valuesAt eq M (l ∷ q) = countFrom eq (values (ofClass eq l M)) q
+
+-- a count as a trie holds it: a place without values is absent
+abbrev pub present : ℕ → Option ℕ
+present zero = absent
+present (suc n) = some (suc n)
+
+-- the profile has a place exactly if some value of the messages has it, with the number of those values
+abbrev pub Counts : Type 0
+Counts = (eq : Equivalence) (messages : Values) → Valid messages → (place : List Label) →
+    lookup Counting (profileOf eq messages) place ≡ present (valuesAt eq (valuesOf messages) place)
+
+-- a field's count is the total of its union
+abbrev pub FieldTotals : CountingType → Type 0
+FieldTotals nil = Unit {0}
+FieldTotals (node l count c s) = (l .kind ≡ fieldKind → count ≡ total Counting c) × FieldTotals c × FieldTotals s
+
+-- under label, two records have one class exactly if they have the same keys
+abbrev pub LabelsApart : Type 0
+LabelsApart = (c d : Values) → Distinct (keys c) → Distinct (keys d) →
+    (classOf byLabel recordKind c ≡ classOf byLabel recordKind d) ↔ ((k : ℕ) → member k (keys c) ≡ member k (keys d))

@@ -1,0 +1,99 @@
+-- 'Trials at the edges' of document 01: the ten trials marked with a star as one table, and one claim over the table.
+use mathlib.Core.Path.{_≡_}
+use mathlib.Core.List.{List, [], _∷_, flatMap}
+use Prim.Native.Nat.{ℕ, _*_}
+use Rattle.value_table.specs.Value as table
+use Rattle.counting_theory.specs.Encoding.{typeSize, header}
+use Rattle.counting_theory.specs.Answers.{Written, inferred, merged}
+
+-- a value record by kind, key and span; a type record by kind, key, span and count
+abbrev pub ValueRecord : Type 0
+ValueRecord = ℕ × ℕ × ℕ
+
+abbrev pub TypeRecord : Type 0
+TypeRecord = ℕ × ℕ × ℕ × ℕ
+
+unfoldable pub tableBytes : List ValueRecord → List ℕ
+tableBytes records = flatMap (λ r. table.header (r .0) (r .1) (r .2)) records
+
+unfoldable pub typeBytes : List TypeRecord → List ℕ
+typeBytes records = flatMap (λ r. header (record { kind = r .0; key = r .1; keys = [] }) (r .2) (r .3)) records
+
+-- call 2 on a table, or call 5 on a first and a second type
+pub data Tried : Type 0 where
+  infer : (source : List ValueRecord) → Tried
+  merge : (first second : List TypeRecord) → Tried
+
+-- A call, the equivalences and the arena lengths that it is tried with, and what it gives with each of them: refusal number, place,
+-- count, and the type, behind which the arena is zero.
+pub data Trial : Type 0 where
+  trial : (call : Tried) (equivalences arenas : List ℕ) (number place count : ℕ) (type : List TypeRecord) → Trial
+
+-- both equivalences where a trial names none, and the largest arena where it names none
+abbrev pub underKind : List ℕ
+underKind = 0 ∷ []
+
+abbrev pub underLabel : List ℕ
+underLabel = 1 ∷ []
+
+abbrev pub underBoth : List ℕ
+underBoth = 0 ∷ 1 ∷ []
+
+abbrev pub largest : List ℕ
+largest = table.maxLength ∷ []
+
+abbrev pub roomFor : ℕ → List ℕ
+roomFor records = typeSize * records ∷ []
+
+-- {1: number, 2: [number, number]}, {1: null}, {2: []}: their table, their type under kind, and that under label, in the key lists
+-- (1), (1, 2), (2)
+abbrev pub nine : List ValueRecord
+nine = (5, 0, 5) ∷ (3, 1, 1) ∷ (6, 2, 3) ∷ (3, 0, 1) ∷ (3, 0, 1) ∷ (5, 0, 2) ∷ (1, 1, 1) ∷ (5, 0, 2) ∷ (6, 2, 1) ∷ []
+
+abbrev pub nineByKind : List TypeRecord
+nineByKind = (5, 0, 7, 3) ∷ (7, 1, 3, 2) ∷ (1, 0, 1, 1) ∷ (3, 0, 1, 1) ∷ (7, 2, 3, 2) ∷ (6, 0, 2, 2) ∷ (3, 0, 1, 2) ∷ []
+
+abbrev pub nineByLabel : List TypeRecord
+nineByLabel =
+    (5, 0, 3, 1) ∷ (7, 1, 2, 1) ∷ (1, 0, 1, 1)
+    ∷ (5, 0, 6, 1) ∷ (7, 1, 2, 1) ∷ (3, 0, 1, 1) ∷ (7, 2, 3, 1) ∷ (6, 0, 2, 1) ∷ (3, 0, 1, 2)
+    ∷ (5, 0, 3, 1) ∷ (7, 2, 2, 1) ∷ (6, 0, 1, 1) ∷ []
+
+abbrev pub oneNull : List TypeRecord
+oneNull = (1, 0, 1, 1) ∷ []
+
+unfoldable pub trials : List Trial
+trials =
+    trial (infer []) underBoth (0 ∷ largest) 0 0 0 []
+    ∷ trial (infer nine) underKind largest 0 0 7 nineByKind
+    ∷ trial (infer nine) underLabel largest 0 0 12 nineByLabel
+    ∷ trial (infer nine) underKind (roomFor 6) 11 0 0 []
+    ∷ trial (infer nine) underKind (roomFor 7) 0 0 7 nineByKind
+    ∷ trial (infer ((1, 0, 1) ∷ [])) underBoth largest 0 0 1 oneNull
+    ∷ trial (infer ((1, 0, 2) ∷ [])) underBoth largest 4 0 0 []
+    ∷ trial (infer ((0, 0, 0) ∷ [])) underBoth largest 3 0 0 []
+    ∷ trial (infer ((5, 0, 3) ∷ (1, 1, 1) ∷ (3, 1, 1) ∷ [])) underBoth largest 6 2 0 []
+    ∷ trial (merge oneNull []) underKind largest 0 0 1 oneNull
+    ∷ []
+
+-- the working buffer is as long as the arena
+abbrev pub writtenBy : Tried → ℕ → ℕ → Written
+writtenBy (infer source) equivalence arena = inferred (tableBytes source) equivalence arena arena
+writtenBy (merge first second) equivalence arena = merged (typeBytes first) (typeBytes second) equivalence arena
+
+abbrev pub expected : ℕ → ℕ → ℕ → List TypeRecord → Written
+expected number place count type = record { outcome = record { number = number; place = place; count = count }; bytes = typeBytes type }
+
+-- P holds of each element
+infixr 50 _&_
+pub data Every {A : Type 0} (P : A → Type 0) : List A → Type 0 where
+  done : Every P []
+  _&_ : {x : A} {xs : List A} → P x → Every P xs → Every P (x ∷ xs)
+
+abbrev pub Holds : Trial → Type 0
+Holds (trial call equivalences arenas number place count type) =
+    Every (λ e. Every (λ n. writtenBy call e n ≡ expected number place count type) arenas) equivalences
+
+-- the one claim, over the whole table
+abbrev pub TrialsHold : Type 0
+TrialsHold = Every Holds trials

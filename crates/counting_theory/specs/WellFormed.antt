@@ -1,0 +1,132 @@
+-- Which bytes are a well-formed type: 'Type arena' of document 01, rule by rule in its order, on any bytes.
+use mathlib.Core.Path.{_≡_}
+use mathlib.Core.Logic.{_↔_}
+use mathlib.Core.Bool.{Bool, true, false, cond, not, _&&_, _||_}
+use mathlib.Core.List.{List}
+use Prim.Native.Nat.{ℕ, zero, suc, _+_, _*_, _%_, _≤_, _<_, Ordering, Ordering·lt as lt, Ordering·eq as eq, Ordering·gt as gt}
+use lib.Dec.{eqb, leb, ltb}
+use lib.ListN.{length}
+use Rattle.value_table.specs.Number.{Bytes}
+use Rattle.value_table.specs.Value.{maxLength, maxDepth, recordKind, arrayKind, lastScalar}
+use Rattle.counting_theory.specs.Trie.{nil, node, size, Sorted, total, largestTotal}
+use Rattle.counting_theory.specs.Label.{Equivalence, byKind, byLabel, Label, fieldKind, compareLabel, Counting, CountingType}
+use Rattle.counting_theory.specs.Place.{FieldTotals}
+use Rattle.counting_theory.specs.Encoding.{typeSize, typeRecords, typeKind, typeZero, typeKey, typeSpan, encode, typeOf, Tagged}
+
+-- the most that the counts of one union may total
+abbrev pub maxTotal : ℕ
+maxTotal = 1000000000000000
+
+-- Kinds, zeros, keys, spans and depth are as said, and kinds 1 to 4 have span 1: the record of a field, whose union is not empty,
+-- and the record of an addend at this depth.
+abbrev pub fieldRecord : List ℕ → ℕ → Bool
+fieldRecord b i = eqb (typeKind b i) fieldKind && leb 1 (typeKey b i) && leb 2 (typeSpan b i)
+
+abbrev pub addendRecord : List ℕ → ℕ → ℕ → Bool
+addendRecord b i depth =
+    leb 1 (typeKind b i) && leb (typeKind b i) arrayKind && eqb (typeKey b i) 0 && leb depth maxDepth
+    && (ltb lastScalar (typeKind b i) || eqb (typeSpan b i) 1)
+
+abbrev pub placedRecord : List ℕ → ℕ → ℕ → Bool
+placedRecord b i end = eqb (typeZero b i) 0 && leb 1 (typeSpan b i) && leb (i + typeSpan b i) end
+
+unfoldable pub typeRecord : List ℕ → ℕ → ℕ → Bool → ℕ → Bool
+typeRecord b i end field depth = placedRecord b i end && cond field (fieldRecord b i) (addendRecord b i depth)
+
+-- what stands inside record i is a run of fields if the record is an addend of kind 5, else a union
+abbrev pub holdsFields : List ℕ → ℕ → Bool → Bool
+holdsFields b i field = not field && eqb (typeKind b i) recordKind
+
+-- a field has its record's depth; the addends of a union are one deeper than what holds it
+abbrev pub depthInside : Bool → ℕ → ℕ
+depthInside fields depth = cond fields depth (depth + 1)
+
+-- records i to end are a union, or (field ≡ true) a run of fields; k bounds the number of records
+unfoldable pub laidOut : List ℕ → ℕ → ℕ → ℕ → Bool → ℕ → Bool
+laidOut b zero i end field depth = eqb i end
+laidOut b (suc k) i end field depth =
+    elim (eqb i end) [
+      | true ↦ true
+      | false ↦ typeRecord b i end field depth
+          && laidOut b k (i + 1) (i + typeSpan b i) (holdsFields b i field) (depthInside (holdsFields b i field) depth)
+          && laidOut b k (i + typeSpan b i) end field depth
+    ]
+
+-- each count is at least 1
+unfoldable pub counted : CountingType → Bool
+counted nil = true
+counted (node l count c s) = leb 1 count && counted c && counted s
+
+-- the counts of any union total at most 10^15
+unfoldable pub withinLimit : CountingType → Bool
+withinLimit f = leb (largestTotal Counting f) maxTotal
+
+-- Addends ascend by kind and, in one kind, strictly by key list, which is empty but for kind 5 under label; fields ascend strictly
+-- by key.
+abbrev pub isLt : Ordering → Bool
+isLt lt = true
+isLt eq = false
+isLt gt = false
+
+abbrev pub precedes : Label → CountingType → Bool
+precedes l nil = true
+precedes l (node m count c s) = isLt (compareLabel l m)
+
+unfoldable pub ascends : CountingType → Bool
+ascends nil = true
+ascends (node l count c s) = precedes l s && ascends c && ascends s
+
+-- a field's count is the total of its union
+unfoldable pub fieldTotals : CountingType → Bool
+fieldTotals nil = true
+fieldTotals (node l count c s) = (not (eqb (l .kind) fieldKind) || eqb count (total Counting c)) && fieldTotals c && fieldTotals s
+
+-- under kind a field's count is at most its record's, under label equal to it
+abbrev pub fieldCount : Equivalence → ℕ → ℕ → Bool
+fieldCount byKind count ofRecord = leb count ofRecord
+fieldCount byLabel count ofRecord = eqb count ofRecord
+
+unfoldable pub fieldsOf : Equivalence → ℕ → CountingType → Bool
+fieldsOf e ofRecord nil = true
+fieldsOf e ofRecord (node l count c s) = fieldCount e count ofRecord && fieldsOf e ofRecord s
+
+unfoldable pub fieldCounts : Equivalence → CountingType → Bool
+fieldCounts e nil = true
+fieldCounts e (node l count c s) = (not (eqb (l .kind) recordKind) || fieldsOf e count c) && fieldCounts e c && fieldCounts e s
+
+abbrev pub obeys : Equivalence → CountingType → Bool
+obeys e f = counted f && withinLimit f && ascends f && fieldTotals f && fieldCounts e f
+
+unfoldable pub wellFormed : Equivalence → List ℕ → Bool
+wellFormed e b = laidOut b (typeRecords b) 0 (typeRecords b) false 1 && obeys e (typeOf e b)
+
+-- A length that is refused by 1.
+unfoldable pub badTypeLength : ℕ → Bool
+badTypeLength n = not (eqb (n % typeSize) 0) || ltb maxLength n
+
+-- the keys of fields fit, and the depth of addends, from `depth` on, is at most 32
+abbrev pub Shallow : Bool → ℕ → CountingType → Type 0
+Shallow field depth nil = Unit {0}
+Shallow true depth (node l count c s) = (1 ≤ l .key) × (l .key < 65536) × Shallow false (depth + 1) c × Shallow true depth s
+Shallow false depth (node l count c s) =
+    (depth ≤ maxDepth) × Shallow (eqb (l .kind) recordKind) (depthInside (eqb (l .kind) recordKind) depth) c × Shallow false depth s
+
+-- f is a well-formed type, and b its bytes
+pub record IsType (e : Equivalence) (b : List ℕ) (f : CountingType) : Type 0 where
+  pub bytes : b ≡ encode f
+  pub room : typeSize * size f ≤ maxLength
+  pub tagged : Tagged e false f
+  pub shallow : Shallow false 1 f
+  pub sorted : Sorted Counting f
+  pub counts : counted f ≡ true
+  pub limit : largestTotal Counting f ≤ maxTotal
+  pub totals : FieldTotals f
+  pub fields : fieldCounts e f ≡ true
+
+-- wellFormed holds exactly of the bytes of well-formed types, and each is the bytes of one type alone
+abbrev pub WellFormedIsType : Type 0
+WellFormedIsType = (e : Equivalence) (b : List ℕ) → Bytes b → badTypeLength (length b) ≡ false →
+    (wellFormed e b ≡ true) ↔ IsType e b (typeOf e b)
+
+abbrev pub TypeUnique : Type 0
+TypeUnique = (e : Equivalence) (b : List ℕ) (f : CountingType) → IsType e b f → f ≡ typeOf e b

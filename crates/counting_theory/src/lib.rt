@@ -1,0 +1,1 @@
+// The theory of counting types: statements (specs/) and their laws (proofs/), and no function.

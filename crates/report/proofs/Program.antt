@@ -1,0 +1,141 @@
+-- What the call under the house default leaves to the profile program: a well-formed type, or a refusal whose place can be printed.
+use mathlib.Core.Path.{_≡_, refl, sym, ap, _∙_}
+use mathlib.Core.Bool.{Bool, true, false, cond, not, _||_}
+use mathlib.Core.List.{List}
+use Prim.Native.Nat.{ℕ, zero, suc, _*_, _-_, _≤_}
+use native.Mathlib.Omega.{arith}
+use lib.Dec.{eqb, ltb}
+use lib.ListN.{length, take, replicate, length-append, length-take}
+use lib.Seq.{take-at}
+use borrow.Author.Tests.{ltb-false}
+use Rattle.value_table.specs.Number.{Bytes}
+use Rattle.value_table.specs.Value.{maxLength}
+use Rattle.value_table.specs.declared.Answer.{Answer}
+use Rattle.value_table.specs.declared.Refusal.the-variants as faults
+use Rattle.value_table.specs.Outcome.{accepted, outcomeOfAnswer}
+use Rattle.value_table.specs.Judged.{badLength, judged, messages}
+use Rattle.value_table.specs.Acceptance as table
+use Rattle.value_table.proofs.Fault.{length-fits}
+use Rattle.value_table.proofs.Acceptance.{accepts, placed}
+use Rattle.counting_theory.specs.Trie.{size}
+use Rattle.counting_theory.specs.Label.{CountingType}
+use Rattle.counting_theory.specs.Raw.{profileOf}
+use Rattle.counting_theory.specs.Encoding.{typeSize, encode, typeOf}
+use Rattle.counting_theory.specs.WellFormed.{badTypeLength, IsType}
+use Rattle.counting_theory.specs.Answers.{numberOf, equivalenceOf, houseDefault, Written, turnedDown, arenaWith, stored, inferredUnder, inferred, inferredDefault}
+use Rattle.counting_type.specs.declared.Answered.{Answered}
+use Rattle.counting_type.specs.declared.Answered.the-variants.{Accepted, Refused}
+use Rattle.counting_type.specs.declared.Refusal.the-variants.{Length, Equivalence, Table, First, Second, Total, Room}
+use Rattle.counting_type.specs.Outcomes.{outcomeOf}
+use Rattle.counting_type.proofs.Exact.{exact-inferred}
+use Rattle.counting_theory.proofs.WellFormed.Closed.{profile-type}
+use Rattle.counting_theory.proofs.WellFormed.Whole.{type-unique}
+use Rattle.counting_theory.proofs.Ways.Weights.{largest-values}
+use Rattle.report.specs.Line.{refusalLine}
+use Rattle.report.specs.Report.{report, textOf, printed}
+
+-- accepted, w has a well-formed type; and its place is at most the number of bytes of a table
+record Printed (w : Written) : Type 0 where
+  formed : w .outcome .number ≡ 0 → IsType houseDefault (w .bytes) (typeOf houseDefault (w .bytes))
+  near : w .outcome .place ≤ maxLength
+
+printed-refusal : (number place : ℕ) → place ≤ maxLength → Printed (turnedDown (suc number) place)
+printed-refusal number place h = record { formed = λ e. absurd (omega arith); near = h }
+
+module _ (b : List ℕ) (bytes : Bytes b) where
+  abbrev f : CountingType
+  f = profileOf houseDefault (messages b)
+
+  abbrev accepted-type : Written
+  accepted-type = stored maxLength f
+
+  accepted-table : judged b .number ≡ 0 → table.Table b (messages b) (judged b .count)
+  accepted-table z = accepts b (judged b .count) bytes .0 (λ i. record { number = z i; place = placed b .0 z i; count = judged b .count })
+
+  type-of-table : judged b .number ≡ 0 → typeSize * size f ≤ maxLength → IsType houseDefault (encode f) (typeOf houseDefault (encode f))
+  type-of-table z room =
+      let t = accepted-table z in
+      let g = profile-type houseDefault (messages b) (t .valid) room (omega (arith, largest-values houseDefault (messages b), t .room)) in
+      rw (← type-unique houseDefault (encode f) f g) g
+
+  printed-stored : judged b .number ≡ 0 → Printed accepted-type
+  printed-stored z = go (ltb maxLength (typeSize * size f)) refl
+    where
+      go : (t : Bool) → ltb maxLength (typeSize * size f) ≡ t → Printed (cond t (turnedDown 11 0) (record { outcome = accepted (size f); bytes = encode f }))
+      go true e = printed-refusal 10 0 (omega arith)
+      go false e = record { formed = λ h. type-of-table z (omega (arith, ltb-false maxLength (typeSize * size f) e)); near = omega arith }
+
+  printed-from : badLength (length b) ≡ false → (k : ℕ) → judged b .number ≡ k →
+      Printed (elim k [ zero ↦ accepted-type | suc j ↦ turnedDown (suc j) (judged b .place) ])
+  printed-from l zero e = printed-stored e
+  printed-from l (suc j) e = printed-refusal j (judged b .place) (omega (arith, placed b .1, length-fits (length b) .0 l .1))
+
+  printed-default : Printed (inferredDefault b maxLength maxLength)
+  unfolding inferred badTypeLength
+  printed-default = go (badLength (length b)) refl
+    where
+      go : (t : Bool) → badLength (length b) ≡ t → Printed (cond (t || badTypeLength maxLength || not (eqb maxLength maxLength)) (turnedDown 1 0) (inferredUnder (equivalenceOf (numberOf houseDefault)) b maxLength))
+      go true e = printed-refusal 0 0 (omega arith)
+      go false e = printed-from e (judged b .number) refl
+
+-- the answer of the call as three numbers, and the arena of the largest length that it has left
+pub record Told (b arena : List ℕ) (answer : Answer) : Type 0 where
+  pub outcome : outcomeOfAnswer answer ≡ inferredDefault b maxLength maxLength .outcome
+  pub bytes : take (typeSize * answer .count) arena ≡ inferredDefault b maxLength maxLength .bytes
+  pub room : typeSize * answer .count ≤ length arena
+  pub whole : length arena ≡ maxLength
+
+pub told : (b : List ℕ) (n m : ℕ) (arena : List ℕ) (answer : Answer) → maxLength ≡ n → maxLength ≡ m → length arena ≡ n →
+    outcomeOfAnswer answer ≡ inferredDefault b n m .outcome → arena ≡ arenaWith n (inferredDefault b n m) → Told b arena answer
+told b n m arena answer l k whole outcome left =
+    let w = inferredDefault b maxLength maxLength in
+    let o : outcomeOfAnswer answer ≡ w .outcome = rw (← l, ← k) at outcome in
+    let a : arena ≡ arenaWith maxLength w = rw (← l, ← k) at left in
+    let e : length (w .bytes) ≡ typeSize * answer .count = exact-inferred b (numberOf houseDefault) maxLength maxLength ∙ ap (λ x. typeSize * x .count) (sym o) in
+    record {
+      outcome = o;
+      bytes = ap (take (typeSize * answer .count)) a ∙ take-at (w .bytes) _ (typeSize * answer .count) e;
+      room = omega (arith, e, ap length a, length-append (w .bytes) (replicate (maxLength - length (w .bytes)) 0));
+      whole = omega arith;
+    }
+
+module _ {b arena : List ℕ} {answer : Answer} (t : Told b arena answer) where
+  number-of : (k : ℕ) → answer .number ≡ k → inferredDefault b maxLength maxLength .outcome .number ≡ k
+  number-of k z = ap (λ o. o .number) (sym (t .outcome)) ∙ z
+
+  pub told-type : Bytes b → answer .number ≡ 0 → IsType houseDefault (take (typeSize * answer .count) arena) (typeOf houseDefault (take (typeSize * answer .count) arena))
+  told-type bytes z = rw (t .bytes) (printed-default b bytes .formed (number-of 0 z))
+
+  pub told-place : Bytes b → answer .place ≤ maxLength
+  told-place bytes = omega (arith, printed-default b bytes .near, ap (λ o. o .place) (t .outcome))
+
+  pub told-report : answer .number ≡ 0 → report (typeOf houseDefault (take (typeSize * answer .count) arena)) ≡ printed b
+  unfolding printed
+  told-report z = ap (λ x. report (typeOf houseDefault x)) (t .bytes) ∙ ap (λ k. textOf k (inferredDefault b maxLength maxLength)) (sym (number-of 0 z))
+
+  pub told-length : typeSize * answer .count ≡ length (take (typeSize * answer .count) arena)
+  told-length = omega (arith, t .room, length-take (typeSize * answer .count) arena)
+
+  pub told-refusal : (answer .number ≡ 0 → ⊥) → refusalLine (answer .number) (answer .place) ≡ printed b
+  unfolding printed
+  told-refusal h = go (answer .number) refl
+    where
+      go : (k : ℕ) → answer .number ≡ k → refusalLine (answer .number) (answer .place) ≡ textOf (inferredDefault b maxLength maxLength .outcome .number) (inferredDefault b maxLength maxLength)
+      go zero z = absurd (h z)
+      go (suc k) z = (λ i. refusalLine (z i) (t .outcome i .place)) ∙ ap (λ j. textOf j (inferredDefault b maxLength maxLength)) (sym (number-of (suc k) z))
+
+-- a refusal number has two digits at most
+pub small-number : (answered : Answered) → outcomeOf answered .number ≤ 11
+small-number (Accepted records) = omega arith
+small-number (Refused Length place) = omega arith
+small-number (Refused Equivalence place) = omega arith
+small-number (Refused (Table faults.Length) place) = omega arith
+small-number (Refused (Table faults.Kind) place) = omega arith
+small-number (Refused (Table faults.Span) place) = omega arith
+small-number (Refused (Table faults.Key) place) = omega arith
+small-number (Refused (Table faults.Repeat) place) = omega arith
+small-number (Refused (Table faults.Depth) place) = omega arith
+small-number (Refused First place) = omega arith
+small-number (Refused Second place) = omega arith
+small-number (Refused Total place) = omega arith
+small-number (Refused Room place) = omega arith
