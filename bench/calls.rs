@@ -32,14 +32,16 @@ fn workloads(n: usize) -> Vec<Workload> {
     workloads
 }
 
+fn compare(workloads: &[Workload], turns: usize) {
+    for workload in workloads {
+        comparing::compare(workload, turns);
+    }
+}
+
 fn main() {
-    for workload in workloads(100) {
-        comparing::compare(&workload, 20_000);
-    }
     let largest = workloads(8192);
-    for workload in &largest {
-        comparing::compare(workload, 10);
-    }
+    compare(&workloads(100), 20_000);
+    compare(&largest, 10);
     timing::report(&largest);
     println!();
     growth::report(|kib| writers(128 * kib));

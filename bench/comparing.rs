@@ -87,26 +87,30 @@ fn damaged(inputs: &Inputs, size: usize, sequence: &mut Sequence) -> Inputs {
 }
 
 /// Lengths of an arena around the one that just holds the type that a call has written.
-fn rooms(pair: &Pair, answer: Answer) -> [usize; 4] {
-    if !pair.writes {
-        return [0; 4];
-    }
+fn rooms(answer: Answer) -> [usize; 4] {
     let exact = TYPE_RECORD * answer.count as usize;
     [exact, exact - TYPE_RECORD, exact + TYPE_RECORD, exact + 1]
 }
 
-/// On the workload, with each of those rooms, and on damaged forms of it, as often as asked.
-pub fn compare(workload: &Workload, turns: usize) {
+/// On the workload, and with each of those rooms, which are the answer.
+fn compare_rooms(workload: &Workload) -> [usize; 4] {
     let Workload { pair, name, inputs } = workload;
     let answer = agree(pair, name, inputs, ROOM, ROOM);
     assert_eq!(answer.number, 0, "{} of {name} is not accepted", pair.name);
-    let rooms = rooms(pair, answer);
-    if pair.writes {
-        for room in rooms {
-            agree(pair, name, inputs, room, room);
-            agree(pair, name, inputs, room, ROOM);
-        }
+    if !pair.writes {
+        return [0; 4];
     }
+    for room in rooms(answer) {
+        agree(pair, name, inputs, room, room);
+        agree(pair, name, inputs, room, ROOM);
+    }
+    rooms(answer)
+}
+
+/// The same, and on damaged forms of the workload, as often as asked.
+pub fn compare(workload: &Workload, turns: usize) {
+    let rooms = compare_rooms(workload);
+    let Workload { pair, name, inputs } = workload;
     let mut sequence = Sequence::new();
     for _ in 0..turns {
         let mut inputs = damaged(inputs, pair.size, &mut sequence);

@@ -73,13 +73,17 @@ fn add_value(union: &mut Union, value: &[u8], label: bool) {
 fn write_union(union: &Union, arena: &mut Arena) {
     for (class, addend) in union {
         let at = arena.open();
-        for (key, field) in &addend.fields {
-            let at = arena.open();
-            write_union(&field.union, arena);
-            arena.close(at, FIELD, *key, field.count);
-        }
+        write_fields(&addend.fields, arena);
         write_union(&addend.elements, arena);
         arena.close(at, class.kind, 0, addend.count);
+    }
+}
+
+fn write_fields(fields: &BTreeMap<u16, Field>, arena: &mut Arena) {
+    for (key, field) in fields {
+        let at = arena.open();
+        write_union(&field.union, arena);
+        arena.close(at, FIELD, *key, field.count);
     }
 }
 

@@ -6,7 +6,7 @@ use std::hint::black_box;
 use std::time::{Duration, Instant};
 
 extern "C" {
-    /// Microseconds that the processor has spent on this process: what others do on the machine is not in them.
+    /// Microseconds that the processor has spent on this process: other programs are not in them.
     fn clock() -> i64;
 }
 

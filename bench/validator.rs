@@ -44,6 +44,35 @@ pub fn bad_length(n: usize) -> bool {
     n % SIZE != 0 || n > 65536
 }
 
+/// The refusal number of record i, whose parent ends at `end` and, if it is a record, has its first field at `first_field`.
+fn fault(
+    table: &[u8],
+    i: usize,
+    end: usize,
+    first_field: Option<usize>,
+    depth: usize,
+) -> Option<u64> {
+    let Header {
+        kind,
+        zero,
+        key,
+        span,
+    } = header(table, i);
+    if !(1..=ARRAY).contains(&kind) || zero != 0 {
+        return Some(3);
+    }
+    if span == 0 || i + span > end || (kind < RECORD && span > 1) {
+        return Some(4);
+    }
+    if (key != 0) != first_field.is_some() {
+        return Some(5);
+    }
+    if first_field.is_some_and(|first| key_before(table, key, first, i)) {
+        return Some(6);
+    }
+    (depth > MAX_DEPTH).then_some(7)
+}
+
 /// The number of messages, or a refusal number with its place.
 pub fn validate(table: &[u8]) -> Result<usize, (u64, usize)> {
     if bad_length(table.len()) {
@@ -56,31 +85,14 @@ pub fn validate(table: &[u8]) -> Result<usize, (u64, usize)> {
         while open.last().is_some_and(|o| o.end == i) {
             open.pop();
         }
-        let Header {
-            kind,
-            zero,
-            key,
-            span,
-        } = header(table, i);
         let (end, first_field) = open.last().map_or((n, None), |o| (o.end, o.first_field));
-        if !(1..=ARRAY).contains(&kind) || zero != 0 {
-            return Err((3, i));
-        }
-        if span == 0 || i + span > end || (kind < RECORD && span > 1) {
-            return Err((4, i));
-        }
-        if (key != 0) != first_field.is_some() {
-            return Err((5, i));
-        }
-        if first_field.is_some_and(|first| key_before(table, key, first, i)) {
-            return Err((6, i));
-        }
-        if open.len() == MAX_DEPTH {
-            return Err((7, i));
+        if let Some(number) = fault(table, i, end, first_field, open.len() + 1) {
+            return Err((number, i));
         }
         if open.is_empty() {
             messages += 1;
         }
+        let Header { kind, span, .. } = header(table, i);
         if span > 1 {
             let first_field = (kind == RECORD).then_some(i + 1);
             open.push(Open {
