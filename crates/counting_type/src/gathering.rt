@@ -56,7 +56,8 @@ fn same_message(t: &[u8], j: usize, i: usize) -> bool
     same_records(t, j, i, span)
 }
 
-// The slot of the message in records i to end: a hash of its kinds and keys.
+// The slot of the message in records i to end: a hash of its kinds and keys. Neighbouring keys have neighbouring slots, so that what is
+// added slot by slot comes mostly in order.
 fn slot_of(t: &[u8], i: usize, end: usize) -> usize
     requires { ⌜ (recordSize * end ≤ length (now t)) × (length (now t) ≤ maxLength) ⌝ }
     ensures { λ r. ⌜ r < 4096 ⌝ }
@@ -64,10 +65,11 @@ fn slot_of(t: &[u8], i: usize, end: usize) -> usize
     let mut hash = 0;
     let mut j = i;
     while j < end {
-        hash = (hash * 40503 + number32(t, record::SIZE * j)) % 4294967296;
+        let word = number32(t, record::SIZE * j);
+        hash = (hash * 421 + word / 65536 + word % 65536 * 331) % SLOTS;
         j += 1;
     }
-    hash / 1048576
+    hash
 }
 
 // Adds what waits in a slot to m records of messages' types.
