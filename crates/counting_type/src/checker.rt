@@ -12,7 +12,7 @@ ghost use lib.ListN.{length};
 ghost use lib.Dec.{eqb, leb, ltb};
 ghost use Rattle.value_table.specs.Value.{maxDepth, arrayKind, lastScalar};
 ghost use Rattle.counting_theory.specs.Order.{compareList};
-ghost use Rattle.counting_theory.specs.Label.{compareLabel};
+ghost use Rattle.counting_theory.specs.Label.{Equivalence, compareLabel};
 ghost use Rattle.counting_theory.specs.Encoding.{typeKind, typeSpan, typeCount};
 ghost use Rattle.counting_theory.specs.WellFormed.{maxTotal, badTypeLength, wellFormed, isLt, placedRecord, fieldRecord, typeRecord, fieldCount};
 ghost use Rattle.counting_type.specs.Checker.{InTable, RunOf, under, checkedOf, isSome, hasTotal, addends, fields, fits, keysIn, labelAt, ordered, addendRight, checkRun, FieldsInside, AddendInside};
@@ -194,6 +194,20 @@ fn field_fits(b: &[u8], p: usize, end: usize, last: usize, of_record: usize, lab
     count_agrees(count_at(b, p), of_record, label)
 }
 
+// The union of the field at p where it is one scalar, as most are, and that its count is the field's.
+fn check_scalar(b: &[u8], p: usize, end: usize, left: usize) -> bool
+    requires { ⌜ RunOf (now b) (p + 1) end × (end ≡ p + 2) × (typeKind (now b) (p + 1) ≤ lastScalar) × (left ≤ maxDepth) ⌝ }
+    ensures { λ r. ⌜ ((e : Equivalence) → r ≡ hasTotal (typeCount (now (b .entry)) p) (checkRun e (now (b .entry)) (p + 1) end (addends (maxDepth + 1 - left) (p + 1) 0))) ⌝ }
+{
+    if !addend_record(b, p + 1, end, left) {
+        return false;
+    }
+    if !count_fits(b, p + 1, 0) {
+        return false;
+    }
+    count_at(b, p + 1) == count_at(b, p)
+}
+
 // The total of the union in records i to end, where `left` levels of depth are left.
 pub fn check_union(b: &[u8], i: usize, end: usize, left: usize, label: bool) -> Checked
     requires { ⌜ RunOf (now b) i end × (left ≤ maxDepth) ⌝ }
@@ -267,6 +281,11 @@ fn check_field(b: &[u8], p: usize, end: usize, left: usize, label: bool) -> bool
     requires { ⌜ RunOf (now b) (p + 1) end × (left < maxDepth) ⌝ }
     ensures { λ r. ⌜ r ≡ hasTotal (typeCount (now (b .entry)) p) (checkRun (under label) (now (b .entry)) (p + 1) end (addends (maxDepth + 1 - left) (p + 1) 0)) ⌝ }
 {
+    if end == p + 2 {
+        if kind_at(b, p + 1) <= type_record::LAST_SCALAR {
+            return check_scalar(b, p, end, left);
+        }
+    }
     match check_union(b, p + 1, end, left, label) {
         Checked::Total(total) => total == count_at(b, p),
         Checked::Faulty => false,

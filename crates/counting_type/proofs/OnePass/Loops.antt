@@ -7,15 +7,16 @@ use mathlib.Core.Option.{none, some}
 use Prim.Native.Nat.{ℕ, _+_, _≤_, _<_}
 use native.Mathlib.Omega.{arith}
 use lib.Dec.{leb}
-use borrow.Author.Tests.{leb-true}
+use borrow.Author.Tests.{leb-true, eq-eqb}
+use Rattle.value_table.specs.Value.{recordKind}
 use Rattle.value_table.proofs.Tests.{and-parts}
 use Rattle.counting_theory.specs.Label.{Equivalence}
-use Rattle.counting_theory.specs.Encoding.{typeKey, typeSpan, typeCount}
-use Rattle.counting_theory.specs.WellFormed.{maxTotal}
+use Rattle.counting_theory.specs.Encoding.{typeKind, typeKey, typeSpan, typeCount}
+use Rattle.counting_theory.specs.WellFormed.{maxTotal, typeRecord}
 use Rattle.counting_type.specs.Checker.{addends, fields, fits, ordered, checkRun, isSome, hasTotal, addendRight, RunOf, InTable, AddendInside}
 use Rattle.counting_type.proofs.OnePass.Fits.{fits-record}
 use Rattle.counting_type.proofs.OnePass.Steps.{check-end}
-use Rattle.counting_type.proofs.OnePass.Turns.{countFits, union-step, fields-step, addend-inside, record-span}
+use Rattle.counting_type.proofs.OnePass.Turns.{countFits, union-step, fields-step, addend-inside, record-span, wrong-record, with-nothing}
 
 -- parts of a run stand where the run does
 pub run-from : {b : List ℕ} {i end p : ℕ} → RunOf b i end → p ≤ end → RunOf b p end
@@ -77,6 +78,28 @@ module _ {e : Equivalence} {b : List ℕ} {i end depth p last total : ℕ} (w : 
               limit = count-below;
               before = inr (addend-inside e b p end depth r right);
             }
+
+-- A union of one scalar: its record and its count settle it.
+module _ (e : Equivalence) (b : List ℕ) (q end depth : ℕ) (one : end ≡ q + 1) (scalar : typeKind b q < recordKind) (r : RunOf b q end) where
+  start : Addends e b q end depth q q 0
+  start = addends-start e b q end depth (r .upto)
+
+  pub wrong-scalar : typeRecord b q end false depth ≡ false → none ≡ checkRun e b q end (addends depth q 0)
+  wrong-scalar h = wrong-addend start (omega arith) (sym (wrong-record e b q end depth h))
+
+  module _ (h : typeRecord b q end false depth ≡ true) where
+    right : addendRight e b q end depth ≡ true
+    right = sym (with-nothing e b q end depth h scalar)
+
+    pub wrong-scalar-count : countFits e b q 0 ≡ false → none ≡ checkRun e b q end (addends depth q 0)
+    wrong-scalar-count c = wrong-count start (omega arith) right c
+
+    pub scalar-total : countFits e b q 0 ≡ true → some (typeCount b q) ≡ checkRun e b q end (addends depth q 0)
+    scalar-total c =
+        let o : ordered e b q q ≡ true = rw (eq-eqb q q refl) refl in
+        let n = addends-next start (omega arith) right c r o in
+        let z : 0 + typeCount b q ≡ typeCount b q = omega arith in
+        rw z at (addends-done n (omega (arith, record-span e b q end depth h .0)))
 
 -- The fields of a record at the field at p, behind the key `last`.
 pub record Fields (e : Equivalence) (b : List ℕ) (i end depth ofRecord p last : ℕ) : Type 0 where
