@@ -1,35 +1,12 @@
-//! Times `ct_judge_table` against a plain Rust validator.
+//! Tables for the workloads.
 
-use crate::timing::{heading, Answer, Judges};
-use crate::validator;
+use crate::sequence::{shuffled, Sequence};
 
-const SIZE: usize = 8;
-
-extern "C" {
-    fn ct_judge_table(table: *const u8, length: usize) -> Answer;
-}
-
-#[inline(never)]
-fn proved(table: &[u8]) -> Answer {
-    // The pointer and the length are those of a slice that is lent for the call.
-    unsafe { ct_judge_table(table.as_ptr(), table.len()) }
-}
-
-#[inline(never)]
-fn plain(table: &[u8]) -> Answer {
-    match validator::validate(table) {
-        Ok(messages) => Answer {
-            number: 0,
-            place: 0,
-            count: messages as u64,
-        },
-        Err((number, place)) => Answer {
-            number,
-            place: place as u64,
-            count: 0,
-        },
-    }
-}
+const NULL: u8 = 1;
+const NUMBER: u8 = 3;
+const STRING: u8 = 4;
+const RECORD: u8 = 5;
+const ARRAY: u8 = 6;
 
 fn put(table: &mut Vec<u8>, kind: u8, key: u16, span: u32) {
     table.extend([kind, 0]);
@@ -37,70 +14,88 @@ fn put(table: &mut Vec<u8>, kind: u8, key: u16, span: u32) {
     table.extend(span.to_le_bytes());
 }
 
-fn flat() -> Vec<u8> {
+/// n scalars.
+pub fn flat(n: usize) -> Vec<u8> {
     let mut table = Vec::new();
-    for i in 0..8192 {
+    for i in 0..n {
         put(&mut table, 1 + (i % 4) as u8, 0, 1);
     }
     table
 }
 
-fn nested() -> Vec<u8> {
-    let mut table = Vec::new();
-    for _ in 0..256 {
-        for depth in 0..32 {
-            put(&mut table, 6, 0, 32 - depth);
-        }
+/// n messages of arrays in arrays, to depth 32.
+pub fn nested(n: usize) -> Vec<u8> {
+    let mut message = Vec::new();
+    for depth in 0..32 {
+        put(&mut message, ARRAY, 0, 32 - depth);
     }
-    table
+    message.repeat(n)
 }
 
-fn messages() -> Vec<u8> {
-    let mut table = Vec::new();
-    for _ in 0..630 {
-        put(&mut table, 5, 0, 13);
-        for key in 1..=9 {
-            put(&mut table, 1 + (key % 4) as u8, key, 1);
-        }
-        put(&mut table, 6, 10, 3);
-        put(&mut table, 3, 0, 1);
-        put(&mut table, 3, 0, 1);
+/// A message of ten fields, one of them a small array; `kind` gives the kinds of the others.
+fn message(mut kind: impl FnMut(u16) -> u8) -> Vec<u8> {
+    let mut message = Vec::new();
+    put(&mut message, RECORD, 0, 13);
+    for key in 1..=9 {
+        put(&mut message, kind(key), key, 1);
     }
-    table
+    put(&mut message, ARRAY, 10, 3);
+    put(&mut message, NUMBER, 0, 1);
+    put(&mut message, NUMBER, 0, 1);
+    message
 }
 
-fn wide() -> Vec<u8> {
-    let mut table = Vec::new();
-    put(&mut table, 5, 0, 8192);
-    for key in 1..8192 {
-        put(&mut table, 1, key, 1);
-    }
-    table
+/// n equal messages of ten fields.
+pub fn messages(n: usize) -> Vec<u8> {
+    message(|key| 1 + (key % 4) as u8).repeat(n)
 }
 
-pub fn run() {
-    let judges = Judges {
-        proved: &proved,
-        plain: &plain,
+/// n messages of ten fields that are now a null, now a string.
+pub fn varied(n: usize) -> Vec<u8> {
+    let mut sequence = Sequence::new();
+    let mut kind = |_| [NULL, STRING][sequence.below(2)];
+    (0..n).flat_map(|_| message(&mut kind)).collect()
+}
+
+/// n messages of four arrays with four numbers each.
+pub fn matrices(n: usize) -> Vec<u8> {
+    let mut row = Vec::new();
+    put(&mut row, ARRAY, 0, 5);
+    for _ in 0..4 {
+        put(&mut row, NUMBER, 0, 1);
+    }
+    let mut message = Vec::new();
+    put(&mut message, ARRAY, 0, 21);
+    message.extend(row.repeat(4));
+    message.repeat(n)
+}
+
+/// A message with a number at each key.
+pub fn with_keys(keys: impl IntoIterator<Item = u16>) -> Vec<u8> {
+    let mut fields = Vec::new();
+    let mut span = 1;
+    for key in keys {
+        put(&mut fields, NUMBER, key, 1);
+        span += 1;
+    }
+    let mut message = Vec::new();
+    put(&mut message, RECORD, 0, span);
+    [message, fields].concat()
+}
+
+/// n messages of ten fields with fifty different lists of keys, in a mixed order.
+pub fn fifty_shapes(n: usize) -> Vec<u8> {
+    let shape = |i: usize| {
+        let start = 7 * (i % 50) as u16;
+        let keys = (0..8).map(move |j| 3 + (start + 5 * j) % 100);
+        with_keys((1..=2).chain(keys))
     };
-    let workloads = [
-        ("flat", flat()),
-        ("nested", nested()),
-        ("messages", messages()),
-        ("wide", wide()),
-    ];
-    for (name, table) in &workloads {
-        judges.compare(name, table, SIZE, 50);
-    }
-    judges.compare(
-        "8 nested messages",
-        &nested()[..8 * SIZE * 32],
-        SIZE,
-        20_000,
-    );
-    judges.compare("8 messages", &messages()[..8 * SIZE * 13], SIZE, 20_000);
-    heading("table");
-    for (name, table) in &workloads {
-        judges.report(name, table, SIZE);
-    }
+    shuffled(0..n).into_iter().flat_map(shape).collect()
+}
+
+/// n messages of one field with different keys, three times each, in a mixed order.
+pub fn one_field_shapes(n: u16) -> Vec<u8> {
+    let keys = (1..=n).chain(1..=n).chain(1..=n);
+    let shapes = shuffled(keys).into_iter().map(|key| with_keys([key]));
+    shapes.flatten().collect()
 }

@@ -1,100 +1,100 @@
-//! Compares and times two judges of the same bytes, in rounds that alternate so that noise meets both.
+//! Times a call of the library and the same call in plain Rust, in rounds that alternate so that noise meets both.
 
+use crate::comparing::ROOM;
+use crate::pair::{Buffers, Call, Inputs, Workload};
 use std::hint::black_box;
 use std::time::{Duration, Instant};
 
-const ROUNDS: usize = 21;
-const SAMPLE: Duration = Duration::from_millis(5);
-
-/// Refusal number, place, count.
-#[repr(C)]
-#[derive(Clone, Copy, Debug, PartialEq)]
-pub struct Answer {
-    pub number: u64,
-    pub place: u64,
-    pub count: u64,
+extern "C" {
+    /// Microseconds that the processor has spent on this process: other programs are not in them.
+    fn clock() -> i64;
 }
 
-/// A proved judge, and a plain one of the same rules.
-pub struct Judges<'a> {
-    pub proved: &'a dyn Fn(&[u8]) -> Answer,
-    pub plain: &'a dyn Fn(&[u8]) -> Answer,
+const TIME: Duration = Duration::from_millis(800);
+const SAMPLE: Duration = Duration::from_micros(500);
+const FEWEST_ROUNDS: usize = 9;
+
+/// Nanoseconds per call, and the first by the second. Each is a median over rounds: the machine's speed changes between rounds
+/// more than within one, so the ratio is taken round by round.
+pub struct Times {
+    pub proved: f64,
+    pub plain: f64,
+    pub ratio: f64,
 }
 
-/// Gives out bytes with one byte changed, and two that are cut short, as often as asked, by a fixed sequence of numbers.
-fn damaged(bytes: &[u8], size: usize, turns: usize, mut give: impl FnMut(&[u8])) {
-    let mut state = 1u64;
-    let mut below = |n: usize| {
-        state = state
-            .wrapping_mul(6364136223846793005)
-            .wrapping_add(1442695040888963407);
-        (state >> 33) as usize % n
-    };
-    for turn in 0..turns {
-        let mut copy = bytes.to_vec();
-        // Small numbers are good kinds, keys and spans, which often put the fault at a later record.
-        copy[below(bytes.len())] = below(if turn % 2 == 0 { 8 } else { 256 }) as u8;
-        give(&copy);
-        give(&bytes[..below(bytes.len())]);
-        give(&bytes[..below(bytes.len()) / size * size]);
-    }
+fn nanoseconds() -> f64 {
+    // It takes no argument and touches nothing of ours.
+    1e3 * unsafe { clock() } as f64
 }
 
-impl Judges<'_> {
-    /// Both must give the same answers, or the times say nothing.
-    pub fn compare(&self, name: &str, bytes: &[u8], size: usize, turns: usize) {
-        assert_eq!((self.proved)(bytes), (self.plain)(bytes), "{name}");
-        damaged(bytes, size, turns, |b| {
-            assert_eq!((self.proved)(b), (self.plain)(b), "{name}, damaged")
-        });
-    }
-
-    /// Nanoseconds per run: proved, plain.
-    fn measure(&self, bytes: &[u8]) -> (f64, f64) {
-        let once = time(self.plain, bytes, 1).max(1.0);
-        let turns = (SAMPLE.as_nanos() as f64 / once).max(1.0) as u32;
-        let (mut of_proved, mut of_plain) = (Vec::new(), Vec::new());
-        for round in 0..ROUNDS {
-            if round % 2 == 0 {
-                of_proved.push(time(self.proved, bytes, turns));
-                of_plain.push(time(self.plain, bytes, turns));
-            } else {
-                of_plain.push(time(self.plain, bytes, turns));
-                of_proved.push(time(self.proved, bytes, turns));
-            }
-        }
-        (median(of_proved), median(of_plain))
-    }
-
-    /// A line of the table that `heading` begins, for bytes that must be accepted.
-    pub fn report(&self, name: &str, bytes: &[u8], size: usize) {
-        assert_eq!((self.plain)(bytes).number, 0, "{name} is not accepted");
-        let records = (bytes.len() / size) as f64;
-        let (of_proved, of_plain) = self.measure(bytes);
-        println!(
-            "{name:<16}{records:>7}{:>15.2}{:>17.2}{:>10.2}{:>11.3}{:>11.3}",
-            of_proved / records,
-            of_plain / records,
-            of_proved / of_plain,
-            of_proved / 1e6,
-            of_plain / 1e6
-        );
-    }
-}
-
-pub fn heading(what: &str) {
-    println!("{what:<16}records   ct ns/record   Rust ns/record   ct/Rust      ct ms    Rust ms");
-}
-
-fn time(judge: &dyn Fn(&[u8]) -> Answer, bytes: &[u8], turns: u32) -> f64 {
-    let start = Instant::now();
+fn time(call: Call, inputs: &Inputs, buffers: &mut Buffers, turns: u32) -> f64 {
+    let start = nanoseconds();
     for _ in 0..turns {
-        black_box(judge(black_box(bytes)));
+        black_box(call(black_box(inputs), black_box(buffers)));
     }
-    start.elapsed().as_nanos() as f64 / f64::from(turns)
+    (nanoseconds() - start) / f64::from(turns)
 }
 
-fn median(mut samples: Vec<f64>) -> f64 {
+fn median(samples: impl Iterator<Item = f64>) -> f64 {
+    let mut samples: Vec<f64> = samples.collect();
     samples.sort_by(f64::total_cmp);
     samples[samples.len() / 2]
+}
+
+/// How often a call is made in a sample, by the shortest of three runs of it; the clock shows no less than a microsecond.
+fn turns(mut run: impl FnMut() -> f64) -> u32 {
+    let once = run().min(run()).min(run()).max(1e3);
+    (SAMPLE.as_nanos() as f64 / once).max(1.0) as u32
+}
+
+/// Takes rounds for a time.
+pub fn measure(workload: &Workload, time_for: Duration) -> Times {
+    let mut buffers = Buffers {
+        arena: vec![0; ROOM],
+        work: vec![0; ROOM],
+    };
+    let mut run = |call, turns| time(call, &workload.inputs, &mut buffers, turns);
+    let (proved, plain) = (workload.pair.proved, workload.pair.plain);
+    let turns = (turns(|| run(proved, 1)), turns(|| run(plain, 1)));
+    let start = Instant::now();
+    let mut rounds = Vec::new();
+    while rounds.len() < FEWEST_ROUNDS || start.elapsed() < time_for {
+        if rounds.len() % 2 == 0 {
+            let of_proved = run(proved, turns.0);
+            rounds.push((of_proved, run(plain, turns.1)));
+        } else {
+            let of_plain = run(plain, turns.1);
+            rounds.push((run(proved, turns.0), of_plain));
+        }
+    }
+    Times {
+        proved: median(rounds.iter().map(|r| r.0)),
+        plain: median(rounds.iter().map(|r| r.1)),
+        ratio: median(rounds.iter().map(|r| r.0 / r.1)),
+    }
+}
+
+/// One table of all the workloads.
+pub fn report(workloads: &[Workload]) {
+    println!(
+        "{:<20}{:<28}records  ct ns/record  Rust ns/record  ct/Rust     ct ms   Rust ms",
+        "call", "workload"
+    );
+    for workload in workloads {
+        let records = workload.records() as f64;
+        let Times {
+            proved,
+            plain,
+            ratio,
+        } = measure(workload, TIME);
+        println!(
+            "{:<20}{:<28}{records:>7}{:>14.2}{:>16.2}{ratio:>9.2}{:>10.3}{:>10.3}",
+            workload.pair.name,
+            workload.name,
+            proved / records,
+            plain / records,
+            proved / 1e6,
+            plain / 1e6
+        );
+    }
 }

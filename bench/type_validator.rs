@@ -2,12 +2,12 @@
 
 use std::cmp::Ordering;
 
-const RECORD: u8 = 5;
+pub const RECORD: u8 = 5;
 const ARRAY: u8 = 6;
-const FIELD: u8 = 7;
-const SIZE: usize = 16;
+pub const FIELD: u8 = 7;
+pub const SIZE: usize = 16;
 const MAX_DEPTH: usize = 32;
-const MAX_TOTAL: u64 = 1_000_000_000_000_000;
+pub const MAX_TOTAL: u64 = 1_000_000_000_000_000;
 
 #[derive(Clone, Copy, PartialEq)]
 enum Equivalence {
@@ -15,15 +15,15 @@ enum Equivalence {
     Label,
 }
 
-struct Header {
-    kind: u8,
+pub struct Header {
+    pub kind: u8,
     zero: u8,
-    key: u16,
-    span: usize,
-    count: u64,
+    pub key: u16,
+    pub span: usize,
+    pub count: u64,
 }
 
-fn header(run: &[u8]) -> Header {
+pub fn header(run: &[u8]) -> Header {
     let b: &[u8; SIZE] = run[..SIZE].try_into().unwrap();
     Header {
         kind: b[0],
@@ -45,7 +45,7 @@ fn split(run: &[u8]) -> Option<(Header, &[u8], &[u8])> {
 }
 
 /// The keys of fields that have been checked.
-fn keys(mut fields: &[u8]) -> impl Iterator<Item = u16> + '_ {
+pub fn keys(mut fields: &[u8]) -> impl Iterator<Item = u16> + '_ {
     std::iter::from_fn(move || {
         if fields.is_empty() {
             return None;
@@ -118,9 +118,13 @@ fn fields(mut run: &[u8], of_record: u64, depth: usize, equivalence: Equivalence
     Some(())
 }
 
+pub fn bad_length(n: usize) -> bool {
+    n % SIZE != 0 || n > 65536
+}
+
 /// The number of type records, or a refusal number.
 pub fn validate(bytes: &[u8], equivalence: u64) -> Result<usize, u64> {
-    if bytes.len() % SIZE != 0 || bytes.len() > 65536 {
+    if bad_length(bytes.len()) {
         return Err(1);
     }
     let equivalence = match equivalence {

@@ -1,34 +1,6 @@
-//! Times `ct_judge_type` against a plain Rust validator.
-
-use crate::timing::{heading, Answer, Judges};
-use crate::type_validator;
+//! Types for the workloads. All their counts are 1, so that most of them are well formed under both equivalences.
 
 const SIZE: usize = 16;
-const KIND: u64 = 0;
-const LABEL: u64 = 1;
-
-extern "C" {
-    fn ct_judge_type(bytes: *const u8, length: usize, equivalence: u64) -> Answer;
-}
-
-#[inline(never)]
-fn proved(bytes: &[u8], equivalence: u64) -> Answer {
-    // The pointer and the length are those of a slice that is lent for the call.
-    unsafe { ct_judge_type(bytes.as_ptr(), bytes.len(), equivalence) }
-}
-
-#[inline(never)]
-fn plain(bytes: &[u8], equivalence: u64) -> Answer {
-    let (number, count) = match type_validator::validate(bytes, equivalence) {
-        Ok(records) => (0, records as u64),
-        Err(number) => (number, 0),
-    };
-    Answer {
-        number,
-        place: 0,
-        count,
-    }
-}
 
 fn row(kind: u8, key: u16, inner: &[u8]) -> Vec<u8> {
     let mut bytes = vec![kind, 0];
@@ -55,25 +27,31 @@ fn array(union: &[u8]) -> Vec<u8> {
     row(6, 0, union)
 }
 
-/// A null at each key.
+/// A record with a null at each key.
 fn with_keys(keys: impl IntoIterator<Item = u16>) -> Vec<u8> {
     let fields: Vec<_> = keys.into_iter().map(|key| field(key, &null())).collect();
     record(&fields)
 }
 
-/// One record with n fields.
-fn fields(n: u16) -> Vec<u8> {
-    [null(), with_keys(1..=n)].concat()
+/// One record with these fields.
+pub fn fields(keys: impl IntoIterator<Item = u16>) -> Vec<u8> {
+    [null(), with_keys(keys)].concat()
 }
 
-/// n records with a field each.
-fn records(n: u16) -> Vec<u8> {
-    let addends: Vec<_> = (1..=n).map(|key| with_keys([key])).collect();
+/// A record with one field for each key.
+pub fn records(keys: impl IntoIterator<Item = u16>) -> Vec<u8> {
+    let addends: Vec<_> = keys.into_iter().map(|key| with_keys([key])).collect();
     [null(), addends.concat()].concat()
 }
 
-/// n fields, with arrays and records below them in turn, to depth 32.
-fn deep(n: u16) -> Vec<u8> {
+/// For each key a record with nine keys, of which the first eight are 1 to 8 and the ninth is 8 more than that key.
+pub fn lists(keys: impl IntoIterator<Item = u16>) -> Vec<u8> {
+    let list = |key| with_keys((1..=8).chain([8 + key]));
+    keys.into_iter().flat_map(list).collect()
+}
+
+/// A field for each key, with arrays and records below it in turn, to depth 32.
+pub fn deep(keys: impl IntoIterator<Item = u16>) -> Vec<u8> {
     let chain = (2..=32).rev().fold(Vec::new(), |inner, depth| {
         if depth % 2 == 0 {
             array(&inner)
@@ -81,52 +59,6 @@ fn deep(n: u16) -> Vec<u8> {
             record(&[field(1, &inner)])
         }
     });
-    let fields: Vec<_> = (1..=n).map(|key| field(key, &chain)).collect();
+    let fields: Vec<_> = keys.into_iter().map(|key| field(key, &chain)).collect();
     record(&fields)
-}
-
-/// n records whose key lists differ in the ninth key.
-fn lists(n: u16) -> Vec<u8> {
-    let addends: Vec<_> = (1..=n).map(|i| with_keys((1..=8).chain([8 + i]))).collect();
-    addends.concat()
-}
-
-pub fn run() {
-    let under = |equivalence| {
-        (
-            move |b: &[u8]| proved(b, equivalence),
-            move |b: &[u8]| plain(b, equivalence),
-        )
-    };
-    let workloads = [
-        ("fields, kind", KIND, fields(2047)),
-        ("fields, label", LABEL, fields(2047)),
-        ("records, label", LABEL, records(1365)),
-        ("deep, kind", KIND, deep(87)),
-        ("deep, label", LABEL, deep(87)),
-        ("lists, label", LABEL, lists(215)),
-    ];
-    let small = [fields(9), records(9), deep(2), lists(3)];
-    for equivalence in 0..3 {
-        let (proved, plain) = under(equivalence);
-        let judges = Judges {
-            proved: &proved,
-            plain: &plain,
-        };
-        for (name, _, bytes) in &workloads {
-            judges.compare(name, bytes, SIZE, 50);
-        }
-        for bytes in &small {
-            judges.compare("a small type", bytes, SIZE, 20_000);
-        }
-    }
-    heading("type");
-    for (name, equivalence, bytes) in &workloads {
-        let (proved, plain) = under(*equivalence);
-        let judges = Judges {
-            proved: &proved,
-            plain: &plain,
-        };
-        judges.report(name, bytes, SIZE);
-    }
 }

@@ -1,18 +1,18 @@
 //! Call 1 of document 01 in plain Rust: what the proved judge is measured against.
 
-const RECORD: u8 = 5;
+pub const RECORD: u8 = 5;
 const ARRAY: u8 = 6;
-const SIZE: usize = 8;
+pub const SIZE: usize = 8;
 const MAX_DEPTH: usize = 32;
 
-struct Header {
-    kind: u8,
+pub struct Header {
+    pub kind: u8,
     zero: u8,
-    key: u16,
-    span: usize,
+    pub key: u16,
+    pub span: usize,
 }
 
-fn header(table: &[u8], i: usize) -> Header {
+pub fn header(table: &[u8], i: usize) -> Header {
     let b: &[u8; SIZE] = table[SIZE * i..SIZE * (i + 1)].try_into().unwrap();
     Header {
         kind: b[0],
@@ -40,9 +40,42 @@ fn key_before(table: &[u8], key: u16, first: usize, i: usize) -> bool {
     false
 }
 
+pub fn bad_length(n: usize) -> bool {
+    n % SIZE != 0 || n > 65536
+}
+
+/// The refusal number of record i, whose parent ends at `end` and, if it is a record, has its first field at `first_field`.
+fn fault(
+    table: &[u8],
+    i: usize,
+    end: usize,
+    first_field: Option<usize>,
+    depth: usize,
+) -> Option<u64> {
+    let Header {
+        kind,
+        zero,
+        key,
+        span,
+    } = header(table, i);
+    if !(1..=ARRAY).contains(&kind) || zero != 0 {
+        return Some(3);
+    }
+    if span == 0 || i + span > end || (kind < RECORD && span > 1) {
+        return Some(4);
+    }
+    if (key != 0) != first_field.is_some() {
+        return Some(5);
+    }
+    if first_field.is_some_and(|first| key_before(table, key, first, i)) {
+        return Some(6);
+    }
+    (depth > MAX_DEPTH).then_some(7)
+}
+
 /// The number of messages, or a refusal number with its place.
 pub fn validate(table: &[u8]) -> Result<usize, (u64, usize)> {
-    if table.len() % SIZE != 0 || table.len() > 65536 {
+    if bad_length(table.len()) {
         return Err((1, 0));
     }
     let n = table.len() / SIZE;
@@ -52,31 +85,14 @@ pub fn validate(table: &[u8]) -> Result<usize, (u64, usize)> {
         while open.last().is_some_and(|o| o.end == i) {
             open.pop();
         }
-        let Header {
-            kind,
-            zero,
-            key,
-            span,
-        } = header(table, i);
         let (end, first_field) = open.last().map_or((n, None), |o| (o.end, o.first_field));
-        if !(1..=ARRAY).contains(&kind) || zero != 0 {
-            return Err((3, i));
-        }
-        if span == 0 || i + span > end || (kind < RECORD && span > 1) {
-            return Err((4, i));
-        }
-        if (key != 0) != first_field.is_some() {
-            return Err((5, i));
-        }
-        if first_field.is_some_and(|first| key_before(table, key, first, i)) {
-            return Err((6, i));
-        }
-        if open.len() == MAX_DEPTH {
-            return Err((7, i));
+        if let Some(number) = fault(table, i, end, first_field, open.len() + 1) {
+            return Err((number, i));
         }
         if open.is_empty() {
             messages += 1;
         }
+        let Header { kind, span, .. } = header(table, i);
         if span > 1 {
             let first_field = (kind == RECORD).then_some(i + 1);
             open.push(Open {

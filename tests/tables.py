@@ -1,7 +1,4 @@
-"""Document 01's trials of call 1, written without the crates: builds each table, judges it by recursive descent, prints a line.
-
-crates/trials/stdout was made by: (python3 tests/tables.py; python3 tests/types.py) > crates/trials/stdout
-"""
+"""Document 01's trials of call 1, written without the crates: builds each table, judges it by recursive descent, prints a line."""
 import struct
 
 NULL, BOOLEAN, NUMBER, STRING, RECORD, ARRAY = range(1, 7)
@@ -89,6 +86,11 @@ AFTER = messages(value(STRING), null(), value(BOOLEAN))
 FIELDS = record(null(1), value(BOOLEAN, key=2), value(NUMBER, key=3)) + AFTER
 ELEMENTS = array(null(), value(BOOLEAN), value(NUMBER)) + AFTER
 EVERY = value(NULL) + value(BOOLEAN) + value(NUMBER) + value(STRING) + value(RECORD) + value(ARRAY)
+NINE = messages(
+    record(value(NUMBER, key=1), array(value(NUMBER), value(NUMBER), key=2)),
+    record(null(1)),
+    record(array(key=2)),
+)
 EMPTY_ARRAY, EMPTY_RECORD, ONE_NULL = (ARRAY, 0, 1), (RECORD, 0, 1), (NULL, 0, 1)
 
 
@@ -98,14 +100,8 @@ def wide(last_key):
 
 
 def accepted():
-    number = value(NUMBER)
-    nine = messages(
-        record(value(NUMBER, key=1), array(number, number, key=2)),
-        record(null(1)),
-        record(array(key=2)),
-    )
     yield "one-null", null()
-    yield "nine-records", nine
+    yield "nine-records", NINE
     yield "every-kind", EVERY
     yield "keys-in-any-order", record(null(65535), null(1), null(256))
     yield "same-key-inside", record(record(null(1), key=1), null(2))
@@ -201,5 +197,6 @@ def trials():
     yield "wide-repeat", bytes_of(wide(1))
 
 
-for name, table in trials():
-    print(name, *judge(table))
+if __name__ == "__main__":
+    for name, table in trials():
+        print(name, *judge(table))

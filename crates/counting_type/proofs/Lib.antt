@@ -3,6 +3,7 @@ pub mod Chain
 pub mod OnePass
 pub mod TypeMerge
 pub mod InPlace
+pub mod Waiting
 pub mod Equivalence
 pub mod Clear
 pub mod Exact

@@ -2,4 +2,5 @@
 pub mod Checker
 pub mod Merging
 pub mod Inferring
+pub mod Gathering
 pub mod Outcomes

@@ -2,6 +2,7 @@
 mod addend;
 mod checker;
 mod clearing;
+mod gathering;
 mod inferring;
 mod key_list;
 mod merging;
@@ -14,7 +15,7 @@ mod type_store;
 
 use checker::well_formed;
 use clearing::clear_from;
-use inferring::infer_type;
+use gathering::infer_type;
 use merging::merge_types;
 use type_record::bad_length;
 use value_table::Judged;

@@ -22,7 +22,7 @@ ghost use Rattle.report.specs.Line.{lineLimit, refusalLimit, refusalLine
 ghost use Rattle.report.specs.Report.{report, printed};
 
 // Stores the report of a well-formed type at the front of the buffer, and answers its length.
-pub fn put_report(bytes: &[u8], out: &mut [u8]) -> usize
+fn put_report(bytes: &[u8], out: &mut [u8]) -> usize
     requires { ⌜ IsType houseDefault (now bytes) (typeOf houseDefault (now bytes)) × (lineLimit * typeRecords (now bytes) ≤ length (now out)) ⌝ }
     ensures { λ r. ⌜ Front (now (out .entry)) (report (typeOf houseDefault (now (bytes .entry)))) (now (out .exit)) r ⌝ }
 {
@@ -33,7 +33,7 @@ pub fn put_report(bytes: &[u8], out: &mut [u8]) -> usize
 }
 
 // Stores the line of a refusal at the front of the buffer, and answers its length.
-pub fn put_refusal(number: usize, place: usize, out: &mut [u8]) -> usize
+fn put_refusal(number: usize, place: usize, out: &mut [u8]) -> usize
     requires { ⌜ (number ≤ maxTotal) × (place ≤ maxTotal) × (refusalLimit ≤ length (now out)) ⌝ }
     ensures { λ r. ⌜ Front (now (out .entry)) (refusalLine number place) (now (out .exit)) r ⌝ }
 {

@@ -1,5 +1,6 @@
 // Value records and type records in a buffer. Byte 1 of a record is the high byte of its kind; what lies beyond the buffer is
 // passed over.
+use crate::text::read_digit;
 ghost use Prim.Native.Nat.{_≤_, _<_};
 
 pub enum Layout {
@@ -16,13 +17,24 @@ struct Extent {
 // The last of the numbers, which only a type record has.
 const COUNT: usize = 3;
 
-// The records of a run: null messages, null fields with their places for keys, fields with null behind them, or arrays each around
-// the next, which end before a place.
-pub enum Run {
-    Nulls,
-    Fields,
-    Unions,
-    Arrays(usize),
+pub const RECORD: u64 = 5;
+
+const ARRAY: u64 = 6;
+
+// What a run repeats: null; a field with null in it; a record with such a field; or an array around the next, which ends before a
+// place.
+pub enum Item {
+    Null,
+    Field,
+    Record,
+    Array(usize),
+}
+
+// How many items a run has, the key of the first, and the step to the next.
+pub struct Run {
+    pub count: usize,
+    pub key: u64,
+    pub step: u64,
 }
 
 // Where the record at a place begins, in bytes.
@@ -84,34 +96,6 @@ fn next_at(layout: Layout, at: usize, c: u8) -> usize
     }
 }
 
-// Ten times a number and a digit, wrapping at 64 bits.
-fn with_digit(number: u64, digit: u64) -> u64 {
-    let two = std::num::wrapping_add_u64(number, number);
-    let four = std::num::wrapping_add_u64(two, two);
-    let five = std::num::wrapping_add_u64(four, number);
-    let ten = std::num::wrapping_add_u64(five, five);
-    std::num::wrapping_add_u64(ten, digit)
-}
-
-// The number written so far, after one more character.
-fn read_digit(number: u64, c: u8) -> u64 {
-    match c {
-        b'0'..=b'9' => with_digit(number, (c - b'0') as u64),
-        b';' => number,
-        _ => 0,
-    }
-}
-
-// The last number of a text.
-pub fn number_of(text: &[u8]) -> u64 {
-    let mut number = 0;
-    let n = text.len();
-    for k in 0..n {
-        number = read_digit(number, text[k]);
-    }
-    number
-}
-
 // Stores records from place i on, written as in document 01: "5 0 2; 1 1 1". Returns the place behind the last one.
 pub fn put_text(bytes: &mut [u8], layout: Layout, i: usize, text: &[u8]) -> usize {
     let mut at = i % 16384 * 4;
@@ -121,6 +105,9 @@ pub fn put_text(bytes: &mut [u8], layout: Layout, i: usize, text: &[u8]) -> usiz
         at = next_at(layout, at, text[k]);
         number = read_digit(number, text[k]);
         put_number(bytes, layout, at, number);
+    }
+    if n == 0 {
+        return i;
     }
     at / 4 + 1
 }
@@ -137,31 +124,59 @@ fn put(bytes: &mut [u8], layout: Layout, i: usize, kind: u64, key: u64, span: u6
     }
 }
 
-fn put_in_run(bytes: &mut [u8], layout: Layout, run: Run, i: usize) {
-    match run {
-        Run::Nulls => put(bytes, layout, i, 1, 0, 1),
-        Run::Fields => put(bytes, layout, i, 1, i as u64, 1),
-        Run::Unions => {
-            if i % 2 == 0 {
-                put(bytes, layout, i, 7, (i / 2) as u64, 2);
-            } else {
-                put(bytes, layout, i, 1, 0, 1);
-            }
+// The items return the place behind them.
+fn put_null(bytes: &mut [u8], layout: Layout, i: usize, key: u64) -> usize {
+    put(bytes, layout, i, 1, key, 1);
+    std::num::wrapping_add_usize(i, 1)
+}
+
+fn put_field(bytes: &mut [u8], layout: Layout, i: usize, key: u64) -> usize {
+    match layout {
+        Layout::Value => put_null(bytes, layout, i, key),
+        Layout::Type => {
+            put(bytes, layout, i, 7, key, 2);
+            put_null(bytes, layout, std::num::wrapping_add_usize(i, 1), 0)
         }
-        Run::Arrays(end) => put(
-            bytes,
-            layout,
-            i,
-            6,
-            0,
-            std::num::wrapping_sub_usize(end, i) as u64,
-        ),
     }
 }
 
-// Stores the records at places `first` to `end` of a run.
-pub fn put_run(bytes: &mut [u8], layout: Layout, run: Run, first: usize, end: usize) {
-    for i in first..end {
-        put_in_run(bytes, layout, run, i);
+// A record or an array with what ends before a place inside it.
+pub fn put_around(bytes: &mut [u8], layout: Layout, i: usize, kind: u64, end: usize) {
+    put(
+        bytes,
+        layout,
+        i,
+        kind,
+        0,
+        std::num::wrapping_sub_usize(end, i) as u64,
+    );
+}
+
+fn put_item(bytes: &mut [u8], layout: Layout, item: Item, i: usize, key: u64) -> usize {
+    let inner = std::num::wrapping_add_usize(i, 1);
+    match item {
+        Item::Null => put_null(bytes, layout, i, 0),
+        Item::Field => put_field(bytes, layout, i, key),
+        Item::Record => {
+            let end = put_field(bytes, layout, inner, key);
+            put_around(bytes, layout, i, RECORD, end);
+            end
+        }
+        Item::Array(end) => {
+            put_around(bytes, layout, i, ARRAY, end);
+            inner
+        }
     }
+}
+
+// Stores a run from place i on.
+pub fn put_run(bytes: &mut [u8], layout: Layout, item: Item, i: usize, run: Run) -> usize {
+    let mut at = i;
+    let mut key = run.key;
+    let count = run.count;
+    for _ in 0..count {
+        at = put_item(bytes, layout, item, at, key);
+        key = std::num::wrapping_add_u64(key, run.step);
+    }
+    at
 }

@@ -1,100 +1,162 @@
-// A trial builds records, has a call judge them, and prints the answer as a line: name, refusal number, place, count.
+// A trial builds tables or types, has a call work on them, and prints the answer as a line: name, refusal number, place, count. A call
+// that writes a type adds how many bytes behind it and in its working buffer are not zero, and the type.
+use crate::notation::build;
+use crate::output::behind_type;
+use crate::output::nonzero;
+use crate::output::print;
+use crate::output::print_answer;
+use crate::output::print_type;
+use crate::output::type_in;
 use crate::records::Layout;
-use crate::records::Run;
-use crate::records::put_run;
-use crate::records::put_text;
 use crate::records::start_of;
+use crate::text::byte_at;
+use crate::text::find;
+use crate::text::number_or;
+use crate::text::part;
+use crate::text::word;
+use counting_type::Answered;
 
-fn print(number: u64) {
-    io::write_all(1, b" ");
-    io::print_decimal(1, number);
-}
+// One type record more than a type may have.
+const ROOM: usize = 65552;
 
-fn print_answer(answer: value_table::Answer) {
-    print(answer.number);
-    print(answer.place);
-    print(answer.count);
-    io::write_all(1, b"\n");
-}
+// The largest arena, which is lent where a line names none.
+const LARGEST: usize = 65536;
 
-fn report_table(name: &[u8], table: &[u8]) {
-    io::write_all(1, name);
+// What the buffers that a call writes hold beforehand.
+const DIRT: u8 = 165;
+
+// Call 1. The line may name the table's length.
+fn try_table(head: &[u8], records: &[u8]) {
+    let mut bytes = [0u8; ROOM];
+    let built = start_of(Layout::Value, build(&mut bytes, Layout::Value, records));
+    let table = part(&bytes, 0, number_or(head, 1, built));
     print_answer(value_table::answer_of(value_table::judge(table)));
 }
 
-fn report_type(name: &[u8], suffix: &[u8], bytes: &[u8], equivalence: u64) {
-    io::write_all(1, name);
-    io::write_all(1, suffix);
-    print_answer(counting_type::answer_of(counting_type::judge_type(bytes, equivalence)));
-}
-
-// Call 4 is tried under both equivalences, or under two that are unknown.
-fn report(call: u8, form: u8, name: &[u8], bytes: &[u8]) {
-    if call == b'1' {
-        report_table(name, bytes);
-    } else if form == b'u' {
-        report_type(name, b"/2", bytes, 2);
-        report_type(name, b"/2^64-1", bytes, 18446744073709551615);
-    } else {
-        report_type(name, b"/kind", bytes, 0);
-        report_type(name, b"/label", bytes, 1);
+fn infer(call: u8, equivalence: u64, table: &[u8], arena: &mut [u8], work: &mut [u8]) -> Answered {
+    if call == b'3' {
+        return counting_type::infer_default(table, arena, work);
     }
+    counting_type::infer(table, equivalence, arena, work)
 }
 
-fn layout_of(call: u8) -> Layout {
-    if call == b'1' {
-        Layout::Value
-    } else {
-        Layout::Type
-    }
+fn infer_into(call: u8, equivalence: u64, table: &[u8], arena: &mut [u8], work: &mut [u8]) {
+    let answer = counting_type::answer_of(infer(call, equivalence, table, arena, work));
+    print_answer(answer);
+    print(nonzero(behind_type(arena, answer.count)));
+    print(nonzero(work));
+    print_type(type_in(arena, answer.count));
 }
 
-// Arrays, and the records at a depth.
-fn nested(bytes: &mut [u8], layout: Layout, depth: usize, records: &[u8]) -> usize {
-    let arrays = std::num::wrapping_sub_usize(depth, 1);
-    let end = put_text(bytes, layout, arrays, records);
-    put_run(bytes, layout, Run::Arrays(end), 0, arrays);
-    end
-}
-
-// As many fields as there is room for, the records in place of the last.
-fn wide(bytes: &mut [u8], layout: Layout, records: &[u8]) -> usize {
-    match layout {
-        Layout::Value => {
-            put_text(bytes, layout, 0, b"5 0 8192");
-            put_run(bytes, layout, Run::Fields, 1, 8191);
-            put_text(bytes, layout, 8191, records)
-        }
-        Layout::Type => {
-            put_text(bytes, layout, 0, b"1 0 1 1; 5 0 4095 1");
-            put_run(bytes, layout, Run::Unions, 2, 4094);
-            put_text(bytes, layout, 4094, records)
+// Calls 2 and 3. The line may name the lengths of the arena, of the working buffer and of the table.
+fn try_inference(call: u8, equivalence: u64, head: &[u8], records: &[u8]) {
+    let mut bytes = [0u8; ROOM];
+    let mut arena = [DIRT; ROOM];
+    let mut work = [DIRT; ROOM];
+    let built = start_of(Layout::Value, build(&mut bytes, Layout::Value, records));
+    let table = part(&bytes, 0, number_or(head, 3, built));
+    let length = number_or(head, 1, LARGEST);
+    let work_length = number_or(head, 2, length);
+    if length <= ROOM {
+        if work_length <= ROOM {
+            infer_into(
+                call,
+                equivalence,
+                table,
+                &mut arena[0..length],
+                &mut work[0..work_length],
+            );
         }
     }
 }
 
-// Builds what is judged. Returns its length: the number in the forms "front", "unknown" and "nulls", else that of the records.
-fn build(bytes: &mut [u8], layout: Layout, form: u8, number: usize, records: &[u8]) -> usize {
-    match form {
-        b'f' | b'u' => {
-            put_text(bytes, layout, 0, records);
-            number
-        }
-        b'n' => {
-            put_run(bytes, layout, Run::Nulls, 0, 8193);
-            number
-        }
-        b'a' => start_of(layout, nested(bytes, layout, number, records)),
-        b'w' => start_of(layout, wide(bytes, layout, records)),
-        _ => start_of(layout, put_text(bytes, layout, 0, records)),
+// Call 4. The line may name the type's length.
+fn try_type(equivalence: u64, head: &[u8], records: &[u8]) {
+    let mut bytes = [0u8; ROOM];
+    let built = start_of(Layout::Type, build(&mut bytes, Layout::Type, records));
+    let judged = part(&bytes, 0, number_or(head, 1, built));
+    print_answer(counting_type::answer_of(counting_type::judge_type(judged, equivalence)));
+}
+
+fn merge_into(equivalence: u64, first: &[u8], second: &[u8], arena: &mut [u8]) {
+    let answered = counting_type::merge(first, second, equivalence, arena);
+    let answer = counting_type::answer_of(answered);
+    print_answer(answer);
+    print(nonzero(behind_type(arena, answer.count)));
+    print_type(type_in(arena, answer.count));
+}
+
+fn merge_under(equivalence: u64, head: &[u8], first: &[u8], second: &[u8]) {
+    let mut arena = [DIRT; ROOM];
+    let length = number_or(head, 1, LARGEST);
+    if length <= ROOM {
+        merge_into(equivalence, first, second, &mut arena[0..length]);
     }
 }
 
-// The buffer has room for one type record more than a type may have.
-pub fn trial(call: u8, form: u8, name: &[u8], number: usize, records: &[u8]) {
-    let mut buffer = [0u8; 65552];
-    let length = build(&mut buffer, layout_of(call), form, number, records);
-    if length <= buffer.len() {
-        report(call, form, name, &buffer[0..length]);
+// Call 5. The line may name the lengths of the arena, of the first and of the second type. The second may be the same as the first.
+fn try_merge(equivalence: u64, head: &[u8], records: &[u8]) {
+    let mut one = [0u8; ROOM];
+    let mut other = [0u8; ROOM];
+    let bar = find(records, 0, b'|');
+    // a space stands on either side of the bar
+    let before = part(records, 0, std::num::wrapping_sub_usize(bar, 1));
+    let after = part(records, std::num::wrapping_add_usize(bar, 2), records.len());
+    let built = start_of(Layout::Type, build(&mut one, Layout::Type, before));
+    let first = part(&one, 0, number_or(head, 2, built));
+    if byte_at(after, 0) == b's' {
+        merge_under(equivalence, head, first, first);
+        return;
+    }
+    let built = start_of(Layout::Type, build(&mut other, Layout::Type, after));
+    merge_under(
+        equivalence,
+        head,
+        first,
+        part(&other, 0, number_or(head, 3, built)),
+    );
+}
+
+fn takes_equivalence(call: u8) -> bool {
+    match call {
+        b'1' | b'3' => false,
+        _ => true,
+    }
+}
+
+fn print_equivalence(equivalence: u64) {
+    match equivalence {
+        0 => io::write_all(1, b"/kind"),
+        1 => io::write_all(1, b"/label"),
+        2 => io::write_all(1, b"/2"),
+        _ => io::write_all(1, b"/2^64-1"),
+    }
+    ;
+}
+
+fn try_under(call: u8, equivalence: u64, head: &[u8], records: &[u8]) {
+    io::write_all(1, word(head, 0));
+    if takes_equivalence(call) {
+        print_equivalence(equivalence);
+    }
+    match call {
+        b'1' => try_table(head, records),
+        b'4' => try_type(equivalence, head, records),
+        b'5' => try_merge(equivalence, head, records),
+        _ => try_inference(call, equivalence, head, records),
+    }
+    io::write_all(1, b"\n");
+}
+
+// A call that takes an equivalence is tried under both, or under two that are unknown.
+pub fn try_call(call: u8, equivalences: u8, head: &[u8], records: &[u8]) {
+    if equivalences == b'u' {
+        try_under(call, 2, head, records);
+        try_under(call, 18446744073709551615, head, records);
+        return;
+    }
+    try_under(call, 0, head, records);
+    if takes_equivalence(call) {
+        try_under(call, 1, head, records);
     }
 }

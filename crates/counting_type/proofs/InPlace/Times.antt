@@ -27,7 +27,7 @@ x ⊞ y = joinOption Counting x y
 exchange : (x y z w : Option ℕ) → (x ⊞ y) ⊞ (z ⊞ w) ≡ (x ⊞ z) ⊞ (y ⊞ w)
 exchange x y z w = simp (⊞-assoc counting-laws) (ap (λ u. x ⊞ u) (⊞-left-comm counting-laws y z w))
 
-lookup-times : (a b : ℕ) (r : CountingType) (p : List Label) → lookup Counting (times (a + b) r) p ≡ lookup Counting (times a r) p ⊞ lookup Counting (times b r) p
+pub lookup-times : (a b : ℕ) (r : CountingType) (p : List Label) → lookup Counting (times (a + b) r) p ≡ lookup Counting (times a r) p ⊞ lookup Counting (times b r) p
 unfolding times lookup joinOption
 lookup-times a b nil p = refl
 lookup-times a b (node l n c s) p =

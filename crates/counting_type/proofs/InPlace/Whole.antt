@@ -13,13 +13,12 @@ use Rattle.counting_type.specs.declared.Answered.the-variants.{Accepted,
 use Rattle.counting_type.specs.declared.Refusal.the-variants.{Room}
 use Rattle.counting_theory.specs.Trie.{nil, size, add}
 use Rattle.counting_theory.specs.Label.{Equivalence, Counting, CountingType}
-use Rattle.counting_theory.specs.Raw.{raw, profileOf}
+use Rattle.counting_theory.specs.Raw.{profileOf}
 use Rattle.counting_theory.specs.Encoding.{typeSize, encode}
 use Rattle.counting_theory.specs.Answers.{stored}
 use Rattle.counting_type.specs.Outcomes.{Front}
-use Rattle.counting_type.specs.Inferring.{TableRun, Holds, Grown, times, Weighed}
+use Rattle.counting_type.specs.Inferring.{TableRun, Holds, Grown}
 use Rattle.counting_theory.proofs.Encoding.Header.{length-encode}
-use Rattle.counting_type.proofs.InPlace.Times.{times-one}
 use Rattle.counting_type.proofs.Fronts.{front-room, front-stored}
 
 pub table-run : {t : List ℕ} {ms : Values} {n : ℕ} → Table t ms n → TableRun false t ms
@@ -38,27 +37,15 @@ pub holds-nothing : (e : Equivalence) (a : List ℕ) → length a ≤ maxLength 
 unfolding encode size
 holds-nothing e a h = record { bytes = refl; count = refl; used = refl; short = h; siblings = record { tagged = tt; sorted = tt; keyed = tt } }
 
--- a table is counted once
-pub weighed-once : (t : List ℕ) → length t ≤ maxLength → Weighed 1 t
-weighed-once t h = record { some = omega arith; small = omega arith; bound = omega arith }
-
 -- the answer of the run, on the whole arena
 module _ (e : Equivalence) (ms : Values) (b : List ℕ) (n : ℕ) (l : length b ≡ n) where
   abbrev g : CountingType
-  g = add Counting (raw e false ms) nil
+  g = profileOf e ms
 
-  abbrev once : CountingType
-  once = add Counting (times 1 (raw e false ms)) nil
+  pub inferred-room : length b < typeSize * (size g + 0) → Front (stored n g) (Refused Room 0) b
+  inferred-room h = front-room g n b (omega (arith, length-encode g))
 
-  pub inferred-room : length b < typeSize * (size once + 0) → Front (stored n (profileOf e ms)) (Refused Room 0) b
-  unfolding profileOf
-  inferred-room h =
-      let i : length b < typeSize * (size g + 0) = rw (times-one (raw e false ms)) at h in
-      front-room g n b (omega (arith, length-encode g))
-
-  pub inferred-stored : (k : ℕ) → Grown once [] k b → Front (stored n (profileOf e ms)) (Accepted k) b
-  unfolding profileOf
-  inferred-stored k w =
-      let h : Grown g [] k b = rw (times-one (raw e false ms)) at w in
+  pub inferred-stored : (k : ℕ) → Grown g [] k b → Front (stored n g) (Accepted k) b
+  inferred-stored k h =
       let z : length b ≡ length (encode g) + length (h .free) = ap length (h .bytes) ∙ length-append (encode g) (h .free) in
       front-stored g n k b (h .count) (omega arith) (ap (take (length (encode g))) (h .bytes) ∙ take-at (encode g) (h .free) (length (encode g)) refl)

@@ -7,19 +7,22 @@ use Rattle.trials.proofs.records.put_run.Statement.{statement}
 use Rattle.trials.proofs.records.put_run.Tie as tie
 
 abbrev Inv-loop : tie.InvT-loop
-Inv-loop bytes₀ layout run first end i₀ bytes i = length bytes ≡ length bytes₀
+Inv-loop bytes₀ layout item i run at₀ key₀ count counter₀ bytes at key counter = length bytes ≡ length bytes₀
 
 abbrev μ-loop : tie.MeasureT-loop
-μ-loop bytes₀ layout run first end i₀ bytes i = end - i
+μ-loop bytes₀ layout item i run at₀ key₀ count counter₀ bytes at key counter = count - counter
 
 loop-holds : tie.Need-loop-holds Inv-loop μ-loop
 loop-holds c = search needs
 
-put-in-run-requires : tie.Need-put-in-run-requires Inv-loop μ-loop
-put-in-run-requires c κs = search needs
+put-item-requires : tie.Need-put-item-requires Inv-loop μ-loop
+put-item-requires c κs = search needs
 
-add-i : tie.Need-add-i Inv-loop μ-loop
-add-i c = search needs
+wrapping-add-u64-requires : tie.Need-wrapping-add-u64-requires Inv-loop μ-loop
+wrapping-add-u64-requires c κs = search needs
+
+add-counter : tie.Need-add-counter Inv-loop μ-loop
+add-counter c = search needs
 
 loop-less : tie.Need-loop-less Inv-loop μ-loop
 loop-less c = search needs
@@ -40,8 +43,9 @@ put-run-spec =
     Inv-loop
     μ-loop
     loop-holds
-    put-in-run-requires
-    add-i
+    put-item-requires
+    wrapping-add-u64-requires
+    add-counter
     loop-less
     loop-again
     same-length

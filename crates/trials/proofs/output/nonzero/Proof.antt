@@ -1,14 +1,14 @@
--- `find` is safe and ends: the loop stays within the text.
+-- `nonzero` is safe and ends: the loop stays within the bytes.
 use Prim.Native.Nat.{_≤_, _-_}
 use borrow.Author.Needs.{needs}
-use Rattle.trials.proofs.lines.find.Statement.{statement}
-use Rattle.trials.proofs.lines.find.Tie as tie
+use Rattle.trials.proofs.output.nonzero.Statement.{statement}
+use Rattle.trials.proofs.output.nonzero.Tie as tie
 
 abbrev Inv-loop : tie.InvT-loop
-Inv-loop text c n k₀ k = k ≤ n
+Inv-loop bytes count₀ n k₀ count k = k ≤ n
 
 abbrev μ-loop : tie.MeasureT-loop
-μ-loop text c n k₀ k = n - k
+μ-loop bytes count₀ n k₀ count k = n - k
 
 loop-holds : tie.Need-loop-holds Inv-loop μ-loop
 loop-holds c = search needs
@@ -16,8 +16,8 @@ loop-holds c = search needs
 shared-slice-read-if1 : tie.Need-shared-slice-read-if1 Inv-loop μ-loop
 shared-slice-read-if1 c = search needs
 
-returns : tie.Need-returns Inv-loop μ-loop
-returns c = search needs
+wrapping-add-u64-requires : tie.Need-wrapping-add-u64-requires Inv-loop μ-loop
+wrapping-add-u64-requires c κs = search needs
 
 add-k : tie.Need-add-k Inv-loop μ-loop
 add-k c = search needs
@@ -28,19 +28,19 @@ loop-less c = search needs
 loop-again : tie.Need-loop-again Inv-loop μ-loop
 loop-again c = search needs
 
-returns-2 : tie.Need-returns-2 Inv-loop μ-loop
-returns-2 c = search needs
+returns : tie.Need-returns Inv-loop μ-loop
+returns c = search needs
 
-pub find-spec : {M : Type 1} → statement M
-find-spec =
+pub nonzero-spec : {M : Type 1} → statement M
+nonzero-spec =
     tie.close
     (tie.spec
     Inv-loop
     μ-loop
     loop-holds
     shared-slice-read-if1
-    returns
+    wrapping-add-u64-requires
     add-k
     loop-less
     loop-again
-    returns-2)
+    returns)

@@ -1,12 +1,11 @@
-"""Document 01's trials of call 4, written without the crates: builds each type, judges it by recursive descent, prints a line.
-
-crates/trials/stdout was made by: (python3 tests/tables.py; python3 tests/types.py) > crates/trials/stdout
-"""
+"""Document 01's trials of call 4, written without the crates: builds each type, judges it by recursive descent, prints a line."""
 import struct
 from typing import NamedTuple
 
 NULL, BOOLEAN, NUMBER, STRING, RECORD, ARRAY, FIELD = range(1, 8)
 KIND, LABEL = 0, 1
+KNOWN = {"kind": KIND, "label": LABEL}
+UNKNOWN = {"2": 2, "2^64-1": 2**64 - 1}
 LIMIT = 10**15
 
 
@@ -33,12 +32,16 @@ def judge(data, equivalence):
         return 1, 0, 0
     if equivalence not in (KIND, LABEL):
         return 2, 0, 0
-    rows = [Row(*numbers) for numbers in struct.iter_unpack("<BBHIQ", data)]
+    rows = rows_in(data)
     try:
         union_total(rows, 1, equivalence)
     except Malformed:
         return 8, 0, 0
     return 0, 0, len(rows)
+
+
+def rows_in(data):
+    return [Row(*numbers) for numbers in struct.iter_unpack("<BBHIQ", data)]
 
 
 def split(rows):
@@ -317,13 +320,16 @@ def depths():
     yield "value-at-33", nested(32, with_keys(1))
 
 
+def wide(last_key):
+    """A record of 4,096 rows."""
+    return record(*(field(key, null()) for key in range(1, 2047)), field(last_key, array(null())))
+
+
 def largest():
-    keys = range(1, 2047)
-    all_fields = null() + with_keys(*keys, 2047)
-    yield "largest", all_fields
-    yield "largest-field-twice", null() + with_keys(*keys, 2046)
-    yield "largest-addend-count-0", changed(all_fields, 4095, count=0)
-    yield "one-record-more", all_fields + array()
+    yield "largest", wide(2047)
+    yield "largest-field-twice", wide(2046)
+    yield "largest-addend-count-0", changed(wide(2047), 4095, count=0)
+    yield "one-record-more", with_keys(*range(1, 2049))
 
 
 def bytes_of(rows):
@@ -374,5 +380,6 @@ def report(types, equivalences):
             print(f"{name}/{suffix}", *judge(data, equivalence))
 
 
-report(types(), {"kind": KIND, "label": LABEL})
-report(few(), {"2": 2, "2^64-1": 2**64 - 1})
+if __name__ == "__main__":
+    report(types(), KNOWN)
+    report(few(), UNKNOWN)

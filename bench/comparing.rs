@@ -1,0 +1,123 @@
+//! Compares two versions of a call: both must leave the same answers and bytes, or their times say nothing.
+
+use crate::pair::{Answer, Buffers, Inputs, Pair, Workload};
+use crate::sequence::Sequence;
+use crate::type_validator::{MAX_TOTAL, SIZE as TYPE_RECORD};
+
+/// The largest allowed arena.
+pub const ROOM: usize = 65_536;
+
+/// Buffers with something in them beforehand.
+fn used_buffers(arena: usize, work: usize) -> Buffers {
+    Buffers {
+        arena: (0..arena).map(|i| i as u8 | 1).collect(),
+        work: (0..work).map(|i| i as u8 | 2).collect(),
+    }
+}
+
+/// The answer of both.
+fn agree(pair: &Pair, name: &str, inputs: &Inputs, arena: usize, work: usize) -> Answer {
+    let mut of_proved = used_buffers(arena, work);
+    let mut of_plain = used_buffers(arena, work);
+    let answer = (pair.proved)(inputs, &mut of_proved);
+    assert_eq!(
+        answer,
+        (pair.plain)(inputs, &mut of_plain),
+        "{} of {name}",
+        pair.name
+    );
+    assert!(
+        of_proved == of_plain,
+        "{} of {name}: buffers differ",
+        pair.name
+    );
+    answer
+}
+
+/// Puts all records into one more array.
+fn wrap(bytes: &mut Vec<u8>, size: usize) {
+    let span = 1 + (bytes.len() / size) as u32;
+    let mut array = vec![6, 0, 0, 0];
+    array.extend(span.to_le_bytes());
+    array.extend(&1u64.to_le_bytes()[..size - 8]);
+    bytes.splice(0..0, array);
+}
+
+/// Gives the first record of a type a count by which totals are near the limit.
+fn raise(bytes: &mut [u8], below: u64) {
+    if let Some(count) = bytes.get_mut(8..16) {
+        count.copy_from_slice(&(MAX_TOTAL - below).to_le_bytes());
+    }
+}
+
+/// Cuts bytes short, changes one of them, or does one of the above. Small bytes are good kinds, keys, spans and counts, which often put
+/// the fault at a later record, or make none.
+fn damage(bytes: &mut Vec<u8>, size: usize, sequence: &mut Sequence) {
+    let n = bytes.len().max(1);
+    let at = sequence.below(n);
+    match sequence.below(12) {
+        0 => bytes.truncate(at),
+        1 => bytes.truncate(at / size * size),
+        2 => wrap(bytes, size),
+        3 | 4 if size == TYPE_RECORD => raise(bytes, sequence.below(6) as u64),
+        turn => {
+            if let Some(byte) = bytes.get_mut(at) {
+                *byte = sequence.below(if turn % 2 == 0 { 8 } else { 256 }) as u8;
+            }
+        }
+    }
+}
+
+/// The first input damaged, the second, or both alike.
+fn damaged(inputs: &Inputs, size: usize, sequence: &mut Sequence) -> Inputs {
+    let mut inputs = inputs.clone();
+    if inputs.second.is_empty() {
+        damage(&mut inputs.first, size, sequence);
+        return inputs;
+    }
+    match sequence.below(3) {
+        0 => damage(&mut inputs.first, size, sequence),
+        1 => damage(&mut inputs.second, size, sequence),
+        _ => {
+            damage(&mut inputs.first, size, sequence);
+            inputs.second = inputs.first.clone();
+        }
+    }
+    inputs
+}
+
+/// Lengths of an arena around the one that just holds the type that a call has written.
+fn rooms(answer: Answer) -> [usize; 4] {
+    let exact = TYPE_RECORD * answer.count as usize;
+    [exact, exact - TYPE_RECORD, exact + TYPE_RECORD, exact + 1]
+}
+
+/// On the workload, and with each of those rooms, which are the answer.
+fn compare_rooms(workload: &Workload) -> [usize; 4] {
+    let Workload { pair, name, inputs } = workload;
+    let answer = agree(pair, name, inputs, ROOM, ROOM);
+    assert_eq!(answer.number, 0, "{} of {name} is not accepted", pair.name);
+    if !pair.writes {
+        return [0; 4];
+    }
+    for room in rooms(answer) {
+        agree(pair, name, inputs, room, room);
+        agree(pair, name, inputs, room, ROOM);
+    }
+    rooms(answer)
+}
+
+/// The same, and on damaged forms of the workload, as often as asked.
+pub fn compare(workload: &Workload, turns: usize) {
+    let rooms = compare_rooms(workload);
+    let Workload { pair, name, inputs } = workload;
+    let mut sequence = Sequence::new();
+    for _ in 0..turns {
+        let mut inputs = damaged(inputs, pair.size, &mut sequence);
+        if sequence.below(4) == 0 {
+            inputs.equivalence = sequence.below(3) as u64;
+        }
+        let room = rooms[sequence.below(3)];
+        agree(pair, name, &inputs, room, room);
+    }
+}

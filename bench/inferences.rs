@@ -1,0 +1,128 @@
+//! Calls 2 and 3, which infer types, beside a plain inference.
+
+use crate::pair::{Answer, Buffers, Inputs, Pair, Workload, KIND, LABEL};
+use crate::plain_inference;
+use crate::sequence::shuffled;
+use crate::tables::{
+    fifty_shapes, matrices, messages, nested, one_field_shapes, varied, with_keys,
+};
+
+extern "C" {
+    fn ct_infer(
+        table: *const u8,
+        table_length: usize,
+        equivalence: u64,
+        arena: *mut u8,
+        arena_length: usize,
+        work: *mut u8,
+        work_length: usize,
+    ) -> Answer;
+    fn ct_infer_default(
+        table: *const u8,
+        table_length: usize,
+        arena: *mut u8,
+        arena_length: usize,
+        work: *mut u8,
+        work_length: usize,
+    ) -> Answer;
+}
+
+fn proved(inputs: &Inputs, buffers: &mut Buffers) -> Answer {
+    let table = &inputs.first;
+    let Buffers { arena, work } = buffers;
+    // The pointers and the lengths are those of slices that are lent for the call.
+    unsafe {
+        ct_infer(
+            table.as_ptr(),
+            table.len(),
+            inputs.equivalence,
+            arena.as_mut_ptr(),
+            arena.len(),
+            work.as_mut_ptr(),
+            work.len(),
+        )
+    }
+}
+
+fn proved_default(inputs: &Inputs, buffers: &mut Buffers) -> Answer {
+    let table = &inputs.first;
+    let Buffers { arena, work } = buffers;
+    // As above.
+    unsafe {
+        ct_infer_default(
+            table.as_ptr(),
+            table.len(),
+            arena.as_mut_ptr(),
+            arena.len(),
+            work.as_mut_ptr(),
+            work.len(),
+        )
+    }
+}
+
+fn plain_under(equivalence: u64, inputs: &Inputs, buffers: &mut Buffers) -> Answer {
+    let Buffers { arena, work } = buffers;
+    match plain_inference::infer(&inputs.first, equivalence, arena, work) {
+        Ok(records) => Answer::accepted(records),
+        Err((number, place)) => Answer::refused(number, place),
+    }
+}
+
+fn plain(inputs: &Inputs, buffers: &mut Buffers) -> Answer {
+    plain_under(inputs.equivalence, inputs, buffers)
+}
+
+fn plain_default(inputs: &Inputs, buffers: &mut Buffers) -> Answer {
+    plain_under(KIND, inputs, buffers)
+}
+
+static INFER: Pair = Pair {
+    name: "2 infer",
+    size: 8,
+    writes: true,
+    proved,
+    plain,
+};
+
+static INFER_DEFAULT: Pair = Pair {
+    name: "3 infer by default",
+    size: 8,
+    writes: true,
+    proved: proved_default,
+    plain: plain_default,
+};
+
+fn workload(pair: &'static Pair, name: &str, equivalence: u64, first: &[u8]) -> Workload {
+    Workload {
+        pair,
+        name: name.to_string(),
+        inputs: Inputs {
+            first: first.to_vec(),
+            second: Vec::new(),
+            equivalence,
+        },
+    }
+}
+
+/// Workloads with tables of n records or a few less, but of one message with thousands of fields a quarter as many: more than 2,047 fields
+/// fit no arena.
+pub fn workloads(n: usize) -> Vec<Workload> {
+    let f = (n / 4 - 1) as u16;
+    let tables = [
+        ("messages", messages(n / 13)),
+        ("varied", varied(n / 13)),
+        ("fifty shapes", fifty_shapes(n / 11)),
+        ("nested", nested(n / 32)),
+        ("matrices", matrices(n / 21)),
+        ("fields ascending", with_keys(1..=f)),
+        ("fields descending", with_keys((1..=f).rev())),
+        ("fields mixed", with_keys(shuffled(1..=f))),
+        ("many shapes", one_field_shapes((n / 6) as u16)),
+    ];
+    let mut workloads = vec![workload(&INFER_DEFAULT, "messages", KIND, &tables[0].1)];
+    for (name, table) in tables {
+        workloads.push(workload(&INFER, &format!("{name}, kind"), KIND, &table));
+        workloads.push(workload(&INFER, &format!("{name}, label"), LABEL, &table));
+    }
+    workloads
+}

@@ -1,0 +1,89 @@
+//! Calls 1 and 4, which judge tables and types, beside plain validators.
+
+use crate::pair::{Answer, Buffers, Inputs, Pair, Workload, KIND, LABEL};
+use crate::tables::{flat, messages, nested, with_keys};
+use crate::types::{deep, fields, lists, records};
+use crate::{type_validator, validator};
+
+extern "C" {
+    fn ct_judge_table(table: *const u8, length: usize) -> Answer;
+    fn ct_judge_type(bytes: *const u8, length: usize, equivalence: u64) -> Answer;
+}
+
+fn proved_table(inputs: &Inputs, _: &mut Buffers) -> Answer {
+    let table = &inputs.first;
+    // The pointer and the length are those of a slice that is lent for the call.
+    unsafe { ct_judge_table(table.as_ptr(), table.len()) }
+}
+
+fn plain_table(inputs: &Inputs, _: &mut Buffers) -> Answer {
+    match validator::validate(&inputs.first) {
+        Ok(messages) => Answer::accepted(messages),
+        Err((number, place)) => Answer::refused(number, place),
+    }
+}
+
+fn proved_type(inputs: &Inputs, _: &mut Buffers) -> Answer {
+    let bytes = &inputs.first;
+    // As above.
+    unsafe { ct_judge_type(bytes.as_ptr(), bytes.len(), inputs.equivalence) }
+}
+
+fn plain_type(inputs: &Inputs, _: &mut Buffers) -> Answer {
+    match type_validator::validate(&inputs.first, inputs.equivalence) {
+        Ok(records) => Answer::accepted(records),
+        Err(number) => Answer::refused(number, 0),
+    }
+}
+
+static TABLES: Pair = Pair {
+    name: "1 judge table",
+    size: 8,
+    writes: false,
+    proved: proved_table,
+    plain: plain_table,
+};
+
+static TYPES: Pair = Pair {
+    name: "4 judge type",
+    size: 16,
+    writes: false,
+    proved: proved_type,
+    plain: plain_type,
+};
+
+fn workload(pair: &'static Pair, name: &str, equivalence: u64, first: Vec<u8>) -> Workload {
+    let second = Vec::new();
+    Workload {
+        pair,
+        name: name.to_string(),
+        inputs: Inputs {
+            first,
+            second,
+            equivalence,
+        },
+    }
+}
+
+/// Workloads with tables of n records or a few less.
+pub fn of_tables(n: usize) -> Vec<Workload> {
+    vec![
+        workload(&TABLES, "flat", KIND, flat(n)),
+        workload(&TABLES, "nested", KIND, nested(n / 32)),
+        workload(&TABLES, "messages", KIND, messages(n / 13)),
+        workload(&TABLES, "wide", KIND, with_keys(1..n as u16)),
+    ]
+}
+
+/// Workloads with types of n records or a few less.
+pub fn of_types(n: u16) -> Vec<Workload> {
+    let f = n / 2 - 1;
+    vec![
+        workload(&TYPES, "fields, kind", KIND, fields(1..=f)),
+        workload(&TYPES, "fields, label", LABEL, fields(1..=f)),
+        workload(&TYPES, "records, label", LABEL, records(1..=n / 3)),
+        workload(&TYPES, "deep, kind", KIND, deep(1..=n / 47)),
+        workload(&TYPES, "deep, label", LABEL, deep(1..=n / 47)),
+        workload(&TYPES, "lists, label", LABEL, lists(1..=n / 19)),
+    ]
+}

@@ -1,0 +1,106 @@
+//! Call 5, which merges types, beside a plain merge. Where the inputs don't have all their records in common they are half as large, so
+//! that the merged type fits the largest arena.
+
+use crate::pair::{Answer, Buffers, Inputs, Pair, Workload, KIND, LABEL};
+use crate::plain_merge;
+use crate::types::{deep, fields, lists, records};
+
+extern "C" {
+    fn ct_merge(
+        first: *const u8,
+        first_length: usize,
+        second: *const u8,
+        second_length: usize,
+        equivalence: u64,
+        arena: *mut u8,
+        arena_length: usize,
+    ) -> Answer;
+}
+
+fn proved(inputs: &Inputs, buffers: &mut Buffers) -> Answer {
+    let Inputs {
+        first,
+        second,
+        equivalence,
+    } = inputs;
+    let arena = &mut buffers.arena;
+    // The pointers and the lengths are those of slices that are lent for the call.
+    unsafe {
+        ct_merge(
+            first.as_ptr(),
+            first.len(),
+            second.as_ptr(),
+            second.len(),
+            *equivalence,
+            arena.as_mut_ptr(),
+            arena.len(),
+        )
+    }
+}
+
+fn plain(inputs: &Inputs, buffers: &mut Buffers) -> Answer {
+    let Inputs {
+        first,
+        second,
+        equivalence,
+    } = inputs;
+    match plain_merge::merge(first, second, *equivalence, &mut buffers.arena) {
+        Ok(records) => Answer::accepted(records),
+        Err(number) => Answer::refused(number, 0),
+    }
+}
+
+static MERGE: Pair = Pair {
+    name: "5 merge",
+    size: 16,
+    writes: true,
+    proved,
+    plain,
+};
+
+/// The keys 1 to n in two halves.
+fn disjoint(make: fn(Vec<u16>) -> Vec<u8>, n: u16) -> [Vec<u8>; 2] {
+    [(1..=n / 2).collect(), (n / 2 + 1..=n).collect()].map(make)
+}
+
+/// The odd and the even ones of the keys 1 to n.
+fn interleaved(make: fn(Vec<u16>) -> Vec<u8>, n: u16) -> [Vec<u8>; 2] {
+    [1, 2].map(|first| make((first..=n).step_by(2).collect()))
+}
+
+/// The keys 1 to n twice.
+fn equal(make: fn(Vec<u16>) -> Vec<u8>, n: u16) -> [Vec<u8>; 2] {
+    [1, 1].map(|first| make((first..=n).collect()))
+}
+
+fn workload(name: &str, equivalence: u64, [first, second]: [Vec<u8>; 2]) -> Workload {
+    Workload {
+        pair: &MERGE,
+        name: name.to_string(),
+        inputs: Inputs {
+            first,
+            second,
+            equivalence,
+        },
+    }
+}
+
+/// Workloads with types of n records or a few less.
+pub fn workloads(n: u16) -> Vec<Workload> {
+    let f = n / 2 - 1;
+    let r = n / 3;
+    let l = n / 19;
+    let d = n / 47;
+    vec![
+        workload("disjoint fields, kind", KIND, disjoint(fields, f)),
+        workload("interleaved fields, kind", KIND, interleaved(fields, f)),
+        workload("equal fields, kind", KIND, equal(fields, f)),
+        workload("equal fields, label", LABEL, equal(fields, f)),
+        workload("disjoint records, label", LABEL, disjoint(records, r)),
+        workload("interleaved records, label", LABEL, interleaved(records, r)),
+        workload("equal records, label", LABEL, equal(records, r)),
+        workload("interleaved lists, label", LABEL, interleaved(lists, l)),
+        workload("equal deep, kind", KIND, equal(deep, d)),
+        workload("equal deep, label", LABEL, equal(deep, d)),
+    ]
+}

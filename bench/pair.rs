@@ -1,0 +1,72 @@
+//! A call of the library beside the same call in plain Rust.
+
+/// Refusal number, place, count.
+#[repr(C)]
+#[derive(Clone, Copy, Debug, PartialEq)]
+pub struct Answer {
+    pub number: u64,
+    pub place: u64,
+    pub count: u64,
+}
+
+impl Answer {
+    pub fn accepted(count: usize) -> Self {
+        Answer {
+            number: 0,
+            place: 0,
+            count: count as u64,
+        }
+    }
+
+    pub fn refused(number: u64, place: usize) -> Self {
+        Answer {
+            number,
+            place: place as u64,
+            count: 0,
+        }
+    }
+}
+
+pub const KIND: u64 = 0;
+pub const LABEL: u64 = 1;
+
+/// What a call reads. Only a merge has a second input, and the judge of tables asks for no equivalence.
+#[derive(Clone)]
+pub struct Inputs {
+    pub first: Vec<u8>,
+    pub second: Vec<u8>,
+    pub equivalence: u64,
+}
+
+/// What a call writes. Only an inference has a working buffer, and the judges have no arena.
+#[derive(PartialEq)]
+pub struct Buffers {
+    pub arena: Vec<u8>,
+    pub work: Vec<u8>,
+}
+
+pub type Call = fn(&Inputs, &mut Buffers) -> Answer;
+
+pub struct Pair {
+    pub name: &'static str,
+    /// The size of a record of the inputs.
+    pub size: usize,
+    /// Whether the call writes a type.
+    pub writes: bool,
+    pub proved: Call,
+    pub plain: Call,
+}
+
+/// A call on inputs that it accepts.
+pub struct Workload {
+    pub pair: &'static Pair,
+    pub name: String,
+    pub inputs: Inputs,
+}
+
+impl Workload {
+    /// The number of records that the call reads.
+    pub fn records(&self) -> usize {
+        (self.inputs.first.len() + self.inputs.second.len()) / self.pair.size
+    }
+}

@@ -1,0 +1,124 @@
+//! Calls 2 and 3 of document 01 in plain Rust, by a tree of ordered maps: what the proved inference is measured against.
+
+use crate::arena::{clear_rest, Arena};
+use crate::pair::LABEL;
+use crate::type_validator::FIELD;
+use crate::validator::{header, RECORD, SIZE};
+use crate::{type_validator, validator};
+use std::collections::BTreeMap;
+
+const LENGTH: u64 = 1;
+const EQUIVALENCE: u64 = 2;
+
+/// The kind of a value and, of a record under label, its keys in ascending order.
+#[derive(PartialEq, Eq, PartialOrd, Ord)]
+struct Class {
+    kind: u8,
+    keys: Vec<u16>,
+}
+
+type Union = BTreeMap<Class, Addend>;
+
+#[derive(Default)]
+struct Addend {
+    count: u64,
+    fields: BTreeMap<u16, Field>,
+    elements: Union,
+}
+
+#[derive(Default)]
+struct Field {
+    count: u64,
+    union: Union,
+}
+
+/// The values of a run, each with its key.
+fn values(mut run: &[u8]) -> impl Iterator<Item = (u16, &[u8])> {
+    std::iter::from_fn(move || {
+        if run.is_empty() {
+            return None;
+        }
+        let first = header(run, 0);
+        let (value, rest) = run.split_at(SIZE * first.span);
+        run = rest;
+        Some((first.key, value))
+    })
+}
+
+fn class_of(kind: u8, content: &[u8], label: bool) -> Class {
+    let mut keys = Vec::new();
+    if kind == RECORD && label {
+        keys.extend(values(content).map(|(key, _)| key));
+        keys.sort_unstable();
+    }
+    Class { kind, keys }
+}
+
+fn add_value(union: &mut Union, value: &[u8], label: bool) {
+    let kind = header(value, 0).kind;
+    let content = &value[SIZE..];
+    let addend = union.entry(class_of(kind, content, label)).or_default();
+    addend.count += 1;
+    for (key, inner) in values(content) {
+        if kind == RECORD {
+            let field = addend.fields.entry(key).or_default();
+            field.count += 1;
+            add_value(&mut field.union, inner, label);
+        } else {
+            add_value(&mut addend.elements, inner, label);
+        }
+    }
+}
+
+fn write_union(union: &Union, arena: &mut Arena) {
+    for (class, addend) in union {
+        let at = arena.open();
+        write_fields(&addend.fields, arena);
+        write_union(&addend.elements, arena);
+        arena.close(at, class.kind, 0, addend.count);
+    }
+}
+
+fn write_fields(fields: &BTreeMap<u16, Field>, arena: &mut Arena) {
+    for (key, field) in fields {
+        let at = arena.open();
+        write_union(&field.union, arena);
+        arena.close(at, FIELD, *key, field.count);
+    }
+}
+
+fn inferred(
+    table: &[u8],
+    equivalence: u64,
+    arena: &mut [u8],
+    work: usize,
+) -> Result<usize, (u64, usize)> {
+    let bad_table = validator::bad_length(table.len());
+    if bad_table || type_validator::bad_length(arena.len()) || work != arena.len() {
+        return Err((LENGTH, 0));
+    }
+    if equivalence > LABEL {
+        return Err((EQUIVALENCE, 0));
+    }
+    validator::validate(table)?;
+    let mut union = Union::new();
+    for (_, message) in values(table) {
+        add_value(&mut union, message, equivalence == LABEL);
+    }
+    let mut arena = Arena::new(arena);
+    write_union(&union, &mut arena);
+    arena.records().map_err(|number| (number, 0))
+}
+
+/// The number of type records, or a refusal number with its place.
+pub fn infer(
+    table: &[u8],
+    equivalence: u64,
+    arena: &mut [u8],
+    work: &mut [u8],
+) -> Result<usize, (u64, usize)> {
+    let answer = inferred(table, equivalence, arena, work.len());
+    clear_rest(arena, &answer);
+    work.fill(0);
+    answer
+}

@@ -1,0 +1,126 @@
+//! Call 5 of document 01 in plain Rust: what the proved merge is measured against.
+
+use crate::arena::{clear_rest, Arena};
+use crate::pair::LABEL;
+use crate::type_validator::{bad_length, header, keys, validate, Header, MAX_TOTAL, RECORD, SIZE};
+use std::cmp::Ordering;
+
+const LENGTH: u64 = 1;
+const SECOND: u64 = 9;
+const TOTAL: u64 = 10;
+
+/// The first addend or field of a run that is not empty: its record, what stands inside it, and what follows it.
+struct Front<'a> {
+    header: Header,
+    whole: &'a [u8],
+    inside: &'a [u8],
+    rest: &'a [u8],
+}
+
+fn front(run: &[u8]) -> Front<'_> {
+    let header = header(run);
+    let (whole, rest) = run.split_at(SIZE * header.span);
+    Front {
+        header,
+        whole,
+        inside: &whole[SIZE..],
+        rest,
+    }
+}
+
+fn total(mut union: &[u8]) -> u64 {
+    let mut sum = 0;
+    while !union.is_empty() {
+        let first = front(union);
+        sum += first.header.count;
+        union = first.rest;
+    }
+    sum
+}
+
+fn order(x: &Front, y: &Front, label: bool) -> Ordering {
+    let key = |f: &Front| (f.header.kind, f.header.key);
+    let order = key(x).cmp(&key(y));
+    if order.is_eq() && label && x.header.kind == RECORD {
+        return keys(x.inside).cmp(keys(y.inside));
+    }
+    order
+}
+
+struct Merge<'a> {
+    arena: Arena<'a>,
+    label: bool,
+    over: bool,
+}
+
+impl Merge<'_> {
+    /// Two unions, or the fields of two records.
+    fn runs(&mut self, mut a: &[u8], mut b: &[u8], fields: bool) {
+        let mut sum = 0;
+        while !a.is_empty() && !b.is_empty() {
+            let (x, y) = (front(a), front(b));
+            match order(&x, &y, self.label) {
+                Ordering::Less => {
+                    sum += x.header.count;
+                    self.arena.append(x.whole);
+                    a = x.rest;
+                }
+                Ordering::Greater => {
+                    sum += y.header.count;
+                    self.arena.append(y.whole);
+                    b = y.rest;
+                }
+                Ordering::Equal => {
+                    sum += x.header.count + y.header.count;
+                    self.addends(&x, &y);
+                    a = x.rest;
+                    b = y.rest;
+                }
+            }
+        }
+        self.arena.append(a);
+        self.arena.append(b);
+        self.over |= !fields && sum + total(a) + total(b) > MAX_TOTAL;
+    }
+
+    /// Two addends, or two fields, with one label.
+    fn addends(&mut self, x: &Front, y: &Front) {
+        let at = self.arena.open();
+        self.runs(x.inside, y.inside, x.header.kind == RECORD);
+        let count = x.header.count + y.header.count;
+        self.arena.close(at, x.header.kind, x.header.key, count);
+    }
+}
+
+fn merged(first: &[u8], second: &[u8], equivalence: u64, arena: &mut [u8]) -> Result<usize, u64> {
+    if [first.len(), second.len(), arena.len()]
+        .into_iter()
+        .any(bad_length)
+    {
+        return Err(LENGTH);
+    }
+    validate(first, equivalence)?;
+    validate(second, equivalence).map_err(|_| SECOND)?;
+    let mut merge = Merge {
+        arena: Arena::new(arena),
+        label: equivalence == LABEL,
+        over: false,
+    };
+    merge.runs(first, second, false);
+    if merge.over {
+        return Err(TOTAL);
+    }
+    merge.arena.records()
+}
+
+/// The number of type records, or a refusal number.
+pub fn merge(
+    first: &[u8],
+    second: &[u8],
+    equivalence: u64,
+    arena: &mut [u8],
+) -> Result<usize, u64> {
+    let answer = merged(first, second, equivalence, arena);
+    clear_rest(arena, &answer);
+    answer
+}

@@ -1,0 +1,125 @@
+//! Counting types for line messages: safe calls of libct.a, which `rt staticlib ct` writes (x86-64 Linux).
+//!
+//! The directory of libct.a is a library search path of the compiler: `rustc -L native=target/staticlib`, or for cargo
+//! `RUSTFLAGS="-L native=$PWD/target/staticlib"`. The archive becomes part of this crate's rlib.
+//!
+//! Layouts, places and the profile are document 01's. No call keeps anything, and each answer depends on its inputs alone.
+//! Lengths are looked at first, then the equivalence, then the bytes.
+
+pub mod raw;
+
+/// When two values have one class.
+#[derive(Clone, Copy, Debug, PartialEq, Eq)]
+pub enum Equivalence {
+    /// When they have one kind.
+    Kind = 0,
+    /// When they have one kind and, if they are records, the same keys.
+    Label = 1,
+}
+
+/// Why a call refuses its input. A `place` is the value record with the fault, counted from 0.
+#[derive(Clone, Copy, Debug, PartialEq, Eq)]
+pub enum Refusal {
+    /// A length is no multiple of its record size (8 in a table, 16 in a type) or is above 65,536, or the working buffer's
+    /// length is not the arena's.
+    Length,
+    /// The equivalence is neither 0 nor 1; only the forms in [`raw`] can be given such a number.
+    Equivalence,
+    /// The kind is not 1 to 6, or byte 1 is not zero.
+    Kind { place: usize },
+    /// The span is 0, passes the end of the parent or of the table, or is over 1 for kinds 1 to 4.
+    Span { place: usize },
+    /// A field has key 0, or another value has a key.
+    Key { place: usize },
+    /// An earlier field of the same record has this key.
+    Repeat { place: usize },
+    /// The value has depth 33.
+    Depth { place: usize },
+    /// The first or only type is not well formed.
+    FirstType,
+    /// The second type is not well formed.
+    SecondType,
+    /// A union of the merged type would total above 1,000,000,000,000,000.
+    Total,
+    /// The resulting type has more records than the arena.
+    Room,
+}
+
+impl Refusal {
+    /// Document 01's number, 1 to 11.
+    pub fn number(self) -> u64 {
+        match self {
+            Refusal::Length => 1,
+            Refusal::Equivalence => 2,
+            Refusal::Kind { .. } => 3,
+            Refusal::Span { .. } => 4,
+            Refusal::Key { .. } => 5,
+            Refusal::Repeat { .. } => 6,
+            Refusal::Depth { .. } => 7,
+            Refusal::FirstType => 8,
+            Refusal::SecondType => 9,
+            Refusal::Total => 10,
+            Refusal::Room => 11,
+        }
+    }
+
+    /// The value record with the fault; 0 where the refusal is not about one.
+    pub fn place(self) -> usize {
+        match self {
+            Refusal::Kind { place }
+            | Refusal::Span { place }
+            | Refusal::Key { place }
+            | Refusal::Repeat { place }
+            | Refusal::Depth { place } => place,
+            _ => 0,
+        }
+    }
+}
+
+/// Call 1. Gives the number of messages of a value table.
+///
+/// A table with a fault is refused for its first record with one, and there for the smallest number. An empty table is
+/// accepted.
+pub fn judge_table(table: &[u8]) -> Result<usize, Refusal> {
+    raw::judge_table(table).result()
+}
+
+/// Call 2. Writes the profile of a table's messages at the front of the arena, and gives its number of records.
+///
+/// Both buffers have one length and may hold any bytes. Accepted, the arena behind the profile and the working buffer are zero;
+/// refused, both buffers are. A table is refused as by [`judge_table`]; a profile that the arena has no room for, by
+/// [`Refusal::Room`].
+pub fn infer(
+    table: &[u8],
+    equivalence: Equivalence,
+    arena: &mut [u8],
+    work: &mut [u8],
+) -> Result<usize, Refusal> {
+    raw::infer(table, equivalence as u64, arena, work).result()
+}
+
+/// Call 3. The same as [`infer`] under the house default, [`Equivalence::Kind`].
+pub fn infer_default(table: &[u8], arena: &mut [u8], work: &mut [u8]) -> Result<usize, Refusal> {
+    raw::infer_default(table, arena, work).result()
+}
+
+/// Call 4. Gives the number of records of a type that is well formed under the equivalence, fields included.
+///
+/// Any other type is refused, and so is a whole arena with zeros behind its type. The empty type is well formed.
+pub fn judge_type(bytes: &[u8], equivalence: Equivalence) -> Result<usize, Refusal> {
+    raw::judge_type(bytes, equivalence as u64).result()
+}
+
+/// Call 5. Writes the merged type of two at the front of the arena, and gives its number of records.
+///
+/// The types are just the records in use, and may be the same bytes. The arena may hold any bytes; accepted, it is zero behind
+/// the merged type, refused, all of it is. The first type is judged before the second, then the totals, then the room, which
+/// is refused only where the merged type itself has more records than the arena.
+pub fn merge(
+    first: &[u8],
+    second: &[u8],
+    equivalence: Equivalence,
+    arena: &mut [u8],
+) -> Result<usize, Refusal> {
+    raw::merge(first, second, equivalence as u64, arena).result()
+}

@@ -1,0 +1,118 @@
+//! The exported functions with slices for pointers and lengths: any equivalence number, and the answer as three numbers.
+
+use crate::Refusal;
+
+/// The refusal number, the place and the count. On acceptance number and place are 0, on a refusal the count is 0.
+#[repr(C)]
+#[derive(Clone, Copy, Debug, PartialEq, Eq)]
+pub struct Answer {
+    pub number: u64,
+    pub place: u64,
+    pub count: u64,
+}
+
+#[link(name = "ct", kind = "static")]
+extern "C" {
+    fn ct_judge_table(table: *const u8, length: usize) -> Answer;
+    fn ct_infer(
+        table: *const u8,
+        table_length: usize,
+        equivalence: u64,
+        arena: *mut u8,
+        arena_length: usize,
+        work: *mut u8,
+        work_length: usize,
+    ) -> Answer;
+    fn ct_infer_default(
+        table: *const u8,
+        table_length: usize,
+        arena: *mut u8,
+        arena_length: usize,
+        work: *mut u8,
+        work_length: usize,
+    ) -> Answer;
+    fn ct_judge_type(bytes: *const u8, length: usize, equivalence: u64) -> Answer;
+    fn ct_merge(
+        first: *const u8,
+        first_length: usize,
+        second: *const u8,
+        second_length: usize,
+        equivalence: u64,
+        arena: *mut u8,
+        arena_length: usize,
+    ) -> Answer;
+}
+
+// The library asks for pointers that are not null, to bytes that nobody else writes during the call, and for an arena and a
+// working buffer that overlap nothing: slices borrowed for the call are that.
+
+pub fn judge_table(table: &[u8]) -> Answer {
+    unsafe { ct_judge_table(table.as_ptr(), table.len()) }
+}
+
+pub fn infer(table: &[u8], equivalence: u64, arena: &mut [u8], work: &mut [u8]) -> Answer {
+    unsafe {
+        ct_infer(
+            table.as_ptr(),
+            table.len(),
+            equivalence,
+            arena.as_mut_ptr(),
+            arena.len(),
+            work.as_mut_ptr(),
+            work.len(),
+        )
+    }
+}
+
+pub fn infer_default(table: &[u8], arena: &mut [u8], work: &mut [u8]) -> Answer {
+    unsafe {
+        ct_infer_default(
+            table.as_ptr(),
+            table.len(),
+            arena.as_mut_ptr(),
+            arena.len(),
+            work.as_mut_ptr(),
+            work.len(),
+        )
+    }
+}
+
+pub fn judge_type(bytes: &[u8], equivalence: u64) -> Answer {
+    unsafe { ct_judge_type(bytes.as_ptr(), bytes.len(), equivalence) }
+}
+
+pub fn merge(first: &[u8], second: &[u8], equivalence: u64, arena: &mut [u8]) -> Answer {
+    unsafe {
+        ct_merge(
+            first.as_ptr(),
+            first.len(),
+            second.as_ptr(),
+            second.len(),
+            equivalence,
+            arena.as_mut_ptr(),
+            arena.len(),
+        )
+    }
+}
+
+impl Answer {
+    /// The count, or the refusal.
+    pub fn result(self) -> Result<usize, Refusal> {
+        let place = self.place as usize;
+        Err(match self.number {
+            0 => return Ok(self.count as usize),
+            1 => Refusal::Length,
+            2 => Refusal::Equivalence,
+            3 => Refusal::Kind { place },
+            4 => Refusal::Span { place },
+            5 => Refusal::Key { place },
+            6 => Refusal::Repeat { place },
+            7 => Refusal::Depth { place },
+            8 => Refusal::FirstType,
+            9 => Refusal::SecondType,
+            10 => Refusal::Total,
+            11 => Refusal::Room,
+            number => unreachable!("no call answers {number}"),
+        })
+    }
+}

@@ -1,0 +1,76 @@
+-- `add_waiting` meets its contract.
+use mathlib.Core.Path.{refl, ap}
+use mathlib.Core.List.{[]}
+use Prim.Native.Nat.{_+_, _*_}
+use native.Mathlib.Omega.{arith}
+use Rattle.counting_type.specs.Gathering.{slotStart, messageAt}
+use Rattle.counting_type.proofs.Waiting.Added.{waited-nothing, waits, part-is, weighed, slot-times}
+use borrow.Author.Needs.{needs}
+use Rattle.counting_type.proofs.gathering.add_waiting.Statement.{statement}
+use Rattle.counting_type.proofs.gathering.add_waiting.Tie as tie
+
+returns : tie.Need-returns
+returns c f free h = waited-nothing _ _ (c .if1 .taken) h
+
+mul-from : tie.Need-mul-from
+mul-from c = search needs
+
+span-at-requires : tie.Need-span-at-requires
+span-at-requires c κs =
+    let s = c .before .before .before .before .pre in
+    let m = waits (s .1) (s .2) (c .if1 .left) in
+    omega (arith, m .some, m .within)
+
+add-stop : tie.Need-add-stop
+add-stop c = search needs
+
+mul-stop : tie.Need-mul-stop
+mul-stop c = search needs
+
+sub-add-run : tie.Need-sub-add-run
+sub-add-run c = search needs
+
+part-add-run-start : tie.Need-part-add-run-start
+part-add-run-start c = search needs
+
+part-add-run-end : tie.Need-part-add-run-end
+part-add-run-end c =
+    let s = c .before .before .before .before .before .before .pre in
+    omega (arith, waits (s .1) (s .2) (c .before .before .if1 .left) .within, c .before .span-at .ensures .0)
+
+add-run-requires : tie.Need-add-run-requires
+add-run-requires c κs =
+    let s = c .before .before .before .before .before .before .before .before .pre in
+    let full = c .before .before .before .before .if1 .left in
+    let part = part-is (s .1) (s .2) full _ _ refl (ap (λ n. 8 * (slotStart (c .before .before .before .before .before .before .before .before .args .slot) + n)) (c .before .before .before .span-at .ensures .0)) in
+    (s .0, record { values = messageAt (c .before .before .before .before .before .before .before .before .args .t .now) (slotStart (c .before .before .before .before .before .before .before .before .args .slot)); run = rw part (waits (s .1) (s .2) full .run) }, s .3, rw part (weighed (s .1) (s .2) full))
+
+same-length : tie.Need-same-length
+same-length c = search needs
+
+same-length-2 : tie.Need-same-length-2
+same-length-2 c = search needs
+
+returns-2 : tie.Need-returns-2
+returns-2 c f free h =
+    let s = c .before .before .before .before .before .before .before .before .before .before .before .before .before .pre in
+    let full = c .before .before .before .before .before .before .before .before .before .if1 .left in
+    let part = part-is (s .1) (s .2) full _ _ refl (ap (λ n. 8 * (slotStart (c .before .before .before .before .before .before .before .before .before .before .before .before .before .args .slot) + n)) (c .before .before .before .before .before .before .before .before .span-at .ensures .0)) in
+    rw (← slot-times _ _ _ full) (c .before .before .before .before .add-run .ensures f [] free _ h (rw part (waits (s .1) (s .2) full .run)))
+
+pub add-waiting-spec : {M : Type 1} → statement M
+add-waiting-spec =
+    tie.close
+    (tie.spec
+    returns
+    mul-from
+    span-at-requires
+    add-stop
+    mul-stop
+    sub-add-run
+    part-add-run-start
+    part-add-run-end
+    add-run-requires
+    same-length
+    same-length-2
+    returns-2)

@@ -1,0 +1,55 @@
+-- `slot_of` meets its contract.
+use borrow.Author.Needs.{needs}
+use Prim.Native.Nat.{_-_, _<_}
+use native.Mathlib.Omega.{arith}
+use Rattle.counting_type.proofs.gathering.slot_of.Statement.{statement}
+use Rattle.counting_type.proofs.gathering.slot_of.Tie as tie
+
+abbrev Inv-loop : tie.InvT-loop
+Inv-loop t i end hash₀ j₀ hash j = hash < 4294967296
+
+abbrev μ-loop : tie.MeasureT-loop
+μ-loop t i end hash₀ j₀ hash j = end - j
+
+loop-holds : tie.Need-loop-holds Inv-loop μ-loop
+loop-holds c = search needs
+
+mul-hash : tie.Need-mul-hash Inv-loop μ-loop
+mul-hash c = search needs
+
+mul-number32 : tie.Need-mul-number32 Inv-loop μ-loop
+mul-number32 c = search needs
+
+number32-requires : tie.Need-number32-requires Inv-loop μ-loop
+number32-requires c κs = search needs
+
+add-hash : tie.Need-add-hash Inv-loop μ-loop
+add-hash c = search needs
+
+add-j : tie.Need-add-j Inv-loop μ-loop
+add-j c = search needs
+
+loop-less : tie.Need-loop-less Inv-loop μ-loop
+loop-less c = search needs
+
+loop-again : tie.Need-loop-again Inv-loop μ-loop
+loop-again c = search needs
+
+returns : tie.Need-returns Inv-loop μ-loop
+returns c = search needs
+
+pub slot-of-spec : {M : Type 1} → statement M
+slot-of-spec =
+    tie.close
+    (tie.spec
+    Inv-loop
+    μ-loop
+    loop-holds
+    mul-hash
+    mul-number32
+    number32-requires
+    add-hash
+    add-j
+    loop-less
+    loop-again
+    returns)

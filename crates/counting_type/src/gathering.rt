@@ -1,0 +1,188 @@
+// Inference of a whole table. Equal messages are gathered first and then added at once, since a log repeats few shapes.
+use crate::Answered;
+use crate::Refusal;
+use crate::inferring::Inferred;
+use crate::inferring::add_run;
+use value_table::little_endian::number32;
+use value_table::little_endian::number64;
+use value_table::record;
+use value_table::record::span_at;
+ghost use mathlib.Core.Path.{_≡_};
+ghost use mathlib.Core.Bool.{true, false};
+ghost use mathlib.Core.List.{List, []};
+ghost use Prim.Native.Nat.{ℕ, _+_, _*_, _≤_, _<_};
+ghost use lib.ListN.{length, take, drop, replicate};
+ghost use Rattle.value_table.specs.Value.{maxLength, recordSize, records, spanAt};
+ghost use Rattle.value_table.specs.Judged.{messages};
+ghost use Rattle.counting_theory.specs.Trie.{add};
+ghost use Rattle.counting_theory.specs.Label.{Counting, CountingType};
+ghost use Rattle.counting_theory.specs.Raw.{profileOf};
+ghost use Rattle.counting_theory.specs.Answers.{stored};
+ghost use Rattle.counting_type.specs.Checker.{under};
+ghost use Rattle.counting_type.specs.Outcomes.{Front};
+ghost use Rattle.counting_type.specs.Inferring.{AcceptedTable, Holds, HeldRun, Added};
+ghost use Rattle.counting_type.specs.Gathering.{slotRaw, SameMessage, Slot, Gathering, GatheredTo};
+
+// The slots in which messages wait.
+const SLOTS: usize = 4096;
+
+// What one message adds to the number in its slot; below it stands the record at which the first of them begins.
+const ONE: usize = 8192;
+
+// Whether n records from j on are like those from i on.
+fn same_records(t: &[u8], j: usize, i: usize, n: usize) -> bool
+    requires { ⌜ (recordSize * (j + n) ≤ length (now t)) × (recordSize * (i + n) ≤ length (now t)) × (length (now t) ≤ maxLength) ⌝ }
+    ensures { λ r. ⌜ (r ≡ true → take (recordSize * n) (drop (recordSize * j) (now (t .entry))) ≡ take (recordSize * n) (drop (recordSize * i) (now (t .entry)))) ⌝ }
+{
+    let mut k = 0;
+    while k < n {
+        if number64(t, record::SIZE * (j + k)) != number64(t, record::SIZE * (i + k)) {
+            return false;
+        }
+        k += 1;
+    }
+    true
+}
+
+// Whether the messages at records j and i have the same bytes.
+fn same_message(t: &[u8], j: usize, i: usize) -> bool
+    requires { ⌜ (j ≤ i) × (1 ≤ spanAt (now t) i) × (recordSize * (i + spanAt (now t) i) ≤ length (now t)) × (length (now t) ≤ maxLength) ⌝ }
+    ensures { λ r. ⌜ (r ≡ true → SameMessage (now (t .entry)) j i) ⌝ }
+{
+    let span = span_at(t, i);
+    if span_at(t, j) != span {
+        return false;
+    }
+    same_records(t, j, i, span)
+}
+
+// The slot of the message in records i to end: a hash of its kinds and keys.
+fn slot_of(t: &[u8], i: usize, end: usize) -> usize
+    requires { ⌜ (recordSize * end ≤ length (now t)) × (length (now t) ≤ maxLength) ⌝ }
+    ensures { λ r. ⌜ r < 4096 ⌝ }
+{
+    let mut hash = 0;
+    let mut j = i;
+    while j < end {
+        hash = (hash * 40503 + number32(t, record::SIZE * j)) % 4294967296;
+        j += 1;
+    }
+    hash / 1048576
+}
+
+// Adds what waits in a slot to m records of messages' types.
+fn add_waiting(
+    a: &mut [u8],
+    m: usize,
+    t: &[u8],
+    slot: usize,
+    label: bool,
+    work: &mut [u8],
+) -> Inferred
+    requires { ⌜ HeldRun (under label) false (now a) m 0 × Slot (now t) (records (now t)) slot × (length (now t) ≤ maxLength) × (length (now a) ≤ length (now work)) ⌝ }
+    ensures { λ r. ⌜ ((f : CountingType) (free : List ℕ) → Holds (under label) false (now (a .entry)) m 0 f [] free →
+        Added (add Counting (slotRaw (under label) (now (t .entry)) slot) f) [] 0 r (now (a .exit))) ⌝ }
+{
+    if slot < ONE {
+        return Inferred::Records(m);
+    }
+    let start = slot % ONE;
+    let from = record::SIZE * start;
+    let stop = record::SIZE * (start + span_at(t, start));
+    add_run(a, m, 0, slot / ONE, &t[from..stop], false, label, work)
+}
+
+// Takes the message at record i into its slot. Other messages that waited there are added.
+fn take_message(
+    a: &mut [u8],
+    m: usize,
+    t: &[u8],
+    i: usize,
+    slots: &mut [usize; 4096],
+    label: bool,
+    work: &mut [u8],
+) -> Inferred
+    requires { ⌜ Gathering (under label) (now t) (now a) m i (now slots) × (recordSize * i < length (now t)) × (length (now t) ≤ maxLength) × (length (now a) ≤ length (now work)) × (length (now slots) ≡ 4096) ⌝ }
+    ensures { λ r. ⌜ GatheredTo (under label) (now (t .entry)) (i + spanAt (now (t .entry)) i) r (now (a .exit)) (now (slots .exit)) × (length (now (slots .exit)) ≡ 4096) ⌝ }
+{
+    let k = slot_of(t, i, i + span_at(t, i));
+    let slot = slots[k];
+    if same_message(t, slot % ONE, i) {
+        slots[k] = slot + ONE;
+        return Inferred::Records(m);
+    }
+    slots[k] = i + ONE;
+    add_waiting(a, m, t, slot, label, work)
+}
+
+// Takes all messages of a table into slots.
+fn gather(
+    a: &mut [u8],
+    t: &[u8],
+    slots: &mut [usize; 4096],
+    label: bool,
+    work: &mut [u8],
+) -> Inferred
+    requires { ⌜ AcceptedTable (now t) × (length (now a) ≤ maxLength) × (length (now a) ≤ length (now work)) × (now slots ≡ replicate 4096 0) ⌝ }
+    ensures { λ r. ⌜ GatheredTo (under label) (now (t .entry)) (records (now (t .entry))) r (now (a .exit)) (now (slots .exit)) × (length (now (slots .exit)) ≡ 4096) ⌝ }
+{
+    let end = t.len() / record::SIZE;
+    let mut m = 0;
+    let mut i = 0;
+    while i < end {
+        let Inferred::Records(size) = take_message(a, m, t, i, slots, label, work) else {
+            return Inferred::Full;
+        };
+        m = size;
+        i += span_at(t, i);
+    }
+    Inferred::Records(m)
+}
+
+// Adds what waits in all slots.
+fn settle(
+    a: &mut [u8],
+    m: usize,
+    t: &[u8],
+    slots: &[usize; 4096],
+    label: bool,
+    work: &mut [u8],
+) -> Inferred
+    requires { ⌜ AcceptedTable (now t) × Gathering (under label) (now t) (now a) m (records (now t)) (now slots) × (length (now a) ≤ length (now work)) × (length (now slots) ≡ 4096) ⌝ }
+    ensures { λ r. ⌜ Added (profileOf (under label) (messages (now (t .entry)))) [] 0 r (now (a .exit)) ⌝ }
+{
+    let mut n = m;
+    let mut k = 0;
+    while k < SLOTS {
+        let Inferred::Records(size) = add_waiting(a, n, t, slots[k], label, work) else {
+            return Inferred::Full;
+        };
+        n = size;
+        k += 1;
+    }
+    Inferred::Records(n)
+}
+
+// Adds the messages of an accepted table to an empty arena.
+fn add_messages(a: &mut [u8], t: &[u8], label: bool, work: &mut [u8]) -> Inferred
+    requires { ⌜ AcceptedTable (now t) × (length (now a) ≤ maxLength) × (length (now a) ≤ length (now work)) ⌝ }
+    ensures { λ r. ⌜ Added (profileOf (under label) (messages (now (t .entry)))) [] 0 r (now (a .exit)) ⌝ }
+{
+    let mut slots = [0usize; 4096];
+    let Inferred::Records(m) = gather(a, t, &mut slots, label, work) else {
+        return Inferred::Full;
+    };
+    settle(a, m, t, &slots, label, work)
+}
+
+// Infers the type of an accepted table's messages into the front of the arena. The working buffer holds the key list of the record at
+// hand.
+pub fn infer_type(table: &[u8], label: bool, arena: &mut [u8], work: &mut [u8]) -> Answered
+    requires { ⌜ AcceptedTable (now table) × (length (now arena) ≤ maxLength) × (length (now arena) ≤ length (now work)) ⌝ }
+    ensures { λ r. ⌜ Front (stored (length (now (arena .entry))) (profileOf (under label) (messages (now (table .entry))))) r (now (arena .exit)) ⌝ }
+{
+    match add_messages(arena, table, label, work) {
+        Inferred::Records(n) => Answered::Accepted(n),
+        Inferred::Full => Answered::Refused(Refusal::Room, 0),
+    }
+}

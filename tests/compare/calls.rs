@@ -1,0 +1,146 @@
+//! The five calls: what each must answer and leave in the buffers lent to it, by its inputs.
+
+use crate::profile::{passes_limit, profile, sum, Equivalence};
+use crate::types;
+use crate::value::{self, is_length, Fault};
+
+/// A call with its inputs. `arena` and `work` are the lengths of the buffers.
+pub enum Call<'a> {
+    JudgeTable {
+        table: &'a [u8],
+    },
+    Infer {
+        table: &'a [u8],
+        equivalence: u64,
+        arena: usize,
+        work: usize,
+    },
+    InferDefault {
+        table: &'a [u8],
+        arena: usize,
+        work: usize,
+    },
+    JudgeType {
+        bytes: &'a [u8],
+        equivalence: u64,
+    },
+    Merge {
+        first: &'a [u8],
+        second: &'a [u8],
+        equivalence: u64,
+        arena: usize,
+    },
+}
+
+/// The answer, and every byte of the buffers.
+#[derive(PartialEq)]
+pub struct Outcome {
+    pub number: u64,
+    pub place: u64,
+    pub count: u64,
+    pub arena: Vec<u8>,
+    pub work: Vec<u8>,
+}
+
+/// The number that an accepted call answers and the type that it writes.
+type Accepted = (usize, Vec<u8>);
+
+impl Call<'_> {
+    /// Document 01's number of the call.
+    pub fn number(&self) -> usize {
+        match self {
+            Call::JudgeTable { .. } => 1,
+            Call::Infer { .. } => 2,
+            Call::InferDefault { .. } => 3,
+            Call::JudgeType { .. } => 4,
+            Call::Merge { .. } => 5,
+        }
+    }
+
+    pub fn expected(&self) -> Outcome {
+        match *self {
+            Call::JudgeTable { table } => {
+                let messages = value::read(table);
+                settle(messages.map(|m| (m.len(), Vec::new())), 0, 0)
+            }
+            Call::Infer {
+                table,
+                equivalence,
+                arena,
+                work,
+            } => settle(infer(table, equivalence, arena, work), arena, work),
+            Call::InferDefault { table, arena, work } => {
+                settle(infer(table, 0, arena, work), arena, work)
+            }
+            Call::JudgeType { bytes, equivalence } => settle(judge_type(bytes, equivalence), 0, 0),
+            Call::Merge {
+                first,
+                second,
+                equivalence,
+                arena,
+            } => settle(merge(first, second, equivalence, arena), arena, 0),
+        }
+    }
+}
+
+fn settle(result: Result<Accepted, Fault>, arena: usize, work: usize) -> Outcome {
+    let (number, place) = *result.as_ref().err().unwrap_or(&(0, 0));
+    let (count, mut bytes) = result.unwrap_or_default();
+    bytes.resize(arena, 0);
+    Outcome {
+        number,
+        place,
+        count: count as u64,
+        arena: bytes,
+        work: vec![0; work],
+    }
+}
+
+fn infer(table: &[u8], number: u64, arena: usize, work: usize) -> Result<Accepted, Fault> {
+    if !is_length(table.len(), value::SIZE) || !is_length(arena, types::SIZE) || work != arena {
+        return Err((1, 0));
+    }
+    let equivalence = equivalence(number)?;
+    let messages = value::read(table)?;
+    fit(types::write(&profile(&messages, equivalence)), arena)
+}
+
+fn judge_type(bytes: &[u8], number: u64) -> Result<Accepted, Fault> {
+    if !is_length(bytes.len(), types::SIZE) {
+        return Err((1, 0));
+    }
+    match types::read(bytes, equivalence(number)?) {
+        Some(profile) => Ok((profile.len(), Vec::new())),
+        None => Err((8, 0)),
+    }
+}
+
+fn merge(first: &[u8], second: &[u8], number: u64, arena: usize) -> Result<Accepted, Fault> {
+    let lengths = [first.len(), second.len(), arena];
+    if !lengths.into_iter().all(|n| is_length(n, types::SIZE)) {
+        return Err((1, 0));
+    }
+    let equivalence = equivalence(number)?;
+    let first = types::read(first, equivalence).ok_or((8, 0))?;
+    let second = types::read(second, equivalence).ok_or((9, 0))?;
+    let merged = sum(&first, &second);
+    if passes_limit(&merged) {
+        return Err((10, 0));
+    }
+    fit(types::write(&merged), arena)
+}
+
+fn equivalence(number: u64) -> Result<Equivalence, Fault> {
+    match number {
+        0 => Ok(Equivalence::Kind),
+        1 => Ok(Equivalence::Label),
+        _ => Err((2, 0)),
+    }
+}
+
+fn fit(bytes: Vec<u8>, arena: usize) -> Result<Accepted, Fault> {
+    if bytes.len() > arena {
+        return Err((11, 0));
+    }
+    Ok((bytes.len() / types::SIZE, bytes))
+}

@@ -1,0 +1,119 @@
+//! Cases of single calls: tables for calls 1 to 3, types for call 4, pairs of types for call 5.
+
+use crate::calls::Call;
+use crate::case::Case;
+use crate::counted::counted;
+use crate::damage::damaged;
+use crate::messages::{fill, messages, Shape};
+use crate::profile::{profile, sum, Equivalence};
+use crate::random::Random;
+use crate::value::LONGEST;
+use crate::{types, value};
+
+pub const EQUIVALENCES: [Equivalence; 2] = [Equivalence::Kind, Equivalence::Label];
+
+pub fn table(case: &mut Case) {
+    let random = &mut case.random;
+    let mut messages = messages(&Shape::random(random), random);
+    if random.one_in(1_000) {
+        let longest = LONGEST / value::SIZE;
+        fill(&mut messages, longest + random.below(2), random);
+    }
+    let equivalence = random.pick(&EQUIVALENCES);
+    let records = profile(&messages, equivalence).len();
+    let mut table = value::write(&messages);
+    if random.one_in(2) {
+        table = damaged(&table, value::SIZE, random);
+    }
+    let arena = arena_length(records, random);
+    let work = work_length(arena, random);
+    let number = number(equivalence, random);
+    case.call(Call::JudgeTable { table: &table });
+    case.call(Call::Infer {
+        table: &table,
+        equivalence: number,
+        arena,
+        work,
+    });
+    case.call(Call::InferDefault {
+        table: &table,
+        arena,
+        work,
+    });
+}
+
+pub fn one_type(case: &mut Case) {
+    let random = &mut case.random;
+    let equivalence = random.pick(&EQUIVALENCES);
+    let shape = Shape::random(random);
+    let mut bytes = types::write(&counted(&shape, equivalence, random));
+    if random.one_in(2) {
+        bytes = damaged(&bytes, types::SIZE, random);
+    }
+    let other = random.pick(&EQUIVALENCES);
+    for number in [number(equivalence, random), other as u64] {
+        case.call(Call::JudgeType {
+            bytes: &bytes,
+            equivalence: number,
+        });
+    }
+}
+
+pub fn two_types(case: &mut Case) {
+    let random = &mut case.random;
+    let equivalence = random.pick(&EQUIVALENCES);
+    let shape = Shape::random(random);
+    let types = [(); 2].map(|()| counted(&shape, equivalence, random));
+    let same = random.one_in(8);
+    let other = if same { &types[0] } else { &types[1] };
+    let records = sum(&types[0], other).len();
+    let [first, second] = types.map(|profile| {
+        let bytes = types::write(&profile);
+        if random.one_in(8) {
+            return damaged(&bytes, types::SIZE, random);
+        }
+        bytes
+    });
+    let arena = arena_length(records, random);
+    let equivalence = number(equivalence, random);
+    case.call(Call::Merge {
+        first: &first,
+        second: if same { &first } else { &second },
+        equivalence,
+        arena,
+    });
+}
+
+/// Mostly the equivalence itself, sometimes the other one or none.
+fn number(equivalence: Equivalence, random: &mut Random) -> u64 {
+    match random.below(20) {
+        0 => random.pick(&[0, 1]),
+        1 => random.pick(&[2, 3, 255, 256, 257, 1 << 32, 1 << 63, u64::MAX]),
+        _ => equivalence as u64,
+    }
+}
+
+/// The length of an arena about a type of so many records.
+fn arena_length(records: usize, random: &mut Random) -> usize {
+    let exact = types::SIZE * records;
+    match random.below(20) {
+        0..=6 => exact,
+        7..=9 => exact.saturating_sub(types::SIZE),
+        10 => exact + types::SIZE,
+        11 => 0,
+        12..=14 => LONGEST,
+        15 => types::SIZE * random.below(records + 1),
+        16 => exact + 1 + random.below(types::SIZE - 1),
+        17 => LONGEST + random.pick(&[1, types::SIZE]),
+        _ => exact + types::SIZE * random.below(8),
+    }
+}
+
+fn work_length(arena: usize, random: &mut Random) -> usize {
+    match random.below(30) {
+        0 => arena + types::SIZE,
+        1 => arena.saturating_sub(types::SIZE),
+        2 => arena + 1,
+        _ => arena,
+    }
+}

@@ -1,0 +1,45 @@
+//! Counts how often each call and each way answered each number. A number that can occur must.
+
+/// The rows of ways over tables and of merge trees over types; a call's row has its number.
+pub const WAY: usize = 6;
+pub const MERGES: usize = 7;
+
+const ROWS: [(&str, &[u64]); 7] = [
+    ("1 judge a table", &[0, 1, 3, 4, 5, 6, 7]),
+    ("2 infer", &[0, 1, 2, 3, 4, 5, 6, 7, 11]),
+    ("3 infer, default", &[0, 1, 3, 4, 5, 6, 7, 11]),
+    ("4 judge a type", &[0, 1, 2, 8]),
+    ("5 merge", &[0, 1, 2, 8, 9, 10, 11]),
+    ("ways", &[0, 11]),
+    ("merge trees", &[0, 10, 11]),
+];
+
+#[derive(Default)]
+pub struct Tally([[u64; 12]; ROWS.len()]);
+
+impl Tally {
+    pub fn add(&mut self, row: usize, number: u64) {
+        self.0[row - 1][number as usize] += 1;
+    }
+
+    pub fn print(&self) {
+        let columns: String = (0..12).map(|number| format!("{number:>8}")).collect();
+        println!("{:<18}{columns}", "");
+        for ((name, _), counts) in ROWS.iter().zip(&self.0) {
+            let columns: String = counts.iter().map(|count| format!("{count:>8}")).collect();
+            println!("{name:<18}{columns}");
+        }
+    }
+
+    /// The rows and numbers that can occur and never did.
+    pub fn missing(&self) -> Vec<(&str, u64)> {
+        let mut missing = Vec::new();
+        for ((name, numbers), counts) in ROWS.iter().zip(&self.0) {
+            let never = numbers
+                .iter()
+                .filter(|number| counts[**number as usize] == 0);
+            missing.extend(never.map(|number| (*name, *number)));
+        }
+        missing
+    }
+}

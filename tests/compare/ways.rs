@@ -1,0 +1,189 @@
+//! Ways of bringing one log together: every one ends in the bytes of the log's profile, or all are refused.
+
+use crate::calls::{Call, Outcome};
+use crate::case::{hex, Case};
+use crate::counted::counted;
+use crate::messages::{messages, Shape};
+use crate::profile::{passes_limit, profile, sum, Equivalence, Profile};
+use crate::random::Random;
+use crate::single::EQUIVALENCES;
+use crate::tally::{MERGES, WAY};
+use crate::value::{Value, LONGEST};
+use crate::{types, value};
+
+/// What every way of a case fixes.
+#[derive(Clone, Copy)]
+struct Fixed {
+    equivalence: Equivalence,
+    arena: usize,
+}
+
+/// Two or three ways of one log.
+pub fn ways(case: &mut Case) {
+    let random = &mut case.random;
+    let shape = Shape::random(random);
+    let mut log = messages(&shape, random);
+    // A way reads tables that call 1 accepts.
+    log.retain(|message| value::read(&value::write(std::slice::from_ref(message))).is_ok());
+    let equivalence = random.pick(&EQUIVALENCES);
+    let profile = profile(&log, equivalence);
+    let fixed = Fixed {
+        equivalence,
+        arena: arena_length(profile.len(), random),
+    };
+    let mut ends = Vec::new();
+    for _ in 0..2 + case.random.below(2) {
+        case.random.shuffle(&mut log);
+        let tables = tables(&log, &mut case.random);
+        ends.push(bring(case, tables, Vec::new(), fixed));
+    }
+    settle(case, WAY, &ends, &profile, fixed);
+}
+
+/// Two or three merge trees of the same types, whose counts come up to the limit.
+pub fn merges(case: &mut Case) {
+    let random = &mut case.random;
+    let shape = Shape::random(random);
+    let equivalence = random.pick(&EQUIVALENCES);
+    let mut profiles = Vec::new();
+    for _ in 0..2 + random.below(4) {
+        let profile = counted(&shape, equivalence, random);
+        if types::read(&types::write(&profile), equivalence).is_some() {
+            profiles.push(profile);
+        }
+    }
+    let fits = |p: &Profile| types::SIZE * p.len() <= LONGEST;
+    if profiles.len() < 2 || !profiles.iter().all(fits) {
+        return;
+    }
+    let all = profiles
+        .iter()
+        .fold(Profile::new(), |all, one| sum(&all, one));
+    let fixed = Fixed {
+        equivalence,
+        arena: arena_length(all.len(), random),
+    };
+    let mut ends = Vec::new();
+    for _ in 0..2 + case.random.below(2) {
+        case.random.shuffle(&mut profiles);
+        let at_hand = profiles.iter().map(types::write).collect();
+        ends.push(bring(case, Vec::new(), at_hand, fixed));
+    }
+    settle(case, MERGES, &ends, &all, fixed);
+}
+
+/// A length that a way may fix.
+fn arena_length(records: usize, random: &mut Random) -> usize {
+    let exact = types::SIZE * records;
+    let length = match random.below(8) {
+        0..=2 => exact,
+        3 => exact.saturating_sub(types::SIZE),
+        4 => types::SIZE * random.below(records + 1),
+        5 => exact + types::SIZE * random.below(9),
+        _ => LONGEST,
+    };
+    length.min(LONGEST)
+}
+
+/// Cuts a log into tables, some of them empty.
+fn tables(log: &[Value], random: &mut Random) -> Vec<Vec<u8>> {
+    let most = random.pick(&[1, 2, 5, 1 + log.len()]).max(log.len() / 60);
+    let mut tables = Vec::new();
+    let mut rest = log;
+    while !rest.is_empty() || tables.is_empty() || random.one_in(9) {
+        let (cut, behind) = rest.split_at(random.below(most + 1).min(rest.len()));
+        let table = value::write(cut);
+        if table.len() <= LONGEST {
+            tables.push(table);
+            rest = behind;
+        }
+    }
+    tables
+}
+
+/// Infers from each table and merges types at hand, in any order, until one is left; gives the outcome of the last call.
+fn bring(
+    case: &mut Case,
+    mut tables: Vec<Vec<u8>>,
+    mut at_hand: Vec<Vec<u8>>,
+    fixed: Fixed,
+) -> Outcome {
+    loop {
+        let merges = at_hand.len() > 1 && (tables.is_empty() || case.random.one_in(2));
+        let outcome = if merges {
+            merge_two(case, &mut at_hand, fixed)
+        } else {
+            infer(case, &tables.pop().expect("a table, or two types"), fixed)
+        };
+        if outcome.number != 0 || (tables.is_empty() && at_hand.is_empty()) {
+            return outcome;
+        }
+        at_hand.push(outcome.arena[..types::SIZE * outcome.count as usize].to_vec());
+    }
+}
+
+fn infer(case: &mut Case, table: &[u8], fixed: Fixed) -> Outcome {
+    let arena = fixed.arena;
+    if fixed.equivalence == Equivalence::Kind && case.random.one_in(2) {
+        return case.call(Call::InferDefault {
+            table,
+            arena,
+            work: arena,
+        });
+    }
+    case.call(Call::Infer {
+        table,
+        equivalence: fixed.equivalence as u64,
+        arena,
+        work: arena,
+    })
+}
+
+fn merge_two(case: &mut Case, at_hand: &mut Vec<Vec<u8>>, fixed: Fixed) -> Outcome {
+    let first = at_hand.swap_remove(case.random.below(at_hand.len()));
+    let second = at_hand.swap_remove(case.random.below(at_hand.len()));
+    case.call(Call::Merge {
+        first: &first,
+        second: &second,
+        equivalence: fixed.equivalence as u64,
+        arena: fixed.arena,
+    })
+}
+
+/// The ends of ways must be alike, and be what the profile of everything brought together says.
+fn settle(case: &mut Case, row: usize, ends: &[Outcome], profile: &Profile, fixed: Fixed) {
+    for end in ends {
+        if !alike(end, &ends[0]) {
+            case.fail("two ways of the same messages end differently\n");
+        }
+        if !agrees(end, profile, fixed) {
+            let bytes = hex(&types::write(profile));
+            case.fail(&format!("a way ends otherwise than its profile {bytes}\n"));
+        }
+        case.tally.add(row, end.number);
+    }
+}
+
+/// Both are refused, or both have the same answer and arena.
+fn alike(one: &Outcome, other: &Outcome) -> bool {
+    if one.number != 0 && other.number != 0 {
+        return true;
+    }
+    let answer = |end: &Outcome| (end.number, end.place, end.count);
+    answer(one) == answer(other) && one.arena == other.arena
+}
+
+fn agrees(end: &Outcome, profile: &Profile, fixed: Fixed) -> bool {
+    let too_many = types::SIZE * profile.len() > fixed.arena;
+    match end.number {
+        0 => {
+            let mut bytes = types::write(profile);
+            bytes.resize(fixed.arena, 0);
+            let fits = !too_many && !passes_limit(profile);
+            fits && end.place == 0 && end.count == profile.len() as u64 && end.arena == bytes
+        }
+        10 => passes_limit(profile),
+        11 => too_many,
+        _ => false,
+    }
+}

@@ -1,0 +1,261 @@
+"""Document 01's trials of calls 2 and 3, written without the crates: counts the values at each place, writes that map, prints a line.
+
+A place is as in merges.py: a tuple of classes and of fields.
+"""
+import struct
+from collections import Counter
+
+from counting_types import FIELD, KIND, KNOWN, LABEL, UNKNOWN
+from merges import LARGEST, rows_of, written
+from tables import ARRAY, BOOLEAN, EMPTY_ARRAY, EVERY, NINE, NULL, NUMBER, ONE_NULL, RECORD, STRING
+from tables import array, bytes_of, judge, messages, nested, null, record, value, wide
+
+
+def runs(records, start, end):
+    """The places from a start to an end at which a value stands that is not inside another of them."""
+    while start < end:
+        yield start
+        start += records[start][3]
+
+
+def class_of(records, start, equivalence):
+    kind, _, _, span = records[start]
+    keys = ()
+    if kind == RECORD and equivalence == LABEL:
+        keys = tuple(sorted(records[i][2] for i in runs(records, start + 1, start + span)))
+    return kind, 0, keys
+
+
+def places(records, start, end, equivalence, around=(), fields=False):
+    """The place of each value from a start to an end, and of each field."""
+    for i in runs(records, start, end):
+        kind, _, key, span = records[i]
+        outer = around
+        if fields:
+            outer = (*around, (FIELD, key, ()))
+            yield outer
+        place = (*outer, class_of(records, i, equivalence))
+        yield place
+        yield from places(records, i + 1, i + span, equivalence, place, kind == RECORD)
+
+
+def infer(table, equivalence, arena, work):
+    """Refusal number, place, and the rows of the inferred type, none if it is refused."""
+    refusal, place, _ = judge(table)
+    if refusal == 1 or arena % 16 or arena > LARGEST or work != arena:
+        return 1, 0, []
+    if equivalence not in KNOWN.values():
+        return 2, 0, []
+    if refusal:
+        return refusal, place, []
+    records = list(struct.iter_unpack("<BBHI", table))
+    rows = rows_of(Counter(places(records, 0, len(records), equivalence)))
+    if 16 * len(rows) > arena:
+        return 11, 0, []
+    return 0, 0, rows
+
+
+def with_keys(*keys, key=0):
+    """A record with a null at each key."""
+    return record(*(null(k) for k in keys), key=key)
+
+
+def single(kind, key=0):
+    return value(kind, key=key)
+
+
+def number(key=0):
+    return single(NUMBER, key)
+
+
+def document():
+    yield "empty", []
+    yield "empty-arena-0", [], 0
+    yield "nine-records", NINE
+    for arena in 0, 96, 112, 128, 176, 192, 208:
+        yield f"nine-arena-{arena}", NINE, arena
+    yield "one-null", null()
+    yield "one-null-arena-0", null(), 0
+    yield "one-null-arena-16", null(), 16
+    yield "null-span-2", [(NULL, 0, 2)]
+    yield "all-zero", [(0, 0, 0)]
+    yield "two-fields", record(null(1), number(1))
+    yield "arrays-32", nested(32, EMPTY_ARRAY)
+    yield "arrays-33", nested(33, EMPTY_ARRAY)
+
+
+def faults():
+    yield "kind-at-1", null() + [(7, 0, 1)] + null()
+    yield "span-at-2", array(null(), [(ARRAY, 0, 2)])
+    yield "key-at-1", record(null())
+    yield "repeat-at-4", record(null(1)) + with_keys(2, 2)
+    yield "repeat-after-array", record(array(null(), null(), key=1), null(1))
+    yield "depth-before-kind", nested(33, EMPTY_ARRAY) + [(0, 0, 1)]
+    yield "fault-before-room", null() + [(0, 0, 1)], 0
+    yield "fault-before-room-wide", wide(1)
+
+
+def unions():
+    yield "three-nulls", null() + null() + null()
+    yield "every-kind", EVERY
+    yield "every-kind-backwards", messages(*(single(kind) for kind in range(ARRAY, 0, -1)))
+    yield "kinds-in-any-order", messages(*(single(kind) for kind in (3, 1, 6, 2, 1, 3, 5, 6, 3, 4)))
+    yield "records-among-others", record() + null() + with_keys(1) + number() + with_keys(1) + null()
+    yield "addends-before-content", array(number()) + null() + array(null(), number()) + single(STRING) + array(single(BOOLEAN))
+
+
+def contents():
+    yield "empty-arrays", array() + array()
+    yield "empty-arrays-in-field", record(array(key=2)) + record(array(key=2))
+    yield "content-is-cumulative", array(number(), number()) + array(number()) + array()
+    yield "contents-of-all-kinds", array(EVERY) + array(EVERY, EVERY)
+    yield "contents-in-any-order", array(number(), null()) + array(single(STRING), null(), single(BOOLEAN))
+    yield "arrays-in-arrays", array(array(number()), array(), array(null(), number())) + array(null())
+    yield "records-in-arrays", array(with_keys(1), with_keys(2), with_keys(1)) + array(record())
+
+
+def fields():
+    yield "field-in-some", with_keys(1) + record() + with_keys(1, 2) + with_keys(2)
+    yield "field-of-all-kinds", messages(*(record(single(kind, 1)) for kind in (6, 3, 1, 5, 2, 4, 3)))
+    yield "fields-descending", with_keys(3, 2, 1)
+    yield "fields-in-any-order", with_keys(2, 3, 1) + with_keys(3, 1, 2)
+    yield "fields-255-256", with_keys(256, 65535, 255, 1)
+    yield "records-in-fields", record(with_keys(1, key=1), null(2)) + record(null(1)) + record(with_keys(2, key=1))
+    yield "same-key-inside", record(record(number(1), key=1)) + record(record(null(1), key=1))
+    yield "arrays-in-fields", record(array(number(), key=1)) + record(array(with_keys(1), with_keys(2), key=1))
+
+
+def key_lists():
+    yield "lists-2-12-empty-1", with_keys(2) + with_keys(1, 2) + record() + with_keys(1)
+    yield "lists-21-12", with_keys(2, 1) + with_keys(1, 2)
+    yield "lists-321-1-12-2", with_keys(3, 2, 1) + with_keys(1) + with_keys(1, 2) + with_keys(2)
+    yield "lists-13-2-12", with_keys(1, 3) + with_keys(2) + with_keys(2, 1)
+    yield "lists-256-255", with_keys(256) + with_keys(255)
+    yield "lists-in-arrays", array(with_keys(2), with_keys(1, 2)) + array(with_keys(1), with_keys(2, 1))
+    yield "lists-in-fields", record(with_keys(9, key=1)) + record(with_keys(8, key=1)) + record(with_keys(9, key=1))
+    yield "lists-of-different-depth", with_keys(1) + record(with_keys(1, key=1)) + record(array(with_keys(1), key=1))
+
+
+def rooms():
+    for arena in 0, 16, 32, 64, 160, 176:
+        yield f"five-fields-arena-{arena}", with_keys(5, 4, 3, 2, 1), arena
+    for arena in 32, 48, 64:
+        yield f"kinds-3-1-2-arena-{arena}", number() + null() + single(BOOLEAN) + null(), arena
+    for arena in 16, 32:
+        yield f"array-of-null-arena-{arena}", array(null()), arena
+
+
+def in_arrays(depth, inner):
+    """Arrays around values at a depth."""
+    for _ in range(depth - 1):
+        inner = array(inner)
+    return inner
+
+
+def in_fields(depth, inner):
+    """Records around a value at a depth."""
+    for _ in range(depth - 1):
+        inner = record([(inner[0][0], 1, inner[0][2]), *inner[1:]])
+    return inner
+
+
+def depths():
+    yield "three-at-32", in_arrays(32, null() + single(BOOLEAN) + null())
+    yield "in-fields-at-32", in_fields(32, null()) + in_fields(32, number())
+    yield "in-fields-at-33", in_fields(33, null())
+
+
+def many(count, first, step):
+    """So many keys, modulo 65,536."""
+    return [(first + k * step) % 65536 for k in range(count)]
+
+
+def one_field_each(keys):
+    return messages(*(with_keys(key) for key in keys))
+
+
+def filling(count):
+    """A record that has so many fields, of which the last is an array with a null."""
+    return record(*(null(key) for key in range(1, count)), array(null(), key=count))
+
+
+def largest():
+    yield "nulls", [ONE_NULL] * 8192
+    yield "fields", filling(2047)
+    yield "fields-arena-65520", filling(2047), 65520
+    yield "fields-too-many", with_keys(*many(2048, 1, 1))
+    yield "fields-8191", with_keys(*many(8191, 1, 1))
+    yield "fields-8191-descending", with_keys(*many(8191, 8191, -1))
+    yield "fields-2047-descending", with_keys(*many(2047, 2047, -1))
+    yield "fields-2047-scattered", with_keys(*many(2047, 1, 40503))
+    yield "records", one_field_each(many(1365, 1, 1)) + array()
+    yield "records-arena-65520", one_field_each(many(1365, 1, 1)) + array(), 65520
+    yield "records-descending", one_field_each(many(1365, 1365, -1))
+    yield "records-scattered", one_field_each(many(1365, 1, 40503))
+    yield "records-too-many", one_field_each(many(1366, 1, 1))
+    yield "records-4096", one_field_each(many(4096, 1, 1))
+    yield "records-of-one-key", one_field_each([7] * 4096)
+
+
+def tables(trials):
+    """Each trial as name, table, and the lengths of the arena, which is the largest where a trial names none, and working buffer."""
+    for name, records, *arena in trials:
+        length = arena[0] if arena else LARGEST
+        yield name, bytes_of(records), length, length
+
+
+def given_lengths():
+    for arena in 1, 8, 15, 17, 65535, 65537, 65552:
+        yield f"arena-{arena}", bytes_of(null()), arena, arena
+    for arena, work in (112, 96), (112, 128), (112, 113), (112, 0), (0, 16), (65536, 65520), (65520, 65536), (16, 65552):
+        yield f"arena-{arena}-work-{work}", bytes_of(NINE), arena, work
+    for length in 1, 7, 9, 71:
+        yield f"table-{length}", bytes_of(NINE)[:length], LARGEST, LARGEST
+    for length in 65537, 65544:
+        yield f"table-{length}", bytes_of([ONE_NULL] * 8193)[:length], LARGEST, LARGEST
+    yield "zeros-behind", bytes_of(null()) + bytes(8), LARGEST, LARGEST
+    yield "length-before-fault", bytes_of([(0, 0, 0)]), 16, 0
+
+
+def unknown():
+    yield "one-null", bytes_of(null()), LARGEST, LARGEST
+    yield "empty-arena-0", b"", 0, 0
+    yield "all-zero", bytes(8), LARGEST, LARGEST
+    yield "one-null-arena-0", bytes_of(null()), 0, 0
+    yield "fields-8191", bytes_of(with_keys(*many(8191, 1, 1))), LARGEST, LARGEST
+    yield "arena-17", bytes_of(null()), 17, 17
+    yield "arena-16-work-0", bytes_of(null()), 16, 0
+    yield "table-9", bytes_of(null()) + bytes(1), LARGEST, LARGEST
+
+
+def known():
+    """Names, tables and lengths, in the order of crates/trials."""
+    for group in document, faults, unions, contents, fields, key_lists, rooms, depths, largest:
+        yield from tables(group())
+    yield from given_lengths()
+
+
+def default():
+    yield from tables(document())
+    yield from tables([("lists-13-2-12", with_keys(1, 3) + with_keys(2) + with_keys(2, 1)), ("fields", filling(2047))])
+    yield "arena-17", bytes_of(null()), 17, 17
+    yield "arena-16-work-0", bytes_of(null()), 16, 0
+    yield "table-9", bytes_of(null()) + bytes(1), LARGEST, LARGEST
+
+
+def report(trials, equivalences):
+    """The zeros before the rows are the numbers of bytes behind the type and in the working buffer that are not zero."""
+    for name, table, arena, work in trials:
+        for suffix, equivalence in equivalences.items():
+            refusal, place, rows = infer(table, equivalence, arena, work)
+            print(f"{name}{suffix} {refusal} {place} {len(rows)} 0 0{written(rows)}")
+
+
+def suffixed(equivalences):
+    return {f"/{suffix}": equivalence for suffix, equivalence in equivalences.items()}
+
+
+if __name__ == "__main__":
+    report(known(), suffixed(KNOWN))
+    report(unknown(), suffixed(UNKNOWN))
+    report(default(), {"": KIND})
