@@ -11,8 +11,8 @@ use Rattle.value_table.specs.Acceptance.{Table}
 use Rattle.value_table.proofs.Header as table
 use Rattle.counting_type.specs.declared.Answered.the-variants.{Accepted, Refused}
 use Rattle.counting_type.specs.declared.Refusal.the-variants.{Room}
-use Rattle.counting_theory.specs.Trie.{nil, size, add}
-use Rattle.counting_theory.specs.Label.{Equivalence, Counting, CountingType}
+use Rattle.counting_theory.specs.Trie.{nil, size}
+use Rattle.counting_theory.specs.Label.{Equivalence, CountingType}
 use Rattle.counting_theory.specs.Raw.{profileOf}
 use Rattle.counting_theory.specs.Encoding.{typeSize, encode}
 use Rattle.counting_theory.specs.Answers.{stored}

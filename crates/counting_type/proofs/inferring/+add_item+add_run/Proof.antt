@@ -184,6 +184,9 @@ module _ (t : ℕ) where
   add-item-sub-behind-2 : add-item-lts.Need-sub-behind-2 (add-item-calls t) (add-item-at t) add-item.Post
   add-item-sub-behind-2 c = omega (arith, bound (at c), numbers c)
 
+  add-item-sub-held : add-item-lts.Need-sub-held (add-item-calls t) (add-item-at t) add-item.Post
+  add-item-sub-held c = omega (arith, numbers c)
+
   add-item-sub-add-run : add-item-lts.Need-sub-add-run (add-item-calls t) (add-item-at t) add-item.Post
   add-item-sub-add-run c = omega (arith, bound (at c))
 
@@ -192,9 +195,6 @@ module _ (t : ℕ) where
 
   add-item-part-add-run-end : add-item-lts.Need-part-add-run-end (add-item-calls t) (add-item-at t) add-item.Post
   add-item-part-add-run-end c = omega (arith, bound (at c))
-
-  add-item-sub-add-run-2 : add-item-lts.Need-sub-add-run-2 (add-item-calls t) (add-item-at t) add-item.Post
-  add-item-sub-add-run-2 c = omega (arith, numbers (c .before))
 
   add-item-add-run-requires : add-item-lts.Need-add-run-requires (add-item-calls t) (add-item-at t) add-item.Post
   add-item-add-run-requires c κs =
@@ -235,14 +235,14 @@ module _ (t : ℕ) where
   add-item-store32-requires : add-item-lts.Need-store32-requires (add-item-calls t) (add-item-at t) add-item.Post
   add-item-store32-requires c κs = omega (arith, small c, same c)
 
-  add-item-add-t25 : add-item-lts.Need-add-t25 (add-item-calls t) (add-item-at t) add-item.Post
-  add-item-add-t25 c = let i = c .before .before .before in omega (arith, small i, numbers (sp i), bound (at (sp i)))
+  add-item-add-t30 : add-item-lts.Need-add-t30 (add-item-calls t) (add-item-at t) add-item.Post
+  add-item-add-t30 c = let i = c .before .before .before in omega (arith, small i, numbers (sp i), bound (at (sp i)))
 
-  add-item-add-t29 : add-item-lts.Need-add-t29 (add-item-calls t) (add-item-at t) add-item.Post
-  add-item-add-t29 c = let i = c .before .before .before in omega (arith, small i, numbers (sp i), bound (at (sp i)))
+  add-item-add-t26 : add-item-lts.Need-add-t26 (add-item-calls t) (add-item-at t) add-item.Post
+  add-item-add-t26 c = let i = c .before .before .before in omega (arith, small i, numbers (sp i), bound (at (sp i)))
 
-  add-item-sub-t38 : add-item-lts.Need-sub-t38 (add-item-calls t) (add-item-at t) add-item.Post
-  add-item-sub-t38 c = let i = c .before .before .before in omega (arith, small i, numbers (sp i), bound (at (sp i)))
+  add-item-sub-t39 : add-item-lts.Need-sub-t39 (add-item-calls t) (add-item-at t) add-item.Post
+  add-item-sub-t39 c = let i = c .before .before .before in omega (arith, small i, numbers (sp i), bound (at (sp i)))
 
   add-item-same-length-7 : add-item-lts.Need-same-length-7 (add-item-calls t) (add-item-at t) add-item.Post
   add-item-same-length-7 c = let i = c .before .before .before in c .before .before .store32 .kept .0 ∙ same i ∙ same-arena (at (sp i))
@@ -440,5 +440,5 @@ module _ (t : ℕ) where
 pub +add-item+add-run-spec : {M : Type 1} → statement M
 +add-item+add-run-spec =
     close μ-add-item μ-add-run
-    (λ t. add-item-lts.spec (add-item-calls t) (add-item-at t) add-item.Post (add-item-locate-requires t) (add-item-enum-known-p t) (add-item-enum-told t) (add-item-same-length t) (add-item-same-length-2 t) (add-item-returns t) (add-item-same-length-3 t) (add-item-same-length-4 t) (add-item-returns-2 t) (add-item-span-at-requires t) (add-item-mul-o t) (add-item-add-inner t) (add-item-add-behind t) (add-item-sub-behind t) (add-item-sub-behind-2 t) (add-item-sub-add-run t) (add-item-part-add-run-start t) (add-item-part-add-run-end t) (add-item-sub-add-run-2 t) (add-item-add-run-requires t) (add-item-enum-known-added t) (add-item-enum-told-2 t) (add-item-same-length-5 t) (add-item-same-length-6 t) (add-item-returns-3 t) (add-item-add-store32 t) (add-item-add-store32-2 t) (add-item-store32-requires t) (add-item-add-t25 t) (add-item-add-t29 t) (add-item-sub-t38 t) (add-item-same-length-7 t) (add-item-same-length-8 t) (add-item-returns-4 t))
+    (λ t. add-item-lts.spec (add-item-calls t) (add-item-at t) add-item.Post (add-item-locate-requires t) (add-item-enum-known-p t) (add-item-enum-told t) (add-item-same-length t) (add-item-same-length-2 t) (add-item-returns t) (add-item-same-length-3 t) (add-item-same-length-4 t) (add-item-returns-2 t) (add-item-span-at-requires t) (add-item-mul-o t) (add-item-add-inner t) (add-item-add-behind t) (add-item-sub-behind t) (add-item-sub-behind-2 t) (add-item-sub-held t) (add-item-sub-add-run t) (add-item-part-add-run-start t) (add-item-part-add-run-end t) (add-item-add-run-requires t) (add-item-enum-known-added t) (add-item-enum-told-2 t) (add-item-same-length-5 t) (add-item-same-length-6 t) (add-item-returns-3 t) (add-item-add-store32 t) (add-item-add-store32-2 t) (add-item-store32-requires t) (add-item-add-t30 t) (add-item-add-t26 t) (add-item-sub-t39 t) (add-item-same-length-7 t) (add-item-same-length-8 t) (add-item-returns-4 t))
     (λ t. add-run-lts.spec (add-run-calls t) (add-run-at t) add-run.Post add-run-Inv-loop add-run-μ-loop (add-run-loop-holds t) (add-run-read-item-requires t) (add-run-mul-stop t) (add-run-equal-values-requires t) (add-run-add-w t) (add-run-mul-w t) (add-run-sub-below t) (add-run-part-below-start t) (add-run-part-below-end t) (add-run-add-item-requires t) (add-run-enum-known-p t) (add-run-enum-told t) (add-run-same-length t) (add-run-same-length-2 t) (add-run-returns t) (add-run-resume-at-requires t) (add-run-sub-i t) (add-run-mul-i t) (add-run-add-i t) (add-run-loop-less t) (add-run-loop-again t) (add-run-same-length-3 t) (add-run-same-length-4 t) (add-run-returns-2 t))

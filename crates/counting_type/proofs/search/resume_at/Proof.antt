@@ -1,7 +1,6 @@
 -- `resume_at` meets its contract.
 use mathlib.Core.Path.{refl}
 use native.Mathlib.Omega.{arith}
-use borrow.Author.Needs.{needs}
 use borrow.Author.Tests.{lt-ltb, le-ltb, not-true, not-false}
 use Rattle.counting_type.proofs.search.resume_at.Statement.{statement}
 use Rattle.counting_type.proofs.search.resume_at.Tie as tie
