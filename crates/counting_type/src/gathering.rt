@@ -66,7 +66,7 @@ fn slot_of(t: &[u8], i: usize, end: usize) -> usize
     let mut j = i;
     while j < end {
         let word = number32(t, record::SIZE * j);
-        hash = (hash * 421 + word / 65536 + word % 65536 * 331) % SLOTS;
+        hash = (hash * 5 + (word / 65536 + word % 65536 * 331)) % SLOTS;
         j += 1;
     }
     hash

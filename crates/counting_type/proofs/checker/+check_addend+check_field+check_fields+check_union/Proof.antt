@@ -23,6 +23,7 @@ use Rattle.counting_type.proofs.checker.check_union.Reads as check-unio
 use Rattle.counting_type.proofs.checker.check_union.Kinds as check-union-kinds
 use Rattle.counting_type.proofs.checker.+check_addend+check_field+check_fields+check_union.Lts-check_union as check-union-lts
 use Rattle.counting_type.proofs.checker.addend_record.Reads as addend-record-reads
+use Rattle.counting_type.proofs.checker.check_scalar.Reads as check-scalar-reads
 use Rattle.counting_type.proofs.checker.count_fits.Reads as count-fits-reads
 use Rattle.counting_type.proofs.checker.field_fits.Reads as field-fits-reads
 use Rattle.counting_type.proofs.checker.in_order.Reads as in-order-reads
@@ -139,29 +140,44 @@ module _ (t : ℕ) where
   check-addend-returns-5 c = sym (ap (λ x. isSome (checkedOf x)) (c .enum-told2 .given .1)) ∙ inner-union (c .before .before)
 
 abbrev check-field-calls : ℕ → check-field-lts.Claims
-check-field-calls t = (check-union-below t, check-union.Post, count-at-reads.Asked, count-at-reads.Learnt)
+check-field-calls t = (kind-at-reads.Asked, kind-at-reads.Learnt, check-scalar-reads.Asked, check-scalar-reads.Learnt, check-union-below t, check-union.Post, count-at-reads.Asked, count-at-reads.Learnt)
 
 module _ (t : ℕ) where
+  check-field-add-if1 : check-field-lts.Need-add-if1 (check-field-calls t) (check-field-at t) check-field.Post
+  check-field-add-if1 c = let r = c .before .pre .1 .0 in omega (arith, r .upto, r .within, r .short)
+
+  check-field-add-kind-at : check-field-lts.Need-add-kind-at (check-field-calls t) (check-field-at t) check-field.Post
+  check-field-add-kind-at c = let r = c .before .before .pre .1 .0 in omega (arith, r .upto, r .within, r .short)
+
+  check-field-kind-at-requires : check-field-lts.Need-kind-at-requires (check-field-calls t) (check-field-at t) check-field.Post
+  check-field-kind-at-requires c κs = omega (arith, c .before .before .pre .1 .0 .within, c .if1 .taken)
+
+  check-field-check-scalar-requires : check-field-lts.Need-check-scalar-requires (check-field-calls t) (check-field-at t) check-field.Post
+  check-field-check-scalar-requires c κs = let s = c .before .before .before .before .pre .1 in (s .0, c .before .before .if1 .taken, rw (c .before .kind-at .ensures) at (c .if2 .taken), omega (arith, s .1))
+
+  check-field-returns : check-field-lts.Need-returns (check-field-calls t) (check-field-at t) check-field.Post
+  check-field-returns c = c .check-scalar .ensures (under (c .before .before .before .before .before .args .label))
+
   check-field-add-check-union : check-field-lts.Need-add-check-union (check-field-calls t) (check-field-at t) check-field.Post
-  check-field-add-check-union c = omega (arith, c .before .pre .1 .0 .upto, c .before .pre .1 .0 .within)
+  check-field-add-check-union c = omega (arith, c .before .before .pre .1 .0 .upto, c .before .before .pre .1 .0 .within)
 
   check-field-check-union-requires : check-field-lts.Need-check-union-requires (check-field-calls t) (check-field-at t) check-field.Post
-  check-field-check-union-requires c κs = (omega (arith, c .before .pre .0), (c .before .pre .1 .0, omega (arith, c .before .pre .1 .1)))
+  check-field-check-union-requires c κs = (omega (arith, c .before .before .pre .0), (c .before .before .pre .1 .0, omega (arith, c .before .before .pre .1 .1)))
 
   check-field-enum-known-total : check-field-lts.Need-enum-known-total (check-field-calls t) (check-field-at t) check-field.Post
   check-field-enum-known-total c = search needs
 
   check-field-count-at-requires : check-field-lts.Need-count-at-requires (check-field-calls t) (check-field-at t) check-field.Post
-  check-field-count-at-requires c κs = omega (arith, c .before .before .before .before .before .pre .1 .0 .upto, c .before .before .before .before .before .pre .1 .0 .within)
+  check-field-count-at-requires c κs = omega (arith, c .before .before .before .before .before .before .pre .1 .0 .upto, c .before .before .before .before .before .before .pre .1 .0 .within)
 
   check-field-enum-told : check-field-lts.Need-enum-told (check-field-calls t) (check-field-at t) check-field.Post
   check-field-enum-told c = search needs
 
-  check-field-returns : check-field-lts.Need-returns (check-field-calls t) (check-field-at t) check-field.Post
-  check-field-returns c = rw (← (c .before .before .before .before .check-union .ensures), c .before .before .total .given .1, c .count-at .ensures) refl
-
   check-field-returns-2 : check-field-lts.Need-returns-2 (check-field-calls t) (check-field-at t) check-field.Post
-  check-field-returns-2 c = rw (← (c .before .before .check-union .ensures), c .enum-told .given .1) refl
+  check-field-returns-2 c = rw (← (c .before .before .before .before .check-union .ensures), c .before .before .total .given .1, c .count-at .ensures) refl
+
+  check-field-returns-3 : check-field-lts.Need-returns-3 (check-field-calls t) (check-field-at t) check-field.Post
+  check-field-returns-3 c = rw (← (c .before .before .check-union .ensures), c .enum-told .given .1) refl
 
 abbrev check-fields-Inv-loop : check-fields-lts.InvT-loop
 check-fields-Inv-loop b i end left of-record label p₀ last₀ p last = Fields (under label) b i end (33 - left) of-record p last
@@ -285,6 +301,6 @@ pub +check-addend+check-field+check-fields+check-union-spec : {M : Type 1} → s
 +check-addend+check-field+check-fields+check-union-spec =
     close μ-check-addend μ-check-field μ-check-fields μ-check-union
     (λ t. check-addend-lts.spec (check-addend-calls t) (check-addend-at t) check-addend.Post (check-addend-addend-record-requires t) (check-addend-returns t) (check-addend-kind-at-requires t) (check-addend-span-at-requires t) (check-addend-add-inner-end t) (check-addend-add-check-fields t) (check-addend-count-at-requires t) (check-addend-check-fields-requires t) (check-addend-returns-2 t) (check-addend-returns-3 t) (check-addend-add-check-union t) (check-addend-sub-check-union t) (check-addend-check-union-requires t) (check-addend-enum-told t) (check-addend-enum-told-2 t) (check-addend-returns-4 t) (check-addend-returns-5 t))
-    (λ t. check-field-lts.spec (check-field-calls t) (check-field-at t) check-field.Post (check-field-add-check-union t) (check-field-check-union-requires t) (check-field-enum-known-total t) (check-field-count-at-requires t) (check-field-enum-told t) (check-field-returns t) (check-field-returns-2 t))
+    (λ t. check-field-lts.spec (check-field-calls t) (check-field-at t) check-field.Post (check-field-add-if1 t) (check-field-add-kind-at t) (check-field-kind-at-requires t) (check-field-check-scalar-requires t) (check-field-returns t) (check-field-add-check-union t) (check-field-check-union-requires t) (check-field-enum-known-total t) (check-field-count-at-requires t) (check-field-enum-told t) (check-field-returns-2 t) (check-field-returns-3 t))
     (λ t. check-fields-lts.spec (check-fields-calls t) (check-fields-at t) check-fields.Post check-fields-Inv-loop check-fields-μ-loop (check-fields-loop-holds t) (check-fields-field-fits-requires t) (check-fields-returns t) (check-fields-span-at-requires t) (check-fields-add-inner-end t) (check-fields-sub-check-field t) (check-fields-check-field-requires t) (check-fields-returns-2 t) (check-fields-key-at-requires t) (check-fields-loop-less t) (check-fields-loop-again t) (check-fields-returns-3 t))
     (λ t. check-union-lts.spec (check-union-calls t) (check-union-at t) check-union.Post check-union-Inv-loop check-union-μ-loop (check-union-loop-holds t) (check-union-check-addend-requires t) (check-union-returns t) (check-union-count-fits-requires t) (check-union-returns-2 t) (check-union-in-order-requires t) (check-union-returns-3 t) (check-union-count-at-requires t) (check-union-add-total t) (check-union-span-at-requires t) (check-union-add-p t) (check-union-loop-less t) (check-union-loop-again t) (check-union-returns-4 t))

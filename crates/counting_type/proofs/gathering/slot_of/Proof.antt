@@ -22,11 +22,11 @@ number32-requires c κs = search needs
 mul-hash : tie.Need-mul-hash Inv-loop μ-loop
 mul-hash c = search needs
 
-add-hash : tie.Need-add-hash Inv-loop μ-loop
-add-hash c = search needs
-
 mul-hash-2 : tie.Need-mul-hash-2 Inv-loop μ-loop
 mul-hash-2 c = search needs
+
+add-hash : tie.Need-add-hash Inv-loop μ-loop
+add-hash c = search needs
 
 add-hash-2 : tie.Need-add-hash-2 Inv-loop μ-loop
 add-hash-2 c = search needs
@@ -53,8 +53,8 @@ slot-of-spec =
     mul-number32
     number32-requires
     mul-hash
-    add-hash
     mul-hash-2
+    add-hash
     add-hash-2
     add-j
     loop-less
