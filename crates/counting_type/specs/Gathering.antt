@@ -1,7 +1,7 @@
 -- Messages that wait to be added, so that equal ones are added at once. A slot is a number: the record at which a message begins, and
 -- 8,192 for each message like it.
 use mathlib.Core.Path.{_≡_}
-use mathlib.Core.Bool.{Bool, true, false}
+use mathlib.Core.Bool.{false}
 use mathlib.Core.List.{List, [], _∷_}
 use Prim.Native.Nat.{ℕ, zero, suc, _+_, _*_, _/_, _%_, _≤_, _<_}
 use lib.ListN.{length, take, drop, getD}

@@ -26,6 +26,9 @@ ghost use Rattle.counting_type.specs.Gathering.{slotRaw, SameMessage, Sl
 // The slots in which messages wait.
 const SLOTS: usize = 4096;
 
+// How many records of a message are hashed.
+const HASHED: usize = 12;
+
 // What one message adds to the number in its slot; below it stands the record at which the first of them begins.
 const ONE: usize = 8192;
 
@@ -56,8 +59,15 @@ fn same_message(t: &[u8], j: usize, i: usize) -> bool
     same_records(t, j, i, span)
 }
 
-// The slot of the message in records i to end: a hash of its kinds and keys. Neighbouring keys have neighbouring slots, so that what is
-// added slot by slot comes mostly in order.
+// As many of a message's records as its slot is told from.
+fn first_records(span: usize) -> usize
+    ensures { λ r. ⌜ r ≤ span ⌝ }
+{
+    if span < HASHED { span } else { HASHED }
+}
+
+// The slot of a message, from the kinds and keys of records i to end. The hash scatters neighbouring keys, so that what is added slot by
+// slot comes in a mixed order, which costs least.
 fn slot_of(t: &[u8], i: usize, end: usize) -> usize
     requires { ⌜ (recordSize * end ≤ length (now t)) × (length (now t) ≤ maxLength) ⌝ }
     ensures { λ r. ⌜ r < 4096 ⌝ }
@@ -66,7 +76,7 @@ fn slot_of(t: &[u8], i: usize, end: usize) -> usize
     let mut j = i;
     while j < end {
         let word = number32(t, record::SIZE * j);
-        hash = (hash * 5 + (word / 65536 + word % 65536 * 331)) % SLOTS;
+        hash = (hash * 5 + (word / 65536 * 1021 + word % 65536 * 331)) % SLOTS;
         j += 1;
     }
     hash
@@ -107,7 +117,7 @@ fn take_message(
     requires { ⌜ Gathering (under label) (now t) (now a) m i (now slots) × (recordSize * i < length (now t)) × (length (now t) ≤ maxLength) × (length (now a) ≤ length (now work)) × (length (now slots) ≡ 4096) ⌝ }
     ensures { λ r. ⌜ GatheredTo (under label) (now (t .entry)) (i + spanAt (now (t .entry)) i) r (now (a .exit)) (now (slots .exit)) × (length (now (slots .exit)) ≡ 4096) ⌝ }
 {
-    let k = slot_of(t, i, i + span_at(t, i));
+    let k = slot_of(t, i, i + first_records(span_at(t, i)));
     let slot = slots[k];
     if same_message(t, slot % ONE, i) {
         slots[k] = slot + ONE;

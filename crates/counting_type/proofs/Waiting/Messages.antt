@@ -1,14 +1,13 @@
 -- The message at a record of a table, and another one of the same bytes.
 use mathlib.Core.Path.{_≡_, refl, sym, _∙_, ap}
-use mathlib.Core.Bool.{false, true≢false}
+use mathlib.Core.Bool.{false}
 use mathlib.Core.List.{List, _++_}
-use Prim.Native.Nat.{ℕ, _+_, _*_, _≤_, _<_}
+use Prim.Native.Nat.{ℕ, _+_, _*_, _≤_}
 use native.Mathlib.Omega.{arith}
 use lib.ListN.{length, take, drop}
 use lib.Seq.{take-add, take-at, drop-drop}
 use Rattle.value_table.specs.Number.{bytesOf, numberAt, Bytes}
-use Rattle.value_table.specs.Value.{recordSize, maxLength, spanAt, Values, none, value, size, encode, count, ValidAt}
-use Rattle.value_table.specs.Judged.{messages}
+use Rattle.value_table.specs.Value.{recordSize, maxLength, Values, none, value, size, count, ValidAt}
 use Rattle.value_table.specs.Acceptance.{Table}
 use Rattle.value_table.proofs.Acceptance.{unique}
 use Rattle.value_table.proofs.Number.{length-bytesOf}

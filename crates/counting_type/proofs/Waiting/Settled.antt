@@ -5,7 +5,7 @@ use mathlib.Core.List.{List, [], _∷_, _++_}
 use mathlib.Core.Option.{Option, none}
 use Prim.Native.Nat.{ℕ, zero, suc, _+_, _*_, _≤_, _<_}
 use native.Mathlib.Omega.{arith}
-use lib.ListN.{length, drop, getD, replicate, length-replicate, getD-replicate}
+use lib.ListN.{length, replicate, length-replicate, getD-replicate}
 use Rattle.value_table.specs.Value.{recordSize, maxLength}
 use Rattle.value_table.specs.Judged.{messages}
 use Rattle.counting_theory.specs.Trie.{nil, _⊞_ as joinOption, lookup, size, add}
@@ -15,11 +15,11 @@ use Rattle.counting_theory.specs.Encoding.{typeSize}
 use Rattle.counting_theory.specs.Encoding as bytes
 use Rattle.counting_theory.proofs.Label.{counting-laws}
 use Rattle.counting_theory.proofs.Trie.Join.{⊞-none}
-use Rattle.counting_type.specs.Inferring.{AcceptedTable, Holds, Grown}
+use Rattle.counting_type.specs.Inferring.{AcceptedTable, Grown}
 use Rattle.counting_type.specs.Gathering.{slotStart, slotCount, slotRaw, waiting, Slot, Gathering}
 use Rattle.counting_type.proofs.InPlace.Runs.{none-left}
 use Rattle.counting_type.proofs.InPlace.Whole.{holds-nothing}
-use Rattle.counting_type.proofs.Waiting.Slots.{slot-gives, waiting-gives, waiting-cons, slot-empty}
+use Rattle.counting_type.proofs.Waiting.Slots.{waiting-gives, waiting-cons, slot-empty}
 use Rattle.counting_type.proofs.Waiting.Turns.{is-profile, added-sibling, grown-holds, added-same, slot-full}
 
 infixr 66 _⊞_

@@ -3,7 +3,7 @@ use mathlib.Core.Path.{_≡_, refl, sym, _∙_, ap}
 use mathlib.Core.Bool.{false}
 use mathlib.Core.List.{List, [], _∷_}
 use mathlib.Core.Option.{Option, none}
-use Prim.Native.Nat.{ℕ, zero, suc, _+_, _*_, _/_, _%_, _≤_, _<_}
+use Prim.Native.Nat.{ℕ, zero, suc, _+_, _/_, _%_, _<_}
 use native.Mathlib.Numerals.{add-one}
 use native.Mathlib.Omega.{arith}
 use lib.ListN.{length, getD, set}
@@ -11,7 +11,7 @@ use Rattle.counting_theory.specs.Trie.{_⊞_ as joinOption, lookup}
 use Rattle.counting_theory.specs.Label.{Equivalence, Label, Counting}
 use Rattle.counting_theory.specs.Raw.{raw}
 use Rattle.counting_theory.proofs.Label.{counting-laws}
-use Rattle.counting_theory.proofs.Trie.Join.{⊞-none, ⊞-comm, ⊞-assoc, ⊞-left-comm}
+use Rattle.counting_theory.proofs.Trie.Join.{⊞-comm, ⊞-assoc, ⊞-left-comm}
 use Rattle.counting_theory.proofs.Trie.Lookup.{lookup-append}
 use Rattle.counting_type.specs.Inferring.{times}
 use Rattle.counting_type.specs.Gathering.{slotStart, slotCount, messageAt, gathered, slotRaw, waiting}

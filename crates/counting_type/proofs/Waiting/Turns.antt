@@ -1,14 +1,13 @@
 -- Messages are taken into their slots one after the other, and what waits in a slot is added to the arena.
 use mathlib.Core.Path.{_≡_, refl, sym, _∙_, ap}
 use mathlib.Core.Bool.{false}
-use mathlib.Core.List.{List, [], _∷_, _++_}
-use mathlib.Core.Option.{Option, none}
-use Prim.Native.Nat.{ℕ, zero, suc, _+_, _*_, _/_, _%_, _≤_, _<_}
+use mathlib.Core.List.{List, [], _∷_}
+use mathlib.Core.Option.{Option}
+use Prim.Native.Nat.{ℕ, zero, suc, _+_, _*_, _≤_, _<_}
 use native.Mathlib.Nat.{one-mul, add-mul}
 use native.Mathlib.Omega.{arith}
-use lib.ListN.{length, drop, getD, set, length-set}
-use Rattle.value_table.specs.Value.{recordSize, maxLength, spanAt, Values, value}
-use Rattle.value_table.specs.Value as values
+use lib.ListN.{length, getD, set}
+use Rattle.value_table.specs.Value.{recordSize, maxLength, spanAt, Values}
 use Rattle.value_table.specs.Judged.{messages}
 use Rattle.counting_theory.specs.Trie.{_⊞_ as joinOption, lookup, size, add, append, Sorted}
 use Rattle.counting_theory.specs.Label.{Equivalence, Label, Counting, CountingType}

@@ -6,7 +6,6 @@ use borrow.Author.Tests.{not-true, not-false}
 use Rattle.counting_theory.specs.Encoding.{typeCount}
 use Rattle.counting_type.specs.Checker.{hasTotal}
 use Rattle.counting_type.proofs.OnePass.Loops.{in-table, wrong-scalar, wrong-scalar-count, scalar-total}
-use borrow.Author.Needs.{needs}
 use Rattle.counting_type.proofs.checker.check_scalar.Statement.{statement}
 use Rattle.counting_type.proofs.checker.check_scalar.Tie as tie
 

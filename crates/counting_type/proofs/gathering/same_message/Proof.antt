@@ -4,7 +4,6 @@ use mathlib.Core.Bool.{true≢false}
 use Prim.Native.Nat.{_*_}
 use native.Mathlib.Omega.{arith}
 use lib.ListN.{take, drop}
-use borrow.Author.Needs.{needs}
 use Rattle.counting_type.proofs.gathering.same_message.Statement.{statement}
 use Rattle.counting_type.proofs.gathering.same_message.Tie as tie
 

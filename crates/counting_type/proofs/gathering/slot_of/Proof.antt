@@ -25,6 +25,9 @@ mul-hash c = search needs
 mul-hash-2 : tie.Need-mul-hash-2 Inv-loop μ-loop
 mul-hash-2 c = search needs
 
+mul-hash-3 : tie.Need-mul-hash-3 Inv-loop μ-loop
+mul-hash-3 c = search needs
+
 add-hash : tie.Need-add-hash Inv-loop μ-loop
 add-hash c = search needs
 
@@ -54,6 +57,7 @@ slot-of-spec =
     number32-requires
     mul-hash
     mul-hash-2
+    mul-hash-3
     add-hash
     add-hash-2
     add-j
