@@ -1,8 +1,9 @@
 //! Compares two versions of a call: both must leave the same answers and bytes, or their times say nothing.
 
-use crate::pair::{Answer, Buffers, Inputs, Pair, Workload};
+use crate::pair::{Buffers, Inputs, Pair, Workload};
 use crate::sequence::Sequence;
 use crate::type_validator::{MAX_TOTAL, SIZE as TYPE_RECORD};
+use ct::raw::Answer;
 
 /// The largest allowed arena.
 pub const ROOM: usize = 65_536;

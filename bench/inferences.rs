@@ -1,70 +1,28 @@
 //! Calls 2 and 3, which infer types, beside a plain inference.
 
-use crate::pair::{Answer, Buffers, Inputs, Pair, Workload, KIND, LABEL};
+use crate::pair::{accepted, refused, Buffers, Inputs, Pair, Workload, KIND, LABEL};
 use crate::plain_inference;
 use crate::sequence::shuffled;
 use crate::tables::{
     fifty_shapes, matrices, messages, nested, one_field_shapes, varied, with_keys,
 };
-
-extern "C" {
-    fn ct_infer(
-        table: *const u8,
-        table_length: usize,
-        equivalence: u64,
-        arena: *mut u8,
-        arena_length: usize,
-        work: *mut u8,
-        work_length: usize,
-    ) -> Answer;
-    fn ct_infer_default(
-        table: *const u8,
-        table_length: usize,
-        arena: *mut u8,
-        arena_length: usize,
-        work: *mut u8,
-        work_length: usize,
-    ) -> Answer;
-}
+use ct::raw::{self, Answer};
 
 fn proved(inputs: &Inputs, buffers: &mut Buffers) -> Answer {
-    let table = &inputs.first;
     let Buffers { arena, work } = buffers;
-    // The pointers and the lengths are those of slices that are lent for the call.
-    unsafe {
-        ct_infer(
-            table.as_ptr(),
-            table.len(),
-            inputs.equivalence,
-            arena.as_mut_ptr(),
-            arena.len(),
-            work.as_mut_ptr(),
-            work.len(),
-        )
-    }
+    raw::infer(&inputs.first, inputs.equivalence, arena, work)
 }
 
 fn proved_default(inputs: &Inputs, buffers: &mut Buffers) -> Answer {
-    let table = &inputs.first;
     let Buffers { arena, work } = buffers;
-    // As above.
-    unsafe {
-        ct_infer_default(
-            table.as_ptr(),
-            table.len(),
-            arena.as_mut_ptr(),
-            arena.len(),
-            work.as_mut_ptr(),
-            work.len(),
-        )
-    }
+    raw::infer_default(&inputs.first, arena, work)
 }
 
 fn plain_under(equivalence: u64, inputs: &Inputs, buffers: &mut Buffers) -> Answer {
     let Buffers { arena, work } = buffers;
     match plain_inference::infer(&inputs.first, equivalence, arena, work) {
-        Ok(records) => Answer::accepted(records),
-        Err((number, place)) => Answer::refused(number, place),
+        Ok(records) => accepted(records),
+        Err((number, place)) => refused(number, place),
     }
 }
 

@@ -1,38 +1,30 @@
 //! Calls 1 and 4, which judge tables and types, beside plain validators.
 
-use crate::pair::{Answer, Buffers, Inputs, Pair, Workload, KIND, LABEL};
+use crate::pair::{accepted, refused, Buffers, Inputs, Pair, Workload, KIND, LABEL};
 use crate::tables::{flat, messages, nested, with_keys};
 use crate::types::{deep, fields, lists, records};
 use crate::{type_validator, validator};
-
-extern "C" {
-    fn ct_judge_table(table: *const u8, length: usize) -> Answer;
-    fn ct_judge_type(bytes: *const u8, length: usize, equivalence: u64) -> Answer;
-}
+use ct::raw::{self, Answer};
 
 fn proved_table(inputs: &Inputs, _: &mut Buffers) -> Answer {
-    let table = &inputs.first;
-    // The pointer and the length are those of a slice that is lent for the call.
-    unsafe { ct_judge_table(table.as_ptr(), table.len()) }
+    raw::judge_table(&inputs.first)
 }
 
 fn plain_table(inputs: &Inputs, _: &mut Buffers) -> Answer {
     match validator::validate(&inputs.first) {
-        Ok(messages) => Answer::accepted(messages),
-        Err((number, place)) => Answer::refused(number, place),
+        Ok(messages) => accepted(messages),
+        Err((number, place)) => refused(number, place),
     }
 }
 
 fn proved_type(inputs: &Inputs, _: &mut Buffers) -> Answer {
-    let bytes = &inputs.first;
-    // As above.
-    unsafe { ct_judge_type(bytes.as_ptr(), bytes.len(), inputs.equivalence) }
+    raw::judge_type(&inputs.first, inputs.equivalence)
 }
 
 fn plain_type(inputs: &Inputs, _: &mut Buffers) -> Answer {
     match type_validator::validate(&inputs.first, inputs.equivalence) {
-        Ok(records) => Answer::accepted(records),
-        Err(number) => Answer::refused(number, 0),
+        Ok(records) => accepted(records),
+        Err(number) => refused(number, 0),
     }
 }
 

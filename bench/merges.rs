@@ -1,21 +1,10 @@
 //! Call 5, which merges types, beside a plain merge. Where the inputs don't have all their records in common they are half as large, so
 //! that the merged type fits the largest arena.
 
-use crate::pair::{Answer, Buffers, Inputs, Pair, Workload, KIND, LABEL};
+use crate::pair::{accepted, refused, Buffers, Inputs, Pair, Workload, KIND, LABEL};
 use crate::plain_merge;
 use crate::types::{deep, fields, lists, records};
-
-extern "C" {
-    fn ct_merge(
-        first: *const u8,
-        first_length: usize,
-        second: *const u8,
-        second_length: usize,
-        equivalence: u64,
-        arena: *mut u8,
-        arena_length: usize,
-    ) -> Answer;
-}
+use ct::raw::{self, Answer};
 
 fn proved(inputs: &Inputs, buffers: &mut Buffers) -> Answer {
     let Inputs {
@@ -23,19 +12,7 @@ fn proved(inputs: &Inputs, buffers: &mut Buffers) -> Answer {
         second,
         equivalence,
     } = inputs;
-    let arena = &mut buffers.arena;
-    // The pointers and the lengths are those of slices that are lent for the call.
-    unsafe {
-        ct_merge(
-            first.as_ptr(),
-            first.len(),
-            second.as_ptr(),
-            second.len(),
-            *equivalence,
-            arena.as_mut_ptr(),
-            arena.len(),
-        )
-    }
+    raw::merge(first, second, *equivalence, &mut buffers.arena)
 }
 
 fn plain(inputs: &Inputs, buffers: &mut Buffers) -> Answer {
@@ -45,8 +22,8 @@ fn plain(inputs: &Inputs, buffers: &mut Buffers) -> Answer {
         equivalence,
     } = inputs;
     match plain_merge::merge(first, second, *equivalence, &mut buffers.arena) {
-        Ok(records) => Answer::accepted(records),
-        Err(number) => Answer::refused(number, 0),
+        Ok(records) => accepted(records),
+        Err(number) => refused(number, 0),
     }
 }
 

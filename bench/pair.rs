@@ -1,29 +1,20 @@
 //! A call of the library beside the same call in plain Rust.
 
-/// Refusal number, place, count.
-#[repr(C)]
-#[derive(Clone, Copy, Debug, PartialEq)]
-pub struct Answer {
-    pub number: u64,
-    pub place: u64,
-    pub count: u64,
+use ct::raw::Answer;
+
+pub fn accepted(count: usize) -> Answer {
+    Answer {
+        number: 0,
+        place: 0,
+        count: count as u64,
+    }
 }
 
-impl Answer {
-    pub fn accepted(count: usize) -> Self {
-        Answer {
-            number: 0,
-            place: 0,
-            count: count as u64,
-        }
-    }
-
-    pub fn refused(number: u64, place: usize) -> Self {
-        Answer {
-            number,
-            place: place as u64,
-            count: 0,
-        }
+pub fn refused(number: u64, place: usize) -> Answer {
+    Answer {
+        number,
+        place: place as u64,
+        count: 0,
     }
 }
 
