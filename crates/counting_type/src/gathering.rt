@@ -3,15 +3,15 @@ use crate::Answered;
 use crate::Refusal;
 use crate::inferring::Inferred;
 use crate::inferring::add_run;
+use crate::repeats::equal_records;
 use value_table::little_endian::number32;
-use value_table::little_endian::number64;
 use value_table::record;
 use value_table::record::span_at;
 ghost use mathlib.Core.Path.{_≡_};
 ghost use mathlib.Core.Bool.{true, false};
 ghost use mathlib.Core.List.{List, []};
 ghost use Prim.Native.Nat.{ℕ, _+_, _*_, _≤_, _<_};
-ghost use lib.ListN.{length, take, drop, replicate};
+ghost use lib.ListN.{length, replicate};
 ghost use Rattle.value_table.specs.Value.{maxLength, recordSize, records, spanAt};
 ghost use Rattle.value_table.specs.Judged.{messages};
 ghost use Rattle.counting_theory.specs.Trie.{add};
@@ -24,28 +24,13 @@ ghost use Rattle.counting_type.specs.Inferring.{AcceptedTable, Holds, He
 ghost use Rattle.counting_type.specs.Gathering.{slotRaw, SameMessage, Slot, Gathering, GatheredTo};
 
 // The slots in which messages wait.
-const SLOTS: usize = 4096;
+const SLOTS: usize = 2048;
 
 // How many records of a message are hashed.
 const HASHED: usize = 12;
 
 // What one message adds to the number in its slot; below it stands the record at which the first of them begins.
 const ONE: usize = 8192;
-
-// Whether n records from j on are like those from i on.
-fn same_records(t: &[u8], j: usize, i: usize, n: usize) -> bool
-    requires { ⌜ (recordSize * (j + n) ≤ length (now t)) × (recordSize * (i + n) ≤ length (now t)) × (length (now t) ≤ maxLength) ⌝ }
-    ensures { λ r. ⌜ (r ≡ true → take (recordSize * n) (drop (recordSize * j) (now (t .entry))) ≡ take (recordSize * n) (drop (recordSize * i) (now (t .entry)))) ⌝ }
-{
-    let mut k = 0;
-    while k < n {
-        if number64(t, record::SIZE * (j + k)) != number64(t, record::SIZE * (i + k)) {
-            return false;
-        }
-        k += 1;
-    }
-    true
-}
 
 // Whether the messages at records j and i have the same bytes.
 fn same_message(t: &[u8], j: usize, i: usize) -> bool
@@ -56,7 +41,7 @@ fn same_message(t: &[u8], j: usize, i: usize) -> bool
     if span_at(t, j) != span {
         return false;
     }
-    same_records(t, j, i, span)
+    span <= equal_records(t, j, i, i + span)
 }
 
 // As many of a message's records as its slot is told from.
@@ -70,7 +55,7 @@ fn first_records(span: usize) -> usize
 // slot comes in a mixed order, which costs least.
 fn slot_of(t: &[u8], i: usize, end: usize) -> usize
     requires { ⌜ (recordSize * end ≤ length (now t)) × (length (now t) ≤ maxLength) ⌝ }
-    ensures { λ r. ⌜ r < 4096 ⌝ }
+    ensures { λ r. ⌜ r < 2048 ⌝ }
 {
     let mut hash = 0;
     let mut j = i;
@@ -110,12 +95,12 @@ fn take_message(
     m: usize,
     t: &[u8],
     i: usize,
-    slots: &mut [usize; 4096],
+    slots: &mut [usize; 2048],
     label: bool,
     work: &mut [u8],
 ) -> Inferred
-    requires { ⌜ Gathering (under label) (now t) (now a) m i (now slots) × (recordSize * i < length (now t)) × (length (now t) ≤ maxLength) × (length (now a) ≤ length (now work)) × (length (now slots) ≡ 4096) ⌝ }
-    ensures { λ r. ⌜ GatheredTo (under label) (now (t .entry)) (i + spanAt (now (t .entry)) i) r (now (a .exit)) (now (slots .exit)) × (length (now (slots .exit)) ≡ 4096) ⌝ }
+    requires { ⌜ Gathering (under label) (now t) (now a) m i (now slots) × (recordSize * i < length (now t)) × (length (now t) ≤ maxLength) × (length (now a) ≤ length (now work)) × (length (now slots) ≡ 2048) ⌝ }
+    ensures { λ r. ⌜ GatheredTo (under label) (now (t .entry)) (i + spanAt (now (t .entry)) i) r (now (a .exit)) (now (slots .exit)) × (length (now (slots .exit)) ≡ 2048) ⌝ }
 {
     let k = slot_of(t, i, i + first_records(span_at(t, i)));
     let slot = slots[k];
@@ -131,12 +116,12 @@ fn take_message(
 fn gather(
     a: &mut [u8],
     t: &[u8],
-    slots: &mut [usize; 4096],
+    slots: &mut [usize; 2048],
     label: bool,
     work: &mut [u8],
 ) -> Inferred
-    requires { ⌜ AcceptedTable (now t) × (length (now a) ≤ maxLength) × (length (now a) ≤ length (now work)) × (now slots ≡ replicate 4096 0) ⌝ }
-    ensures { λ r. ⌜ GatheredTo (under label) (now (t .entry)) (records (now (t .entry))) r (now (a .exit)) (now (slots .exit)) × (length (now (slots .exit)) ≡ 4096) ⌝ }
+    requires { ⌜ AcceptedTable (now t) × (length (now a) ≤ maxLength) × (length (now a) ≤ length (now work)) × (now slots ≡ replicate 2048 0) ⌝ }
+    ensures { λ r. ⌜ GatheredTo (under label) (now (t .entry)) (records (now (t .entry))) r (now (a .exit)) (now (slots .exit)) × (length (now (slots .exit)) ≡ 2048) ⌝ }
 {
     let end = t.len() / record::SIZE;
     let mut m = 0;
@@ -156,11 +141,11 @@ fn settle(
     a: &mut [u8],
     m: usize,
     t: &[u8],
-    slots: &[usize; 4096],
+    slots: &[usize; 2048],
     label: bool,
     work: &mut [u8],
 ) -> Inferred
-    requires { ⌜ AcceptedTable (now t) × Gathering (under label) (now t) (now a) m (records (now t)) (now slots) × (length (now a) ≤ length (now work)) × (length (now slots) ≡ 4096) ⌝ }
+    requires { ⌜ AcceptedTable (now t) × Gathering (under label) (now t) (now a) m (records (now t)) (now slots) × (length (now a) ≤ length (now work)) × (length (now slots) ≡ 2048) ⌝ }
     ensures { λ r. ⌜ Added (profileOf (under label) (messages (now (t .entry)))) [] 0 r (now (a .exit)) ⌝ }
 {
     let mut n = m;
@@ -180,7 +165,7 @@ fn add_messages(a: &mut [u8], t: &[u8], label: bool, work: &mut [u8]) -> Inferre
     requires { ⌜ AcceptedTable (now t) × (length (now a) ≤ maxLength) × (length (now a) ≤ length (now work)) ⌝ }
     ensures { λ r. ⌜ Added (profileOf (under label) (messages (now (t .entry)))) [] 0 r (now (a .exit)) ⌝ }
 {
-    let mut slots = [0usize; 4096];
+    let mut slots = [0usize; 2048];
     let Inferred::Records(m) = gather(a, t, &mut slots, label, work) else {
         return Inferred::Full;
     };

@@ -6,12 +6,11 @@ ghost use lib.ListN.{length};
 ghost use Rattle.value_table.specs.Value.{recordSize};
 ghost use Rattle.counting_type.specs.Inferring.{EqualRecords};
 
-// How many records from i on equal those from j on, one by one.
-fn equal_records(t: &[u8], i: usize, j: usize) -> usize
-    requires { ⌜ (i ≤ j) × (recordSize * j ≤ length (now t)) ⌝ }
+// How many records from i on equal those from j on, one by one, up to record `end`.
+pub fn equal_records(t: &[u8], i: usize, j: usize, end: usize) -> usize
+    requires { ⌜ (i ≤ j) × (j ≤ end) × (recordSize * end ≤ length (now t)) ⌝ }
     ensures { λ r. ⌜ EqualRecords (now (t .entry)) i j r ⌝ }
 {
-    let end = t.len() / record::SIZE;
     let mut n = 0;
     while j + n < end {
         if number64(t, record::SIZE * (i + n)) != number64(t, record::SIZE * (j + n)) {
@@ -28,7 +27,7 @@ pub fn equal_values(t: &[u8], i: usize, next: usize) -> usize
     ensures { λ r. ⌜ EqualRecords (now (t .entry)) i next ((next - i) * r) ⌝ }
 {
     let span = next - i;
-    let n = equal_records(t, i, next);
+    let n = equal_records(t, i, next, t.len() / record::SIZE);
     if n < span {
         return 0;
     }

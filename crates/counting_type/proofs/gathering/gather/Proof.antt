@@ -15,7 +15,7 @@ use Rattle.counting_type.proofs.gathering.gather.Tie as tie
 
 abbrev Inv-loop : tie.InvT-loop
 Inv-loop a₀ t slots₀ label work₀ end m₀ i₀ a slots work m i =
-    Gathering (under label) t a m i slots × (length slots ≡ 4096) × (length a ≡ length a₀) × (length work ≡ length work₀) × (i ≤ end)
+    Gathering (under label) t a m i slots × (length slots ≡ 2048) × (length a ≡ length a₀) × (length work ≡ length work₀) × (i ≤ end)
 
 abbrev μ-loop : tie.MeasureT-loop
 μ-loop a₀ t slots₀ label work₀ end m₀ i₀ a slots work m i = end - i
@@ -23,7 +23,7 @@ abbrev μ-loop : tie.MeasureT-loop
 loop-holds : tie.Need-loop-holds Inv-loop μ-loop
 loop-holds c =
     let s = c .before .before .before .pre in
-    (gathering-start _ _ (s .0) _ _ 4096 (s .1) (s .3), ap length (s .3) ∙ length-replicate {A = ℕ} 4096 0, refl, refl, omega arith)
+    (gathering-start _ _ (s .0) _ _ 2048 (s .1) (s .3), ap length (s .3) ∙ length-replicate {A = ℕ} 2048 0, refl, refl, omega arith)
 
 take-message-requires : tie.Need-take-message-requires Inv-loop μ-loop
 take-message-requires c κs =

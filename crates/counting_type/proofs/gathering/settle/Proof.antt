@@ -18,10 +18,10 @@ use Rattle.counting_type.proofs.gathering.settle.Tie as tie
 
 abbrev Inv-loop : tie.InvT-loop
 Inv-loop a₀ m t slots label work₀ n₀ k₀ a work n k =
-    Gathering (under label) t a n (records t) (drop k slots) × (k ≤ 4096) × (length a ≡ length a₀) × (length work ≡ length work₀)
+    Gathering (under label) t a n (records t) (drop k slots) × (k ≤ 2048) × (length a ≡ length a₀) × (length work ≡ length work₀)
 
 abbrev μ-loop : tie.MeasureT-loop
-μ-loop a₀ m t slots label work₀ n₀ k₀ a work n k = 4096 - k
+μ-loop a₀ m t slots label work₀ n₀ k₀ a work n k = 2048 - k
 
 loop-holds : tie.Need-loop-holds Inv-loop μ-loop
 loop-holds c = (c .before .before .before .pre .1, omega arith, refl, refl)

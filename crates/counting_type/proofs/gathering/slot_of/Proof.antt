@@ -5,7 +5,7 @@ use Rattle.counting_type.proofs.gathering.slot_of.Statement.{statement}
 use Rattle.counting_type.proofs.gathering.slot_of.Tie as tie
 
 abbrev Inv-loop : tie.InvT-loop
-Inv-loop t i end hash₀ j₀ hash j = hash < 4096
+Inv-loop t i end hash₀ j₀ hash j = hash < 2048
 
 abbrev μ-loop : tie.MeasureT-loop
 μ-loop t i end hash₀ j₀ hash j = end - j

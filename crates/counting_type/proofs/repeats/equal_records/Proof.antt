@@ -1,8 +1,7 @@
 -- `equal_records` meets its contract.
-use mathlib.Core.Path.{_≡_, refl, sym, _∙_}
-use Prim.Native.Nat.{_/_, _-_}
+use mathlib.Core.Path.{sym, _∙_}
+use Prim.Native.Nat.{_-_}
 use native.Mathlib.Omega.{arith}
-use lib.ListN.{length}
 use borrow.Author.Needs.{needs}
 use Rattle.counting_type.specs.Inferring.{EqualRecords}
 use Rattle.counting_type.proofs.InPlace.Repeats.{equal-none, equal-next}
@@ -10,13 +9,13 @@ use Rattle.counting_type.proofs.repeats.equal_records.Statement.{statem
 use Rattle.counting_type.proofs.repeats.equal_records.Tie as tie
 
 abbrev Inv-loop : tie.InvT-loop
-Inv-loop t i j end n₀ n = (end ≡ length t / 8) × EqualRecords t i j n
+Inv-loop t i j end n₀ n = EqualRecords t i j n
 
 abbrev μ-loop : tie.MeasureT-loop
 μ-loop t i j end n₀ n = end - n
 
 loop-holds : tie.Need-loop-holds Inv-loop μ-loop
-loop-holds c = (refl, equal-none (c .before .pre .1))
+loop-holds c = let s = c .before .pre in equal-none (omega (arith, s .1, s .2))
 
 add-loop : tie.Need-add-loop Inv-loop μ-loop
 add-loop c = search needs
@@ -40,7 +39,7 @@ number64-requires-2 : tie.Need-number64-requires-2 Inv-loop μ-loop
 number64-requires-2 c κs = search needs
 
 returns : tie.Need-returns Inv-loop μ-loop
-returns c = c .before .before .before .before .loop .inv .1
+returns c = c .before .before .before .before .loop .inv
 
 add-n : tie.Need-add-n Inv-loop μ-loop
 add-n c = search needs
@@ -51,10 +50,10 @@ loop-less c = search needs
 loop-again : tie.Need-loop-again Inv-loop μ-loop
 loop-again c =
     let v = c .before .before .before .before .loop .inv in
-    (v .0, equal-next _ (v .1) (omega (arith, c .before .before .before .loop-test .taken, v .0)) (sym (c .before .before .number64 .ensures) ∙ c .if1 .left ∙ c .before .number642 .ensures))
+    equal-next _ v (omega (arith, c .before .before .before .loop-test .taken, c .before .before .before .before .before .before .pre .2)) (sym (c .before .before .number64 .ensures) ∙ c .if1 .left ∙ c .before .number642 .ensures)
 
 returns-2 : tie.Need-returns-2 Inv-loop μ-loop
-returns-2 c = c .before .loop .inv .1
+returns-2 c = c .before .loop .inv
 
 pub equal-records-spec : {M : Type 1} → statement M
 equal-records-spec =
