@@ -5,5 +5,4 @@ pub mod Sorted
 pub mod Canonical
 pub mod Profile
 pub mod Growth
-pub mod Prefix
 pub mod Sizes

@@ -40,12 +40,6 @@ module _ {L P : Type 0} where
   size nil = 0
   size (node l a c s) = 1 + (size c + size s)
 
-  -- f is g without the ends of some lists of siblings, as where g has been read in part
-  abbrev pub Prefix : Forest L P → Forest L P → Type 0
-  Prefix nil g = Unit {0}
-  Prefix (node l a c s) nil = ⊥
-  Prefix (node l a c s) (node k b d t) = (l ≡ k) × (a ≡ b) × Prefix c d × Prefix s t
-
   -- a node's payload where the path ends, else what its children give
   unfoldable pub atEnd : P → Option P → List L → Option P
   atEnd a below [] = some a

@@ -8,7 +8,7 @@ use lib.Dec.{eqb, leb, ltb}
 use lib.ListN.{length}
 use Rattle.value_table.specs.Number.{Bytes}
 use Rattle.value_table.specs.Value.{maxLength, maxDepth, recordKind, arrayKind, lastScalar}
-use Rattle.counting_theory.specs.Trie.{nil, node, size, Sorted, total, largestTotal}
+use Rattle.counting_theory.specs.Trie.{nil, node, size, reduce, Sorted, total, largestTotal}
 use Rattle.counting_theory.specs.Label.{Equivalence, byKind, byLabel, Label, fieldKind, compareLabel, Counting, CountingType}
 use Rattle.counting_theory.specs.Place.{FieldTotals}
 use Rattle.counting_theory.specs.Encoding.{typeSize, typeRecords, typeKind, typeZero, typeKey, typeSpan, encode, typeOf, Tagged}
@@ -130,3 +130,9 @@ WellFormedIsType = (e : Equivalence) (b : List ℕ) → Bytes b → badTypeLengt
 
 abbrev pub TypeUnique : Type 0
 TypeUnique = (e : Equivalence) (b : List ℕ) (f : CountingType) → IsType e b f → f ≡ typeOf e b
+
+-- within the limits the reduced type of two is well formed again
+abbrev pub ReduceIsType : Type 0
+ReduceIsType = (e : Equivalence) (a b : List ℕ) (f g : CountingType) → IsType e a f → IsType e b g →
+    typeSize * size (reduce Counting f g) ≤ maxLength → largestTotal Counting (reduce Counting f g) ≤ maxTotal →
+    IsType e (encode (reduce Counting f g)) (reduce Counting f g)

@@ -1,5 +1,5 @@
 -- Reading by the spans gives back the type that was written.
-use mathlib.Core.Path.{_≡_, refl, sym, _∙_, ap}
+use mathlib.Core.Path.{_≡_, refl, sym, ap}
 use mathlib.Core.Bool.{Bool}
 use mathlib.Core.List.{List, _++_, append-nil}
 use Prim.Native.Nat.{ℕ, zero, suc, _+_, _*_, _/_, _≤_}
@@ -45,9 +45,6 @@ module _ (eq : Equivalence) where
       let n : length (encode f) / typeSize ≡ size f = omega (arith, length-encode f) in
       rw n (decode-run (encode f) (size f) 0 (size f) field f t fit (omega arith)
       (rw (← length-encode f, drop-length) (sym (append-nil _))) (omega arith))
-
-  pub encode-injective : (field : Bool) (f g : CountingType) → Tagged eq field f → Fitting f → Tagged eq field g → Fitting g → encode f ≡ encode g → f ≡ g
-  encode-injective field f g t fit t′ fit′ e = sym (decode-encode field f t fit) ∙ ap (typeOf eq) e ∙ decode-encode field g t′ fit′
 
 pub encode-same-map : (f g : CountingType) → Sorted Counting f → Sorted Counting g → SameMap Counting f g → encode f ≡ encode g
 encode-same-map f g u v h = ap encode (canonical counting-laws u v h)

@@ -8,7 +8,7 @@ use Rattle.counting_theory.specs.Trie.{size, reduce, largestTotal}
 use Rattle.counting_theory.specs.Label.{Equivalence, Counting, CountingType}
 use Rattle.counting_theory.specs.Raw.{raw, profileOf}
 use Rattle.counting_theory.specs.Encoding.{typeSize, encode}
-use Rattle.counting_theory.specs.WellFormed.{maxTotal, IsType}
+use Rattle.counting_theory.specs.WellFormed.{maxTotal, IsType, ReduceIsType}
 use Rattle.counting_theory.proofs.Trie.Sorted.{sorted-profile, sorted-reduce}
 use Rattle.counting_theory.proofs.Label.{counting-laws}
 use Rattle.counting_theory.proofs.Tagged.Profile.{tagged-profile}
@@ -38,10 +38,8 @@ profile-type e messages valid room limit =
 type-nodes : {e : Equivalence} {b : List ℕ} {f : CountingType} → IsType e b f → EachNode e false 1 f
 type-nodes {e} {f = f} t = each-node e false 1 f (t .shallow) (t .counts) (t .fields)
 
-pub reduce-type : {e : Equivalence} {a b : List ℕ} {f g : CountingType} → IsType e a f → IsType e b g →
-    typeSize * size (reduce Counting f g) ≤ maxLength → largestTotal Counting (reduce Counting f g) ≤ maxTotal →
-    IsType e (encode (reduce Counting f g)) (reduce Counting f g)
-reduce-type {e} {f = f} {g = g} t u room limit =
+pub reduce-type : ReduceIsType
+reduce-type e a b f g t u room limit =
     let each : EachNode e false 1 (reduce Counting f g) = each-reduce e false 1 f g (t .tagged) (u .tagged) (type-nodes t) (type-nodes u) in
     record {
       bytes = refl;
