@@ -10,6 +10,7 @@ pub mod Nested
 pub mod Rest
 pub mod Walked
 pub mod Siblings
+pub mod Latest
 pub mod Levels
 pub mod Turns
 pub mod Acceptance

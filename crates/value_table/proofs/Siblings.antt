@@ -15,7 +15,7 @@ member-head : {key x : ℕ} (xs : List ℕ) → key ≡ x → member key (x ∷ 
 unfolding member
 member-head {key} {x} xs e = rw (eq-eqb key x e) refl
 
-member-tail : {key x : ℕ} (xs : List ℕ) → (key ≡ x → ⊥) → member key (x ∷ xs) ≡ member key xs
+pub member-tail : {key x : ℕ} (xs : List ℕ) → (key ≡ x → ⊥) → member key (x ∷ xs) ≡ member key xs
 unfolding member
 member-tail {key} {x} xs n = rw (ne-eqb key x n) refl
 

@@ -2,9 +2,9 @@
 use mathlib.Core.Path.{_≡_}
 use mathlib.Core.Bool.{Bool, true, false, cond}
 use mathlib.Core.List.{List, [], _∷_}
-use Prim.Native.Nat.{ℕ, zero, suc, _+_, _≤_, _<_}
+use Prim.Native.Nat.{ℕ, zero, suc, _+_, _%_, _≤_, _<_}
 use lib.Dec.{eqb}
-use lib.ListN.{getD}
+use lib.ListN.{length, getD}
 use Rattle.value_table.specs.Value.{keyAt, spanAt, recordKind}
 use Rattle.value_table.specs.Judged.{fault}
 
@@ -26,6 +26,15 @@ pub record Parent (b : List ℕ) (i first : ℕ) : Type 0 where
   pub isField : Bool
   pub keys : List ℕ
   pub before : Before b i first isField keys
+
+-- how many buckets the keys are spread over, by their remainders
+abbrev pub keyBuckets : ℕ
+keyBuckets = 64
+
+-- each bucket has the latest of its records before i, or a number above them
+pub record Latest (b : List ℕ) (i : ℕ) (latest : List ℕ) : Type 0 where
+  pub buckets : length latest ≡ keyBuckets
+  pub upto : (q : ℕ) → q < i → q ≤ getD latest (keyAt b q % keyBuckets) 0
 
 -- x is the fault of record i at this depth, whose parent ends at `end`
 abbrev pub FaultIs : List ℕ → ℕ → ℕ → ℕ → ℕ → ℕ → Type 0

@@ -8,14 +8,17 @@ use crate::record::zero_at;
 ghost use mathlib.Core.Path.{_≡_};
 ghost use mathlib.Core.Bool.{Bool, true, false};
 ghost use mathlib.Core.List.{List};
-ghost use Prim.Native.Nat.{ℕ, _+_, _*_, _≤_, _<_};
+ghost use Prim.Native.Nat.{ℕ, _+_, _*_, _%_, _≤_, _<_};
 ghost use lib.ListN.{length};
 ghost use Rattle.value_table.specs.Value.{recordSize, maxLength, keyAt, member};
 ghost use Rattle.value_table.specs.Outcome.{numberOfFault};
 ghost use Rattle.value_table.specs.Judged.{badKind, badSpan, badKey, repeated};
-ghost use Rattle.value_table.specs.Siblings.{Hops, Siblings, Before, Parent, FaultIs};
+ghost use Rattle.value_table.specs.Siblings.{Hops, Siblings, Before, Parent, FaultIs, keyBuckets, Latest};
 
 const MAX_DEPTH: usize = 32;
+
+// How many buckets the keys are spread over.
+pub const KEY_BUCKETS: usize = 64;
 
 // What is wrong with one record.
 pub enum Fault {
@@ -81,19 +84,39 @@ fn key_before(table: &[u8], i: usize, first: usize) -> bool
     false
 }
 
-fn repeats(table: &[u8], i: usize, first: usize) -> bool
-    requires { ⌜ (recordSize * i + recordSize ≤ length (now table)) × Parent (now table) i first ⌝ }
+// The bucket of record i, by its key.
+pub fn bucket_of(table: &[u8], i: usize) -> usize
+    requires { ⌜ recordSize * i + recordSize ≤ length (now table) ⌝ }
+    ensures { λ r. ⌜ (r ≡ keyAt (now (table .entry)) i % keyBuckets) × (r < keyBuckets) ⌝ }
+{
+    key_at(table, i) % KEY_BUCKETS
+}
+
+// Whether record i has the key of an earlier field: a bucket without fields of this parent needs no search.
+fn repeats(table: &[u8], i: usize, first: usize, latest: &[usize; KEY_BUCKETS]) -> bool
+    requires { ⌜ (recordSize * i + recordSize ≤ length (now table)) × Parent (now table) i first × Latest (now table) i (now latest) ⌝ }
     ensures { λ r. ⌜ ((field : Bool) (ks : List ℕ) → Before (now (table .entry)) i first field ks → r ≡ repeated (now (table .entry)) i field ks) ⌝ }
 {
     if first == 0 {
+        return false;
+    }
+    if latest[bucket_of(table, i)] < first {
         return false;
     }
     key_before(table, i, first)
 }
 
 // The fault of record i, whose parent ends at `end` and, if it is a record, has its first field at `first`, else 0.
-pub fn fault_at(table: &[u8], i: usize, end: usize, first: usize, depth: usize) -> Fault
-    requires { ⌜ (recordSize * i + recordSize ≤ length (now table)) × (length (now table) ≤ maxLength) × Parent (now table) i first ⌝ }
+// `latest` has the latest record so far of each bucket.
+pub fn fault_at(
+    table: &[u8],
+    i: usize,
+    end: usize,
+    first: usize,
+    depth: usize,
+    latest: &[usize; KEY_BUCKETS],
+) -> Fault
+    requires { ⌜ (recordSize * i + recordSize ≤ length (now table)) × (length (now table) ≤ maxLength) × Parent (now table) i first × Latest (now table) i (now latest) ⌝ }
     ensures { λ r. ⌜ FaultIs (now (table .entry)) i end first depth (numberOfFault r) ⌝ }
 {
     if bad_kind(table, i) {
@@ -105,7 +128,7 @@ pub fn fault_at(table: &[u8], i: usize, end: usize, first: usize, depth: usize) 
     if bad_key(table, i, 0 < first) {
         return Fault::Found(Refusal::Key);
     }
-    if repeats(table, i, first) {
+    if repeats(table, i, first, latest) {
         return Fault::Found(Refusal::Repeat);
     }
     if MAX_DEPTH < depth {

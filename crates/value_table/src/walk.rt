@@ -1,6 +1,8 @@
 // The walk over the records of a table.
 use crate::Judged;
+use crate::faults;
 use crate::faults::Fault;
+use crate::faults::bucket_of;
 use crate::faults::fault_at;
 use crate::record;
 use crate::record::kind_at;
@@ -64,6 +66,7 @@ pub fn walk_table(table: &[u8]) -> Judged
         fields: [0; 32],
         depth: 0,
     };
+    let mut latest = [0; faults::KEY_BUCKETS];
     let mut messages = 0;
     let mut i = 0;
     while i < n {
@@ -74,9 +77,10 @@ pub fn walk_table(table: &[u8]) -> Judged
             continue;
         }
         let first = innermost(&walk.fields, depth, 0);
-        if let Fault::Found(why) = fault_at(table, i, end, first, depth + 1) {
+        if let Fault::Found(why) = fault_at(table, i, end, first, depth + 1, &latest) {
             return Judged::Refused(why, i);
         }
+        latest[bucket_of(table, i)] = i;
         messages += messages_at(depth);
         let span = span_at(table, i);
         if span == 1 {

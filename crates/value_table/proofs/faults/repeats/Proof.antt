@@ -1,17 +1,32 @@
 -- `repeats` meets its contract.
 use borrow.Author.Needs.{needs}
 use Rattle.value_table.proofs.Siblings.{unrepeated, siblings, repeated-member}
+use Rattle.value_table.proofs.Latest.{unrepeated-latest}
 use Rattle.value_table.proofs.faults.repeats.Statement.{statement}
 use Rattle.value_table.proofs.faults.repeats.Tie as tie
 
 returns : tie.Need-returns
 returns c = λ f ks h. unrepeated (c .if1 .taken) h
 
-key-before-requires : tie.Need-key-before-requires
-key-before-requires c κs = (search needs, siblings (c .if1 .left) (c .before .before .pre .1 .before))
+bucket-of-requires : tie.Need-bucket-of-requires
+bucket-of-requires c κs = search needs
+
+mul-if2 : tie.Need-mul-if2
+mul-if2 c = search needs
+
+element-copy-out-if2 : tie.Need-element-copy-out-if2
+element-copy-out-if2 c = search needs
 
 returns-2 : tie.Need-returns-2
-returns-2 c = λ f ks h. repeated-member (c .before .if1 .left) h (c .key-before .ensures ks)
+returns-2 c = λ f ks h. unrepeated-latest (c .before .before .before .before .before .pre .2) (rw (c .before .before .bucket-of .ensures .0) at (c .if2 .taken)) h
+
+key-before-requires : tie.Need-key-before-requires
+key-before-requires c κs = (search needs, siblings (c .before .before .before .if1 .left) (c .before .before .before .before .before .pre .1 .before))
+
+returns-3 : tie.Need-returns-3
+returns-3 c = λ f ks h. repeated-member (c .before .before .before .before .if1 .left) h (c .key-before .ensures ks)
 
 pub repeats-spec : {M : Type 1} → statement M
-repeats-spec = tie.close (tie.spec returns key-before-requires returns-2)
+repeats-spec =
+    tie.close
+    (tie.spec returns bucket-of-requires mul-if2 element-copy-out-if2 returns-2 key-before-requires returns-3)

@@ -1,51 +1,69 @@
 -- `walk_table` meets its contract.
 use mathlib.Core.Path.{_≡_, refl, sym, ap, _∙_}
-use Prim.Native.Nat.{_+_, _*_, _-_}
+use Prim.Native.Nat.{_+_, _*_, _-_, _≤_, _<_}
 use native.Mathlib.Omega.{arith}
+use lib.ListN.{set}
 use borrow.Author.Needs.{needs}
 use Rattle.value_table.specs.Outcome.{numberOfFault}
-use Rattle.value_table.specs.Value.{records}
+use Rattle.value_table.specs.Value.{maxDepth, records}
 use Rattle.value_table.specs.Number.{Bytes}
-use Rattle.value_table.specs.Siblings.{FaultIs, innermostOf}
+use Rattle.value_table.specs.Siblings.{FaultIs, innermostOf, Latest}
+use Rattle.value_table.proofs.Latest.{latest-start, latest-next}
 use Rattle.value_table.proofs.Turns.{Walking, walking-start, walking-done, walking-close, walking-parent, walking-refused, walking-room, walking-skip, walking-enter, refusal-positive, messages-few}
 use Rattle.value_table.proofs.walk.walk_table.Statement.{statement}
 use Rattle.value_table.proofs.walk.walk_table.Tie as tie
 
 abbrev Inv-loop : tie.InvT-loop
-Inv-loop table n walk₀ messages₀ i₀ walk messages i = Walking table (walk .ends) (walk .fields) (walk .depth) messages i
+Inv-loop table n walk₀ latest₀ messages₀ i₀ walk latest messages i = Walking table (walk .ends) (walk .fields) (walk .depth) messages i × Latest table i latest
 
 abbrev μ-loop : tie.MeasureT-loop
-μ-loop table n walk₀ messages₀ i₀ walk messages i = 2 * (n - i) + walk .depth
+μ-loop table n walk₀ latest₀ messages₀ i₀ walk latest messages i = 2 * (n - i) + walk .depth
+
+-- the turn of the loop in which record i is looked at
+abbrev turn : tie.After-fault-at Inv-loop μ-loop → tie.In-loop Inv-loop μ-loop
+turn c = c .before .before .before .before .before .before .before .before .before
 
 -- at the fault of record i: what `fault_at` found, and that no open value ends at i
-found : (c : tie.After-fault-at Inv-loop μ-loop) → let v = c .before .before .before .before .before .before .before .before .before .loop in let t = c .before .before .before .before .before .before .before .before .before .before .before .args .table .now in
+found : (c : tie.After-fault-at Inv-loop μ-loop) → let v = turn c .before .loop in let t = turn c .before .before .before .args .table .now in
     FaultIs t (v .i) (innermostOf (v .walk .ends) (v .walk .depth) (records t)) (innermostOf (v .walk .fields) (v .walk .depth) 0) (v .walk .depth + 1) (numberOfFault (c .fault-at .result))
-found c = rw (← (c .before .before .before .before .before .innermost .ensures), ← (c .before .innermost2 .ensures)) (c .fault-at .ensures)
+found c = rw (← (c .before .before .before .before .before .before .innermost .ensures), ← (c .before .before .innermost2 .ensures)) (c .fault-at .ensures)
 
-inner : (c : tie.After-fault-at Inv-loop μ-loop) → let v = c .before .before .before .before .before .before .before .before .before .loop in innermostOf (v .walk .ends) (v .walk .depth) (records (c .before .before .before .before .before .before .before .before .before .before .before .args .table .now)) ≡ v .i → ⊥
-inner c e = c .before .before .before .before .if1 .left (c .before .before .before .before .before .innermost .ensures ∙ e)
+inner : (c : tie.After-fault-at Inv-loop μ-loop) → let v = turn c .before .loop in innermostOf (v .walk .ends) (v .walk .depth) (records (turn c .before .before .before .args .table .now)) ≡ v .i → ⊥
+inner c e = c .before .before .before .before .before .if1 .left (c .before .before .before .before .before .before .innermost .ensures ∙ e)
 
-bytes : (c : tie.After-fault-at Inv-loop μ-loop) → Bytes (c .before .before .before .before .before .before .before .before .before .before .before .args .table .now)
-bytes c p = c .before .before .before .before .before .before .before .before .before .before .shared-slice-known .given p .fits
+bytes : (c : tie.After-fault-at Inv-loop μ-loop) → Bytes (turn c .before .before .before .args .table .now)
+bytes c p = turn c .before .before .shared-slice-known .given p .fits
 
-fine : (c : tie.After-enum-told Inv-loop μ-loop) → let v = c .before .before .before .before .before .before .before .before .before .before .before .loop in let t = c .before .before .before .before .before .before .before .before .before .before .before .before .before .args .table .now in
+fine : (c : tie.After-enum-told Inv-loop μ-loop) → let v = turn (c .before .before) .before .loop in let t = turn (c .before .before) .before .before .before .args .table .now in
     FaultIs t (v .i) (innermostOf (v .walk .ends) (v .walk .depth) (records t)) (innermostOf (v .walk .fields) (v .walk .depth) 0) (v .walk .depth + 1) 0
 fine c f ks h = sym (ap numberOfFault (c .enum-told .given .1)) ∙ found (c .before .before) f ks h
 
+room : (c : tie.After-enum-told Inv-loop μ-loop) → turn (c .before .before) .before .loop .walk .depth < maxDepth
+room c =
+    let p = c .before .before in
+    walking-room (turn p .before .loop .inv .0) (turn p .loop-test .taken) (inner p) (bytes p) (fine c)
+
+latest-after : (c : tie.After-bucket-of Inv-loop μ-loop) → let v = turn (c .before .before .before) .before .loop in Latest (turn (c .before .before .before) .before .before .before .args .table .now) (v .i + 1) (set (v .latest) (c .bucket-of .result) (v .i))
+latest-after c = rw (c .bucket-of .ensures .0) (latest-next (turn (c .before .before .before) .before .loop .inv .1))
+
 loop-holds : tie.Need-loop-holds Inv-loop μ-loop
-loop-holds c = walking-start _ _ _ refl refl
+loop-holds c = (walking-start _ _ _ refl refl, latest-start _ _ refl)
 
 innermost-requires : tie.Need-innermost-requires Inv-loop μ-loop
 innermost-requires c κs = search needs
 
+-- the innermost open value ends at record i
+closing : (c : tie.Then1 Inv-loop μ-loop) → let v = c .before .before .before .before .before .loop in (1 ≤ v .walk .depth) × Walking (c .before .before .before .before .before .before .before .args .table .now) (v .walk .ends) (v .walk .fields) (v .walk .depth - 1) (v .messages) (v .i)
+closing c = walking-close (c .before .before .before .before .before .loop .inv .0) (c .before .before .before .before .loop-test .taken) (sym (c .before .innermost .ensures) ∙ c .if1 .taken)
+
 sub-walk : tie.Need-sub-walk Inv-loop μ-loop
-sub-walk c = omega (arith, walking-close (c .before .before .before .before .before .loop .inv) (c .before .before .before .before .loop-test .taken) (sym (c .before .innermost .ensures) ∙ c .if1 .taken) .0)
+sub-walk c = omega (arith, closing c .0)
 
 loop-less : tie.Need-loop-less Inv-loop μ-loop
-loop-less c = omega (arith, walking-close (c .before .before .before .before .before .loop .inv) (c .before .before .before .before .loop-test .taken) (sym (c .before .innermost .ensures) ∙ c .if1 .taken) .0)
+loop-less c = omega (arith, closing c .0)
 
 loop-again : tie.Need-loop-again Inv-loop μ-loop
-loop-again c = walking-close (c .before .before .before .before .before .loop .inv) (c .before .before .before .before .loop-test .taken) (sym (c .before .innermost .ensures) ∙ c .if1 .taken) .1
+loop-again c = (closing c .1, c .before .before .before .before .before .loop .inv .1)
 
 innermost-requires-2 : tie.Need-innermost-requires-2 Inv-loop μ-loop
 innermost-requires-2 c κs = search needs
@@ -54,7 +72,9 @@ add-fault-at : tie.Need-add-fault-at Inv-loop μ-loop
 add-fault-at c = search needs
 
 fault-at-requires : tie.Need-fault-at-requires Inv-loop μ-loop
-fault-at-requires c κs = (omega arith, omega arith, rw (c .innermost2 .ensures) (walking-parent (c .before .before .before .before .before .before .before .before .loop .inv)))
+fault-at-requires c κs =
+    let v = c .before .before .before .before .before .before .before .before .before .loop in
+    (omega arith, omega arith, rw (c .before .innermost2 .ensures) (walking-parent (v .inv .0)), v .inv .1)
 
 enum-known-why : tie.Need-enum-known-why Inv-loop μ-loop
 enum-known-why c = search needs
@@ -62,16 +82,27 @@ enum-known-why c = search needs
 returns : tie.Need-returns Inv-loop μ-loop
 returns c =
     let p = c .before .before .before in
-    walking-refused (c .before .before .before .before .before .before .before .before .before .before .before .before .loop .inv) (c .before .before .before .before .before .before .before .before .before .before .before .loop-test .taken) (inner p) (refusal-positive (c .before .why .given .0 .0)) (λ f ks h. sym (ap numberOfFault (c .before .why .given .1)) ∙ found p f ks h)
+    walking-refused (turn p .before .loop .inv .0) (turn p .loop-test .taken) (inner p) (refusal-positive (c .before .why .given .0 .0)) (λ f ks h. sym (ap numberOfFault (c .before .why .given .1)) ∙ found p f ks h)
 
 enum-told : tie.Need-enum-told Inv-loop μ-loop
 enum-told c = search needs
+
+bucket-of-requires : tie.Need-bucket-of-requires Inv-loop μ-loop
+bucket-of-requires c κs = search needs
+
+mul-latest : tie.Need-mul-latest Inv-loop μ-loop
+mul-latest c = search needs
+
+array-write-latest : tie.Need-array-write-latest Inv-loop μ-loop
+array-write-latest c = search needs
 
 messages-at-requires : tie.Need-messages-at-requires Inv-loop μ-loop
 messages-at-requires c κs = search needs
 
 add-messages : tie.Need-add-messages Inv-loop μ-loop
-add-messages c = omega (arith, c .messages-at .ensures, messages-few (c .before .before .before .before .before .before .before .before .before .before .before .before .loop .walk .depth), c .before .before .before .before .before .before .before .before .before .before .before .before .loop .inv .few)
+add-messages c =
+    let v = turn (c .before .before .before .before) .before .loop in
+    omega (arith, c .messages-at .ensures, messages-few (v .walk .depth), v .inv .0 .few)
 
 span-at-requires : tie.Need-span-at-requires Inv-loop μ-loop
 span-at-requires c κs = search needs
@@ -84,8 +115,11 @@ loop-less-2 c = search needs
 
 loop-again-2 : tie.Need-loop-again-2 Inv-loop μ-loop
 loop-again-2 c =
-    let t = c .before .before .before in
-    rw (c .before .before .messages-at .ensures) (walking-skip (c .before .before .before .before .before .before .before .before .before .before .before .before .before .before .loop .inv) (c .before .before .before .before .before .before .before .before .before .before .before .before .before .loop-test .taken) (inner (t .before .before)) (bytes (t .before .before)) (fine t) (sym (c .before .span-at .ensures .0) ∙ c .if2 .taken))
+    let t = c .before .before .before .before in
+    let p = t .before .before in (
+      rw (c .before .before .messages-at .ensures) (walking-skip (turn p .before .loop .inv .0) (turn p .loop-test .taken) (inner p) (bytes p) (fine t) (sym (c .before .span-at .ensures .0) ∙ c .if2 .taken)),
+      latest-after (c .before .before .before),
+    )
 
 add-walk : tie.Need-add-walk Inv-loop μ-loop
 add-walk c = search needs
@@ -94,9 +128,7 @@ mul-walk : tie.Need-mul-walk Inv-loop μ-loop
 mul-walk c = search needs
 
 element-write-walk : tie.Need-element-write-walk Inv-loop μ-loop
-element-write-walk c =
-    let t = c .before .before .before in
-    walking-room (c .before .before .before .before .before .before .before .before .before .before .before .before .before .before .loop .inv) (c .before .before .before .before .before .before .before .before .before .before .before .before .before .loop-test .taken) (inner (t .before .before)) (bytes (t .before .before)) (fine t)
+element-write-walk c = room (c .before .before .before .before)
 
 first-of-requires : tie.Need-first-of-requires Inv-loop μ-loop
 first-of-requires c κs = search needs
@@ -105,9 +137,7 @@ mul-walk-2 : tie.Need-mul-walk-2 Inv-loop μ-loop
 mul-walk-2 c = search needs
 
 element-write-walk-2 : tie.Need-element-write-walk-2 Inv-loop μ-loop
-element-write-walk-2 c =
-    let t = c .before .before .before .before in
-    walking-room (c .before .before .before .before .before .before .before .before .before .before .before .before .before .before .before .loop .inv) (c .before .before .before .before .before .before .before .before .before .before .before .before .before .before .loop-test .taken) (inner (t .before .before)) (bytes (t .before .before)) (fine t)
+element-write-walk-2 c = room (c .before .before .before .before .before)
 
 add-walk-2 : tie.Need-add-walk-2 Inv-loop μ-loop
 add-walk-2 c = search needs
@@ -120,11 +150,14 @@ loop-less-3 c = search needs
 
 loop-again-3 : tie.Need-loop-again-3 Inv-loop μ-loop
 loop-again-3 c =
-    let t = c .before .before .before .before in
-    rw (c .before .before .before .messages-at .ensures, c .before .before .span-at .ensures .0, c .first-of .ensures) (walking-enter (c .before .before .before .before .before .before .before .before .before .before .before .before .before .before .before .loop .inv) (c .before .before .before .before .before .before .before .before .before .before .before .before .before .before .loop-test .taken) (inner (t .before .before)) (bytes (t .before .before)) (fine t))
+    let t = c .before .before .before .before .before in
+    let p = t .before .before in (
+      rw (c .before .before .before .messages-at .ensures, c .before .before .span-at .ensures .0, c .first-of .ensures) (walking-enter (turn p .before .loop .inv .0) (turn p .loop-test .taken) (inner p) (bytes p) (fine t)),
+      latest-after (c .before .before .before .before),
+    )
 
 returns-2 : tie.Need-returns-2 Inv-loop μ-loop
-returns-2 c = walking-done (c .before .loop .inv) (c .loop-test .left)
+returns-2 c = walking-done (c .before .loop .inv .0) (c .loop-test .left)
 
 pub walk-table-spec : {M : Type 1} → statement M
 walk-table-spec =
@@ -143,6 +176,9 @@ walk-table-spec =
     enum-known-why
     returns
     enum-told
+    bucket-of-requires
+    mul-latest
+    array-write-latest
     messages-at-requires
     add-messages
     span-at-requires
