@@ -36,6 +36,14 @@ pub record Faultless (b : List ℕ) (i end : ℕ) (field : Bool) (before : List 
 abbrev pub FaultlessIn : List ℕ → ℕ → List Open → Type 0
 FaultlessIn b i around = Faultless b i (endOf (records b) around) (inRecord around) (seen around) (suc (length around))
 
+-- the kind and the span of a scalar of one record are no fault
+pub scalar-fine : (b : List ℕ) (i : ℕ) → spanAt b i ≡ 1 → 1 ≤ kindAt b i → kindAt b i ≤ lastScalar → zeroAt b i ≡ 0 → (badKind b i ≡ false) × ((end : ℕ) → i < end → badSpan b i end ≡ false)
+unfolding badKind badSpan
+scalar-fine b i s l h z = (
+  rw (le-leb 1 (kindAt b i) l, le-leb (kindAt b i) arrayKind (omega arith), eq-eqb (zeroAt b i) 0 z) refl,
+  λ end m. rw (s, le-ltb end (i + 1) (omega arith), and-false (leb (kindAt b i) lastScalar) false (λ e. refl)) refl,
+)
+
 passed : (t : Bool) (k x : ℕ) → cond t (suc k) x ≡ 0 → (t ≡ false) × (x ≡ 0)
 passed true k x e = absurd (omega arith)
 passed false k x e = (refl, e)

@@ -123,8 +123,11 @@ module _ {b ends fields : List ℕ} {depth messages i : ℕ} (w : Walking b ends
     one-more : records b - i ≡ suc (records b - (i + 1))
     one-more = omega arith
 
+    pub walking-inside : i < innermostOf ends depth (records b)
+    walking-inside = omega (arith, levels-upto (w .levels), levels-end (w .levels))
+
     unclosed : close i (w .around) ≡ w .around
-    unclosed = close-open (records b) i (w .around) (omega (arith, levels-upto (w .levels), levels-end (w .levels)))
+    unclosed = close-open (records b) i (w .around) (omega (arith, walking-inside, levels-end (w .levels)))
 
     -- what `fault_at` finds is the fault inside the open values
     fault-in : {x : ℕ} → FaultIs b i (innermostOf ends depth (records b)) (innermostOf fields depth 0) (depth + 1) x → x ≡ faultIn b i (w .around)

@@ -31,6 +31,14 @@ pub fn zero_at(table: &[u8], i: usize) -> u8
     table[SIZE * i + 1]
 }
 
+// The kind and the zero byte, as one number.
+pub fn head_at(table: &[u8], i: usize) -> usize
+    requires { ⌜ recordSize * i + recordSize ≤ length (now table) ⌝ }
+    ensures { λ r. ⌜ r ≡ kindAt (now (table .entry)) i + 256 * zeroAt (now (table .entry)) i ⌝ }
+{
+    number16(table, SIZE * i)
+}
+
 pub fn key_at(table: &[u8], i: usize) -> usize
     requires { ⌜ recordSize * i + recordSize ≤ length (now table) ⌝ }
     ensures { λ r. ⌜ r ≡ keyAt (now (table .entry)) i ⌝ }

@@ -2,40 +2,46 @@
 use mathlib.Core.Path.{_≡_, sym, ap, _∙_}
 use mathlib.Core.Bool.{Bool, false}
 use mathlib.Core.List.{List}
+use mathlib.Core.Logic.{⊎-elim}
 use Prim.Native.Nat.{ℕ}
 use borrow.Author.Needs.{needs}
-use borrow.Author.Tests.{lt-ltb, le-ltb}
+use borrow.Author.Tests.{lt-ltb, le-ltb, not-false}
 use Rattle.value_table.specs.Judged.{fault, badKind, badSpan, badKey, repeated, tooDeep}
 use Rattle.value_table.specs.Siblings.{Before}
 use Rattle.value_table.proofs.Siblings.{first-field}
 use Rattle.value_table.proofs.faults.fault_at.Statement.{statement}
 use Rattle.value_table.proofs.faults.fault_at.Tie as tie
 
-kind-fine : (c : tie.Else1) → let a = c .before .before .before .args in badKind (a .table .now) (a .i) ≡ false
-kind-fine c = sym (c .before .bad-kind .ensures) ∙ c .if1 .left
+-- a plain scalar, or neither test found a fault
+head-fine : (c : tie.Joined1) → let a = c .before .before .before .args in (badKind (a .table .now) (a .i) ≡ false) × (badSpan (a .table .now) (a .i) (a .end) ≡ false)
+head-fine c =
+    ⊎-elim
+    (λ w. (sym (w .1 .ensures) ∙ w .2 .left, sym (w .3 .ensures) ∙ w .4 .left))
+    (λ w. let s = c .before .plain-scalar .ensures (not-false _ (w .left)) in (s .0, s .1 _ (c .before .before .before .pre .2)))
+    (c .if1 .came)
 
-span-fine : (c : tie.Else2) → let a = c .before .before .before .before .before .args in badSpan (a .table .now) (a .i) (a .end) ≡ false
-span-fine c = sym (c .before .bad-span .ensures) ∙ c .if2 .left
+key-fine : (c : tie.Else4) → let a = c .before .before .before .before .before .args in (f : Bool) (ks : List ℕ) → Before (a .table .now) (a .i) (a .first) f ks → badKey (a .table .now) (a .i) f ≡ false
+key-fine c f ks h = sym (c .before .bad-key .ensures ∙ ap (badKey _ _) (first-field h)) ∙ c .if4 .left
 
-key-fine : (c : tie.Else3) → let a = c .before .before .before .before .before .before .before .args in (f : Bool) (ks : List ℕ) → Before (a .table .now) (a .i) (a .first) f ks → badKey (a .table .now) (a .i) f ≡ false
-key-fine c f ks h = sym (c .before .bad-key .ensures ∙ ap (badKey _ _) (first-field h)) ∙ c .if3 .left
+fresh : (c : tie.Else5) → let a = c .before .before .before .before .before .before .before .args in (f : Bool) (ks : List ℕ) → Before (a .table .now) (a .i) (a .first) f ks → repeated (a .table .now) (a .i) f ks ≡ false
+fresh c f ks h = sym (c .before .repeats .ensures f ks h) ∙ c .if5 .left
 
-fresh : (c : tie.Else4) → let a = c .before .before .before .before .before .before .before .before .before .args in (f : Bool) (ks : List ℕ) → Before (a .table .now) (a .i) (a .first) f ks → repeated (a .table .now) (a .i) f ks ≡ false
-fresh c f ks h = sym (c .before .repeats .ensures f ks h) ∙ c .if4 .left
+plain-scalar-requires : tie.Need-plain-scalar-requires
+plain-scalar-requires c κs = search needs
 
 bad-kind-requires : tie.Need-bad-kind-requires
 bad-kind-requires c κs = search needs
 
 returns : tie.Need-returns
 unfolding fault
-returns c = λ f ks h. simp (sym (c .before .bad-kind .ensures) ∙ c .if1 .taken)
+returns c = λ f ks h. simp (sym (c .before .bad-kind .ensures) ∙ c .if2 .taken)
 
 bad-span-requires : tie.Need-bad-span-requires
 bad-span-requires c κs = search needs
 
 returns-2 : tie.Need-returns-2
 unfolding fault
-returns-2 c = λ f ks h. simp (sym (c .before .bad-span .ensures) ∙ c .if2 .taken, kind-fine (c .before .before))
+returns-2 c = λ f ks h. simp (sym (c .before .bad-span .ensures) ∙ c .if3 .taken, sym (c .before .before .before .bad-kind .ensures) ∙ c .before .before .if2 .left)
 
 bad-key-requires : tie.Need-bad-key-requires
 bad-key-requires c κs = search needs
@@ -43,8 +49,8 @@ bad-key-requires c κs = search needs
 returns-3 : tie.Need-returns-3
 unfolding fault
 returns-3 c =
-    λ f ks h. let p = c .before .before in
-    simp (sym (c .before .bad-key .ensures ∙ ap (badKey _ _) (first-field h)) ∙ c .if3 .taken, span-fine p, kind-fine (p .before .before))
+    λ f ks h. let p = head-fine (c .before .before) in
+    simp (sym (c .before .bad-key .ensures ∙ ap (badKey _ _) (first-field h)) ∙ c .if4 .taken, p .1, p .0)
 
 repeats-requires : tie.Need-repeats-requires
 repeats-requires c κs = search needs
@@ -52,25 +58,29 @@ repeats-requires c κs = search needs
 returns-4 : tie.Need-returns-4
 unfolding fault
 returns-4 c =
-    λ f ks h. let p = c .before .before in
-    simp (sym (c .before .repeats .ensures f ks h) ∙ c .if4 .taken, key-fine p f ks h, span-fine (p .before .before), kind-fine (p .before .before .before .before))
+    λ f ks h. let k = c .before .before in
+    let p = head-fine (k .before .before) in
+    simp (sym (c .before .repeats .ensures f ks h) ∙ c .if5 .taken, key-fine k f ks h, p .1, p .0)
 
 returns-5 : tie.Need-returns-5
 unfolding fault tooDeep
 returns-5 c =
-    λ f ks h. let p = c .before .before .before in
-    simp (lt-ltb _ _ (c .if5 .taken), fresh (c .before) f ks h, key-fine p f ks h, span-fine (p .before .before), kind-fine (p .before .before .before .before))
+    λ f ks h. let k = c .before .before .before in
+    let p = head-fine (k .before .before) in
+    simp (lt-ltb _ _ (c .if6 .taken), fresh (c .before) f ks h, key-fine k f ks h, p .1, p .0)
 
 returns-6 : tie.Need-returns-6
 unfolding fault tooDeep
 returns-6 c =
-    λ f ks h. let p = c .before .before .before in
-    simp (le-ltb _ _ (c .if5 .left), fresh (c .before) f ks h, key-fine p f ks h, span-fine (p .before .before), kind-fine (p .before .before .before .before))
+    λ f ks h. let k = c .before .before .before in
+    let p = head-fine (k .before .before) in
+    simp (le-ltb _ _ (c .if6 .left), fresh (c .before) f ks h, key-fine k f ks h, p .1, p .0)
 
 pub fault-at-spec : {M : Type 1} → statement M
 fault-at-spec =
     tie.close
     (tie.spec
+    plain-scalar-requires
     bad-kind-requires
     returns
     bad-span-requires

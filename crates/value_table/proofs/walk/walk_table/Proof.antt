@@ -9,7 +9,7 @@ use Rattle.value_table.specs.Value.{maxDepth, records}
 use Rattle.value_table.specs.Number.{Bytes}
 use Rattle.value_table.specs.Siblings.{FaultIs, innermostOf, Latest}
 use Rattle.value_table.proofs.Latest.{latest-start, latest-next}
-use Rattle.value_table.proofs.Turns.{Walking, walking-start, walking-done, walking-close, walking-parent, walking-refused, walking-room, walking-skip, walking-enter, refusal-positive, messages-few}
+use Rattle.value_table.proofs.Turns.{Walking, walking-start, walking-done, walking-close, walking-parent, walking-inside, walking-refused, walking-room, walking-skip, walking-enter, refusal-positive, messages-few}
 use Rattle.value_table.proofs.walk.walk_table.Statement.{statement}
 use Rattle.value_table.proofs.walk.walk_table.Tie as tie
 
@@ -20,31 +20,32 @@ abbrev μ-loop : tie.MeasureT-loop
 μ-loop table n walk₀ latest₀ messages₀ i₀ walk latest messages i = 2 * (n - i) + walk .depth
 
 -- the turn of the loop in which record i is looked at
-abbrev turn : tie.After-fault-at Inv-loop μ-loop → tie.In-loop Inv-loop μ-loop
-turn c = c .before .before .before .before .before .before .before .before .before
+abbrev turn : tie.After-latest Inv-loop μ-loop → tie.In-loop Inv-loop μ-loop
+turn c = c .before .before .before .before .before .before .before .before
 
--- at the fault of record i: what `fault_at` found, and that no open value ends at i
-found : (c : tie.After-fault-at Inv-loop μ-loop) → let v = turn c .before .loop in let t = turn c .before .before .before .args .table .now in
+-- no open value ends at record i
+inner : (c : tie.After-latest Inv-loop μ-loop) → let v = turn c .before .loop in innermostOf (v .walk .ends) (v .walk .depth) (records (turn c .before .before .before .args .table .now)) ≡ v .i → ⊥
+inner c e = c .before .before .before .before .if1 .left (c .before .before .before .before .before .innermost .ensures ∙ e)
+
+bytes : (c : tie.After-latest Inv-loop μ-loop) → Bytes (turn c .before .before .before .args .table .now)
+bytes c p = turn c .before .before .shared-slice-known .given p .fits
+
+-- what `fault_at` found is the fault of record i
+found : (c : tie.After-fault-at Inv-loop μ-loop) → let v = turn (c .before) .before .loop in let t = turn (c .before) .before .before .before .args .table .now in
     FaultIs t (v .i) (innermostOf (v .walk .ends) (v .walk .depth) (records t)) (innermostOf (v .walk .fields) (v .walk .depth) 0) (v .walk .depth + 1) (numberOfFault (c .fault-at .result))
 found c = rw (← (c .before .before .before .before .before .before .innermost .ensures), ← (c .before .before .innermost2 .ensures)) (c .fault-at .ensures)
 
-inner : (c : tie.After-fault-at Inv-loop μ-loop) → let v = turn c .before .loop in innermostOf (v .walk .ends) (v .walk .depth) (records (turn c .before .before .before .args .table .now)) ≡ v .i → ⊥
-inner c e = c .before .before .before .before .before .if1 .left (c .before .before .before .before .before .before .innermost .ensures ∙ e)
-
-bytes : (c : tie.After-fault-at Inv-loop μ-loop) → Bytes (turn c .before .before .before .args .table .now)
-bytes c p = turn c .before .before .shared-slice-known .given p .fits
-
-fine : (c : tie.After-enum-told Inv-loop μ-loop) → let v = turn (c .before .before) .before .loop in let t = turn (c .before .before) .before .before .before .args .table .now in
+fine : (c : tie.After-enum-told Inv-loop μ-loop) → let v = turn (c .before .before .before) .before .loop in let t = turn (c .before .before .before) .before .before .before .args .table .now in
     FaultIs t (v .i) (innermostOf (v .walk .ends) (v .walk .depth) (records t)) (innermostOf (v .walk .fields) (v .walk .depth) 0) (v .walk .depth + 1) 0
 fine c f ks h = sym (ap numberOfFault (c .enum-told .given .1)) ∙ found (c .before .before) f ks h
 
-room : (c : tie.After-enum-told Inv-loop μ-loop) → turn (c .before .before) .before .loop .walk .depth < maxDepth
+room : (c : tie.After-enum-told Inv-loop μ-loop) → turn (c .before .before .before) .before .loop .walk .depth < maxDepth
 room c =
-    let p = c .before .before in
+    let p = c .before .before .before in
     walking-room (turn p .before .loop .inv .0) (turn p .loop-test .taken) (inner p) (bytes p) (fine c)
 
-latest-after : (c : tie.After-bucket-of Inv-loop μ-loop) → let v = turn (c .before .before .before) .before .loop in Latest (turn (c .before .before .before) .before .before .before .args .table .now) (v .i + 1) (set (v .latest) (c .bucket-of .result) (v .i))
-latest-after c = rw (c .bucket-of .ensures .0) (latest-next (turn (c .before .before .before) .before .loop .inv .1))
+latest-after : (c : tie.After-bucket-of Inv-loop μ-loop) → let p = turn (c .before .before .before .before) .before in Latest (p .before .before .args .table .now) (p .loop .i + 1) (set (p .loop .latest) (c .bucket-of .result) (p .loop .i))
+latest-after c = rw (c .bucket-of .ensures .0) (latest-next (turn (c .before .before .before .before) .before .loop .inv .1))
 
 loop-holds : tie.Need-loop-holds Inv-loop μ-loop
 loop-holds c = (walking-start _ _ _ refl refl, latest-start _ _ refl)
@@ -73,16 +74,21 @@ add-fault-at c = search needs
 
 fault-at-requires : tie.Need-fault-at-requires Inv-loop μ-loop
 fault-at-requires c κs =
-    let v = c .before .before .before .before .before .before .before .before .before .loop in
-    (omega arith, omega arith, rw (c .before .innermost2 .ensures) (walking-parent (v .inv .0)), v .inv .1)
+    let v = turn c .before .loop in (
+      omega arith,
+      omega arith,
+      rw (c .before .before .before .before .before .innermost .ensures) (walking-inside (v .inv .0) (turn c .loop-test .taken) (inner c)),
+      rw (c .before .innermost2 .ensures) (walking-parent (v .inv .0)),
+      v .inv .1,
+    )
 
 enum-known-why : tie.Need-enum-known-why Inv-loop μ-loop
 enum-known-why c = search needs
 
 returns : tie.Need-returns Inv-loop μ-loop
 returns c =
-    let p = c .before .before .before in
-    walking-refused (turn p .before .loop .inv .0) (turn p .loop-test .taken) (inner p) (refusal-positive (c .before .why .given .0 .0)) (λ f ks h. sym (ap numberOfFault (c .before .why .given .1)) ∙ found p f ks h)
+    let p = c .before .before .before .before in
+    walking-refused (turn p .before .loop .inv .0) (turn p .loop-test .taken) (inner p) (refusal-positive (c .before .why .given .0 .0)) (λ f ks h. sym (ap numberOfFault (c .before .why .given .1)) ∙ found (c .before .before .before) f ks h)
 
 enum-told : tie.Need-enum-told Inv-loop μ-loop
 enum-told c = search needs
@@ -101,7 +107,7 @@ messages-at-requires c κs = search needs
 
 add-messages : tie.Need-add-messages Inv-loop μ-loop
 add-messages c =
-    let v = turn (c .before .before .before .before) .before .loop in
+    let v = turn (c .before .before .before .before .before) .before .loop in
     omega (arith, c .messages-at .ensures, messages-few (v .walk .depth), v .inv .0 .few)
 
 span-at-requires : tie.Need-span-at-requires Inv-loop μ-loop
@@ -116,7 +122,7 @@ loop-less-2 c = search needs
 loop-again-2 : tie.Need-loop-again-2 Inv-loop μ-loop
 loop-again-2 c =
     let t = c .before .before .before .before in
-    let p = t .before .before in (
+    let p = t .before .before .before in (
       rw (c .before .before .messages-at .ensures) (walking-skip (turn p .before .loop .inv .0) (turn p .loop-test .taken) (inner p) (bytes p) (fine t) (sym (c .before .span-at .ensures .0) ∙ c .if2 .taken)),
       latest-after (c .before .before .before),
     )
@@ -151,7 +157,7 @@ loop-less-3 c = search needs
 loop-again-3 : tie.Need-loop-again-3 Inv-loop μ-loop
 loop-again-3 c =
     let t = c .before .before .before .before .before in
-    let p = t .before .before in (
+    let p = t .before .before .before in (
       rw (c .before .before .before .messages-at .ensures, c .before .before .span-at .ensures .0, c .first-of .ensures) (walking-enter (turn p .before .loop .inv .0) (turn p .loop-test .taken) (inner p) (bytes p) (fine t)),
       latest-after (c .before .before .before .before),
     )
