@@ -62,10 +62,10 @@ pub record SomeRun (field : Bool) (t : List ℕ) : Type 0 where
   pub values : Values
   pub run : TableRun field t values
 
--- w begins with the ascending keys of vs; or vs has more fields than w has room for type records
+-- w begins with the ascending keys of vs; or vs has more fields than w has room for keys
 abbrev pub ListedIn : Values → Listed → List ℕ → Type 0
-ListedIn vs (Keys n) w = (keysOf n w ≡ ascending (keys vs)) × (typeSize * n ≤ length w)
-ListedIn vs TooMany w = length w < typeSize * length (keys vs)
+ListedIn vs (Keys n) w = (keysOf n w ≡ ascending (keys vs)) × (2 * n ≤ length w)
+ListedIn vs TooMany w = length w < 2 * length (keys vs)
 
 abbrev pub comparedOf : Ordering → Compared
 comparedOf lt = Less
@@ -207,10 +207,10 @@ pub record Weighed (w : ℕ) (t : List ℕ) : Type 0 where
   pub small : w ≤ maxLength
   pub bound : w * length t ≤ maxLength
 
--- the key list that the label asks for is in w; or the record has more fields than w has room for type records
+-- the key list that the label asks for is in w; or the record has more fields than w has room for keys
 abbrev pub LabelListed : Equivalence → ℕ → Values → Listed → List ℕ → Type 0
 LabelListed e kind vs (Keys n) w = (listed e kind (keysOf n w) ≡ listed e kind (ascending (keys vs))) × (2 * n ≤ length w)
-LabelListed e kind vs TooMany w = (kind ≡ recordKind) × (length w < typeSize * length (keys vs))
+LabelListed e kind vs TooMany w = (kind ≡ recordKind) × (length w < 2 * length (keys vs))
 
 -- What stands at record i of a run: the kind and key of its label, the byte from which what is below it is read, and the record behind
 -- it. A field's value is read as a run of its own.

@@ -76,7 +76,7 @@ fn add_waiting(
     label: bool,
     work: &mut [u8],
 ) -> Inferred
-    requires { ⌜ HeldRun (under label) false (now a) m 0 × Slot (now t) (records (now t)) slot × (length (now t) ≤ maxLength) × (length (now a) ≤ length (now work)) ⌝ }
+    requires { ⌜ HeldRun (under label) false (now a) m 0 × Slot (now t) (records (now t)) slot × (length (now t) ≤ maxLength) × (length (now a) ≤ 8 * length (now work)) ⌝ }
     ensures { λ r. ⌜ ((f : CountingType) (free : List ℕ) → Holds (under label) false (now (a .entry)) m 0 f [] free →
         Added (add Counting (slotRaw (under label) (now (t .entry)) slot) f) [] 0 r (now (a .exit))) ⌝ }
 {

@@ -71,7 +71,7 @@ pub fn locate(
     label: bool,
     work: &mut [u8],
 ) -> Put
-    requires { ⌜ HeldFrom (under label) (now a) n rest from × SomeRun (eqb kind recordKind) (now t) × (length (now a) ≤ length (now work)) × (1 ≤ weight) ⌝ }
+    requires { ⌜ HeldFrom (under label) (now a) n rest from × SomeRun (eqb kind recordKind) (now t) × (length (now a) ≤ 8 * length (now work)) × (1 ≤ weight) ⌝ }
     ensures { λ r. ⌜ ((field : Bool) (f : CountingType) (q free : List ℕ) (vs : Values) → Holds (under label) field (now (a .entry)) n rest f q free → Starts from f →
         TableRun (eqb kind recordKind) (now (t .entry)) vs →
         CountedWithin (size (withItem (under label) kind key weight vs f) + rest) (split (labelFor (under label) kind key vs) f) (labelFor (under label) kind key vs) weight q r (now (a .exit))) ⌝ }

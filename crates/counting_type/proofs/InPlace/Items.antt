@@ -38,7 +38,7 @@ unfolding listed
 listed-other kind vs w n = (rw (ne-eqb kind recordKind n) refl, omega arith)
 
 pub listed-record : (kind : ℕ) (vs : Values) (r : Listed) (w : List ℕ) → kind ≡ recordKind → ListedIn vs r w → LabelListed byLabel kind vs r w
-listed-record kind vs (Keys n) w e h = (ap (listed byLabel kind) (h .0), omega (arith, h .1))
+listed-record kind vs (Keys n) w e h = (ap (listed byLabel kind) (h .0), h .1)
 listed-record kind vs TooMany w e h = (e, h)
 
 module _ (l : Label) (a : ℕ) (g : CountingType → CountingType) (f : CountingType) where
@@ -87,7 +87,7 @@ fields-size e w t vs c o r h =
     omega (arith, ap length i, length-ascending (keys vs), siblings-size p, profile-grows counting-laws (raw e true vs) c (h .sorted) .sizes, times-grows w (raw e true vs) c o (h .sorted))
 
 pub too-many : (e : Equivalence) (field : Bool) (kind key w : ℕ) (t : List ℕ) (vs : Values) (f : CountingType) → 1 ≤ w → kind ≡ recordKind → TableRun (eqb kind recordKind) t vs → Siblings e field f →
-    (rest k n : ℕ) → n < typeSize * length (keys vs) → k ≤ n → k < typeSize * (size (withItem e kind key w vs f) + rest)
+    (rest k n : ℕ) → n < 2 * length (keys vs) → k ≤ 8 * n → k < typeSize * (size (withItem e kind key w vs f) + rest)
 too-many e field kind key w t vs f o z r h rest k n i j =
     let b = eq-eqb kind recordKind z in
     let l = labelFor e kind key vs in

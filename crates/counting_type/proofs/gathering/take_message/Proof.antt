@@ -69,7 +69,7 @@ add-waiting-requires : tie.Need-add-waiting-requires
 add-waiting-requires c κs =
     let s = c .before .before .before .before .before .before .before .before .before .before .before .pre in
     let g = s .0 in
-    (record { f = g .f; q = []; free = g .free; holds = g .holds }, slot-later (omega (arith, s .1)) (g .held (c .before .before .before .before .before .slot-of .result) (omega (arith, c .before .before .before .before .before .slot-of .ensures, s .4))), s .2, s .3)
+    (record { f = g .f; q = []; free = g .free; holds = g .holds }, slot-later (omega (arith, s .1)) (g .held (c .before .before .before .before .before .slot-of .result) (omega (arith, c .before .before .before .before .before .slot-of .ensures, s .4))), s .2, omega (arith, s .3))
 
 same-length : tie.Need-same-length
 same-length c = search needs

@@ -9,7 +9,6 @@ use borrow.Author.Needs.{needs}
 use Rattle.counting_type.specs.declared.key_list.Listed.the-variants.{Keys}
 use Rattle.counting_type.specs.Inferring.{TableRun, LabelListed}
 use Rattle.counting_type.specs.Checker.{under}
-use Rattle.counting_theory.specs.Encoding.{typeSize}
 use Rattle.counting_type.proofs.InPlace.Items.{label-is, located, too-many}
 use Rattle.value_table.specs.Value.{recordKind, Values, keys}
 use Rattle.counting_type.proofs.placing.locate.Statement.{statement}
@@ -44,7 +43,7 @@ returns : tie.Need-returns
 returns c field f q free vs h s r =
     let a = c .before .before .before .before .before .before .before .before .before in
     let k = c .before .before .before .before .list-label in
-    let d : (a .args .kind ≡ recordKind) × (length (k .last .1 .1 .1 .0) < typeSize * length (keys vs)) = rw (c .enum-told .given .1) at (k .ensures vs (λ z. rw (eq-eqb _ recordKind z) at r)) in
+    let d : (a .args .kind ≡ recordKind) × (length (k .last .1 .1 .1 .0) < 2 * length (keys vs)) = rw (c .enum-told .given .1) at (k .ensures vs (λ z. rw (eq-eqb _ recordKind z) at r)) in
     too-many (under (a .args .label)) field (a .args .kind) (a .args .key) _ _ vs f (a .pre .3) (d .0) r (h .siblings) _ _ _ (d .1) (omega (arith, a .pre .2, k .kept .1 .1 .1 .0))
 
 same-length-2 : tie.Need-same-length-2
