@@ -2,6 +2,7 @@
 pub mod Stores
 pub mod Gap
 pub mod Part
+pub mod Numbers
 pub mod KeyBytes
 pub mod Arrival
 pub mod Runs

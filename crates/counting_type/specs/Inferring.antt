@@ -28,10 +28,14 @@ use Rattle.counting_theory.specs.Raw.{ascending, raw}
 use Rattle.counting_theory.specs.Encoding.{typeSize, typeKind, typeSpan, header, encode, Tagged}
 use Rattle.counting_type.specs.Checker.{InTable, FieldsInside}
 
--- the first n keys of a key list in bytes, two bytes a key
-unfoldable pub keysOf : ℕ → List ℕ → List ℕ
-keysOf zero w = []
-keysOf (suc n) w = numberOf (take 2 w) ∷ keysOf n (drop 2 w)
+-- the first n numbers in bytes, each of `width` bytes
+unfoldable pub numbersOf : ℕ → ℕ → List ℕ → List ℕ
+numbersOf width zero w = []
+numbersOf width (suc n) w = numberOf (take width w) ∷ numbersOf width n (drop width w)
+
+-- the first n keys of a key list in bytes
+abbrev pub keysOf : ℕ → List ℕ → List ℕ
+keysOf n w = numbersOf 2 n w
 
 -- no key is above the next one
 abbrev pub AtMostFirst : ℕ → List ℕ → Type 0

@@ -19,7 +19,7 @@ use Rattle.counting_type.specs.Checker.{under, keysIn, labelAt, FieldCha
 use Rattle.counting_type.specs.Inferring.{keysOf, comparedOf, wanted}
 use Rattle.counting_theory.proofs.Order.{number-refl, less-compare, more-compare}
 use Rattle.counting_type.proofs.Chain.{Field, chain-field, chain-done, inside-keys}
-use Rattle.counting_type.proofs.InPlace.KeyBytes.{length-keys, keys-at}
+use Rattle.counting_type.proofs.InPlace.Numbers.{length-numbers, numbers-at}
 
 -- the first n keys of w compare with ys as what is left of both, from key i and record j on
 pub record KeysLeft (b : List ℕ) (end : ℕ) (w : List ℕ) (n : ℕ) (ys : List ℕ) (i j : ℕ) : Type 0 where
@@ -37,12 +37,12 @@ module _ {b : List ℕ} {end : ℕ} {w : List ℕ} {n : ℕ} {ys : List ℕ} {i 
   Verdict r = r ≡ comparedOf (compareList compare (keysOf n w) ys)
 
   none-left : i ≡ n → drop i (keysOf n w) ≡ []
-  none-left e = drop-of-length-le (keysOf n w) {i = i} (omega (arith, length-keys n w))
+  none-left e = drop-of-length-le (keysOf n w) {i = i} (omega (arith, length-numbers 2 n w))
 
   some-left : (i ≡ n → ⊥) → drop i (keysOf n w) ≡ numberAt 2 w (2 * i) ∷ drop (suc i) (keysOf n w)
   some-left m =
       let l : i < n = omega (arith, x .upto) in
-      drop-cons (keysOf n w) i 0 (omega (arith, length-keys n w)) ∙ ap (λ k. k ∷ drop (suc i) (keysOf n w)) (keys-at n i w l)
+      drop-cons (keysOf n w) i 0 (omega (arith, length-numbers 2 n w)) ∙ ap (λ k. k ∷ drop (suc i) (keysOf n w)) (numbers-at 2 n i w l)
 
   pub keys-equal : i ≡ n → j ≡ end → Verdict Equal
   unfolding compareList
