@@ -1,5 +1,6 @@
 -- The laws behind the messages that wait to be added.
 pub mod Slots
+pub mod SlotBytes
 pub mod Messages
 pub mod Turns
 pub mod Added

@@ -3,7 +3,7 @@
 use mathlib.Core.Path.{_≡_}
 use mathlib.Core.Bool.{false}
 use mathlib.Core.List.{List, [], _∷_}
-use Prim.Native.Nat.{ℕ, zero, suc, _+_, _*_, _/_, _%_, _≤_, _<_}
+use Prim.Native.Nat.{ℕ, zero, suc, _+_, _*_, _-_, _/_, _%_, _≤_, _<_}
 use lib.ListN.{length, take, drop, getD}
 use Rattle.value_table.specs.Value.{recordSize, spanAt, Values, encode, Valid}
 use Rattle.value_table.specs.Judged.{messages}
@@ -13,7 +13,15 @@ use Rattle.counting_theory.specs.Trie.{nil, append, size, _⊞_, lookup}
 use Rattle.counting_theory.specs.Label.{Equivalence, Label, Counting, CountingType}
 use Rattle.counting_theory.specs.Raw.{raw, profileOf}
 use Rattle.counting_theory.specs.Encoding.{typeSize}
-use Rattle.counting_type.specs.Inferring.{TableRun, Holds, times}
+use Rattle.counting_type.specs.Inferring.{numbersOf, TableRun, Holds, times}
+
+-- where the slots begin in a working buffer of n bytes, behind those for the keys
+abbrev pub keyPart : ℕ → ℕ
+keyPart n = n - n / 2
+
+-- the first n slots of a working buffer, eight bytes a slot
+abbrev pub slotsOf : ℕ → List ℕ → List ℕ
+slotsOf n w = numbersOf 8 n (drop (keyPart (length w)) w)
 
 abbrev pub slotStart : ℕ → ℕ
 slotStart v = v % 8192
@@ -59,6 +67,12 @@ pub record Slot (t : List ℕ) (i v : ℕ) : Type 0 where
 
 abbrev pub Slots : List ℕ → ℕ → List ℕ → Type 0
 Slots t i slots = (k : ℕ) → k < length slots → Slot t i (getD slots k 0)
+
+-- there are slots, at most as many as the arena a has room for records, and the working buffer w has at least the bytes of the arena
+pub record Roomy (slots : ℕ) (a w : List ℕ) : Type 0 where
+  pub some : 0 < slots
+  pub few : typeSize * slots ≤ length a
+  pub enough : length a ≤ length w
 
 -- The m records of the arena a hold f. With what waits in the slots and the messages left from record i on it is all that the messages
 -- of t give, at each path.

@@ -4,6 +4,11 @@ use crate::Refusal;
 use crate::inferring::Inferred;
 use crate::inferring::add_run;
 use crate::repeats::equal_records;
+use crate::slots::clear_slots;
+use crate::slots::key_part;
+use crate::slots::put_slot;
+use crate::slots::read_slot;
+use crate::type_record;
 use value_table::little_endian::number32;
 use value_table::record;
 use value_table::record::span_at;
@@ -21,13 +26,19 @@ ghost use Rattle.counting_theory.specs.Answers.{stored};
 ghost use Rattle.counting_type.specs.Checker.{under};
 ghost use Rattle.counting_type.specs.Outcomes.{Front};
 ghost use Rattle.counting_type.specs.Inferring.{AcceptedTable, Holds, HeldRun, Added};
-ghost use Rattle.counting_type.specs.Gathering.{slotRaw, SameMessage, Slot, Gathering, GatheredTo};
-
-// The slots in which messages wait.
-const SLOTS: usize = 2048;
+ghost use Rattle.counting_type.specs.Gathering.{slotsOf, slotRaw, SameMessage, Slot, Roomy, Gathering, GatheredTo};
 
 // How many records of a message are hashed.
 const HASHED: usize = 12;
+
+// What a hash is multiplied by before the next record is added: more than there are kinds, so that different kinds give different sums.
+const BASE: usize = 9;
+
+// What a hash stays below.
+const HASHES: usize = 4294967296;
+
+// 2^32 by the golden ratio, which scatters neighbouring keys.
+const SCATTER: usize = 2654435769;
 
 // What one message adds to the number in its slot; below it stands the record at which the first of them begins.
 const ONE: usize = 8192;
@@ -51,23 +62,21 @@ fn first_records(span: usize) -> usize
     if span < HASHED { span } else { HASHED }
 }
 
-// The slot of a message, from the kinds and keys of records i to end. The hash scatters neighbouring keys, so that what is added slot by
-// slot comes in a mixed order, which costs least.
-fn slot_of(t: &[u8], i: usize, end: usize) -> usize
-    requires { ⌜ (recordSize * end ≤ length (now t)) × (length (now t) ≤ maxLength) ⌝ }
-    ensures { λ r. ⌜ r < 2048 ⌝ }
+// The slot of a message, from the kinds and keys of records i to end.
+fn slot_of(t: &[u8], i: usize, end: usize, slots: usize) -> usize
+    requires { ⌜ (recordSize * end ≤ length (now t)) × (length (now t) ≤ maxLength) × (0 < slots) × (slots ≤ 4096) ⌝ }
+    ensures { λ r. ⌜ r < slots ⌝ }
 {
     let mut hash = 0;
     let mut j = i;
     while j < end {
-        let word = number32(t, record::SIZE * j);
-        hash = (hash * 5 + (word / 65536 * 1021 + word % 65536 * 331)) % SLOTS;
+        hash = (hash * BASE + number32(t, record::SIZE * j)) % HASHES;
         j += 1;
     }
-    hash
+    hash * SCATTER / 65536 % 65536 * slots / 65536
 }
 
-// Adds what waits in a slot to m records of messages' types.
+// Adds what waits in a slot to m records of messages' types. The slots stay as they are.
 fn add_waiting(
     a: &mut [u8],
     m: usize,
@@ -76,9 +85,10 @@ fn add_waiting(
     label: bool,
     work: &mut [u8],
 ) -> Inferred
-    requires { ⌜ HeldRun (under label) false (now a) m 0 × Slot (now t) (records (now t)) slot × (length (now t) ≤ maxLength) × (length (now a) ≤ 8 * length (now work)) ⌝ }
+    requires { ⌜ HeldRun (under label) false (now a) m 0 × Slot (now t) (records (now t)) slot × (length (now t) ≤ maxLength) × (length (now a) ≤ length (now work)) ⌝ }
     ensures { λ r. ⌜ ((f : CountingType) (free : List ℕ) → Holds (under label) false (now (a .entry)) m 0 f [] free →
-        Added (add Counting (slotRaw (under label) (now (t .entry)) slot) f) [] 0 r (now (a .exit))) ⌝ }
+        Added (add Counting (slotRaw (under label) (now (t .entry)) slot) f) [] 0 r (now (a .exit))) ×
+        ((n : ℕ) → slotsOf n (now (work .exit)) ≡ slotsOf n (now (work .entry))) ⌝ }
 {
     if slot < ONE {
         return Inferred::Records(m);
@@ -86,7 +96,17 @@ fn add_waiting(
     let start = slot % ONE;
     let from = record::SIZE * start;
     let stop = record::SIZE * (start + span_at(t, start));
-    add_run(a, m, 0, slot / ONE, &t[from..stop], false, label, work)
+    let half = key_part(work.len());
+    add_run(
+        a,
+        m,
+        0,
+        slot / ONE,
+        &t[from..stop],
+        false,
+        label,
+        &mut work[..half],
+    )
 }
 
 // Takes the message at record i into its slot. Other messages that waited there are added.
@@ -95,33 +115,27 @@ fn take_message(
     m: usize,
     t: &[u8],
     i: usize,
-    slots: &mut [usize; 2048],
+    slots: usize,
     label: bool,
     work: &mut [u8],
 ) -> Inferred
-    requires { ⌜ Gathering (under label) (now t) (now a) m i (now slots) × (recordSize * i < length (now t)) × (length (now t) ≤ maxLength) × (length (now a) ≤ length (now work)) × (length (now slots) ≡ 2048) ⌝ }
-    ensures { λ r. ⌜ GatheredTo (under label) (now (t .entry)) (i + spanAt (now (t .entry)) i) r (now (a .exit)) (now (slots .exit)) × (length (now (slots .exit)) ≡ 2048) ⌝ }
+    requires { ⌜ Gathering (under label) (now t) (now a) m i (slotsOf slots (now work)) × (recordSize * i < length (now t)) × (length (now t) ≤ maxLength) × Roomy slots (now a) (now work) ⌝ }
+    ensures { λ r. ⌜ GatheredTo (under label) (now (t .entry)) (i + spanAt (now (t .entry)) i) r (now (a .exit)) (slotsOf slots (now (work .exit))) ⌝ }
 {
-    let k = slot_of(t, i, i + first_records(span_at(t, i)));
-    let slot = slots[k];
+    let k = slot_of(t, i, i + first_records(span_at(t, i)), slots);
+    let slot = read_slot(work, k);
     if same_message(t, slot % ONE, i) {
-        slots[k] = slot + ONE;
+        put_slot(work, k, slot + ONE);
         return Inferred::Records(m);
     }
-    slots[k] = i + ONE;
+    put_slot(work, k, i + ONE);
     add_waiting(a, m, t, slot, label, work)
 }
 
 // Takes all messages of a table into slots.
-fn gather(
-    a: &mut [u8],
-    t: &[u8],
-    slots: &mut [usize; 2048],
-    label: bool,
-    work: &mut [u8],
-) -> Inferred
-    requires { ⌜ AcceptedTable (now t) × (length (now a) ≤ maxLength) × (length (now a) ≤ length (now work)) × (now slots ≡ replicate 2048 0) ⌝ }
-    ensures { λ r. ⌜ GatheredTo (under label) (now (t .entry)) (records (now (t .entry))) r (now (a .exit)) (now (slots .exit)) × (length (now (slots .exit)) ≡ 2048) ⌝ }
+fn gather(a: &mut [u8], t: &[u8], slots: usize, label: bool, work: &mut [u8]) -> Inferred
+    requires { ⌜ AcceptedTable (now t) × (length (now a) ≤ maxLength) × Roomy slots (now a) (now work) × (slotsOf slots (now work) ≡ replicate slots 0) ⌝ }
+    ensures { λ r. ⌜ GatheredTo (under label) (now (t .entry)) (records (now (t .entry))) r (now (a .exit)) (slotsOf slots (now (work .exit))) ⌝ }
 {
     let end = t.len() / record::SIZE;
     let mut m = 0;
@@ -137,21 +151,15 @@ fn gather(
 }
 
 // Adds what waits in all slots.
-fn settle(
-    a: &mut [u8],
-    m: usize,
-    t: &[u8],
-    slots: &[usize; 2048],
-    label: bool,
-    work: &mut [u8],
-) -> Inferred
-    requires { ⌜ AcceptedTable (now t) × Gathering (under label) (now t) (now a) m (records (now t)) (now slots) × (length (now a) ≤ length (now work)) × (length (now slots) ≡ 2048) ⌝ }
+fn settle(a: &mut [u8], m: usize, t: &[u8], slots: usize, label: bool, work: &mut [u8]) -> Inferred
+    requires { ⌜ AcceptedTable (now t) × Gathering (under label) (now t) (now a) m (records (now t)) (slotsOf slots (now work)) × Roomy slots (now a) (now work) ⌝ }
     ensures { λ r. ⌜ Added (profileOf (under label) (messages (now (t .entry)))) [] 0 r (now (a .exit)) ⌝ }
 {
     let mut n = m;
     let mut k = 0;
-    while k < SLOTS {
-        let Inferred::Records(size) = add_waiting(a, n, t, slots[k], label, work) else {
+    while k < slots {
+        let slot = read_slot(work, k);
+        let Inferred::Records(size) = add_waiting(a, n, t, slot, label, work) else {
             return Inferred::Full;
         };
         n = size;
@@ -160,20 +168,25 @@ fn settle(
     Inferred::Records(n)
 }
 
-// Adds the messages of an accepted table to an empty arena.
+// Adds the messages of an accepted table to an empty arena. There are as many slots as the arena has records; without any the messages
+// are added one by one.
 fn add_messages(a: &mut [u8], t: &[u8], label: bool, work: &mut [u8]) -> Inferred
     requires { ⌜ AcceptedTable (now t) × (length (now a) ≤ maxLength) × (length (now a) ≤ length (now work)) ⌝ }
     ensures { λ r. ⌜ Added (profileOf (under label) (messages (now (t .entry)))) [] 0 r (now (a .exit)) ⌝ }
 {
-    let mut slots = [0usize; 2048];
-    let Inferred::Records(m) = gather(a, t, &mut slots, label, work) else {
+    let slots = a.len() / type_record::SIZE;
+    if slots == 0 {
+        return add_run(a, 0, 0, 1, t, false, label, work);
+    }
+    clear_slots(work);
+    let Inferred::Records(m) = gather(a, t, slots, label, work) else {
         return Inferred::Full;
     };
-    settle(a, m, t, &slots, label, work)
+    settle(a, m, t, slots, label, work)
 }
 
 // Infers the type of an accepted table's messages into the front of the arena. The working buffer holds the key list of the record at
-// hand.
+// hand, and the slots.
 pub fn infer_type(table: &[u8], label: bool, arena: &mut [u8], work: &mut [u8]) -> Answered
     requires { ⌜ AcceptedTable (now table) × (length (now arena) ≤ maxLength) × (length (now arena) ≤ length (now work)) ⌝ }
     ensures { λ r. ⌜ Front (stored (length (now (arena .entry))) (profileOf (under label) (messages (now (table .entry))))) r (now (arena .exit)) ⌝ }

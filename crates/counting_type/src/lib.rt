@@ -9,6 +9,7 @@ mod merging;
 mod placing;
 mod repeats;
 mod search;
+mod slots;
 mod store;
 pub mod type_record;
 mod type_store;

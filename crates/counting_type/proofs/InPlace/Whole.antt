@@ -11,14 +11,15 @@ use Rattle.value_table.specs.Acceptance.{Table}
 use Rattle.value_table.proofs.Header as table
 use Rattle.counting_type.specs.declared.Answered.the-variants.{Accepted, Refused}
 use Rattle.counting_type.specs.declared.Refusal.the-variants.{Room}
-use Rattle.counting_theory.specs.Trie.{nil, size}
-use Rattle.counting_theory.specs.Label.{Equivalence, CountingType}
-use Rattle.counting_theory.specs.Raw.{profileOf}
+use Rattle.counting_theory.specs.Trie.{nil, size, add}
+use Rattle.counting_theory.specs.Label.{Equivalence, Counting, CountingType}
+use Rattle.counting_theory.specs.Raw.{raw, profileOf}
 use Rattle.counting_theory.specs.Encoding.{typeSize, encode}
 use Rattle.counting_theory.specs.Answers.{stored}
 use Rattle.counting_type.specs.Outcomes.{Front}
-use Rattle.counting_type.specs.Inferring.{TableRun, Holds, Grown}
+use Rattle.counting_type.specs.Inferring.{TableRun, Holds, times, Weighed, Grown}
 use Rattle.counting_theory.proofs.Encoding.Header.{length-encode}
+use Rattle.counting_type.proofs.InPlace.Times.{times-one}
 use Rattle.counting_type.proofs.Fronts.{front-room, front-stored}
 
 pub table-run : {t : List ℕ} {ms : Values} {n : ℕ} → Table t ms n → TableRun false t ms
@@ -36,6 +37,14 @@ table-run {t} {ms} x =
 pub holds-nothing : (e : Equivalence) (a : List ℕ) → length a ≤ maxLength → Holds e false a 0 0 nil [] a
 unfolding encode size
 holds-nothing e a h = record { bytes = refl; count = refl; used = refl; short = h; siblings = record { tagged = tt; sorted = tt; keyed = tt } }
+
+-- the run once, added to nothing
+pub added-once : (e : Equivalence) (ms : Values) → add Counting (times 1 (raw e false ms)) nil ≡ profileOf e ms
+unfolding profileOf
+added-once e ms = ap (λ r. add Counting r nil) (times-one (raw e false ms))
+
+pub weighed-once : {t : List ℕ} → length t ≤ maxLength → Weighed 1 t
+weighed-once h = record { some = omega arith; small = omega arith; bound = omega arith }
 
 -- the answer of the run, on the whole arena
 module _ (e : Equivalence) (ms : Values) (b : List ℕ) (n : ℕ) (l : length b ≡ n) where

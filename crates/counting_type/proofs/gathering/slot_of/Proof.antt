@@ -1,17 +1,21 @@
 -- `slot_of` meets its contract.
 use borrow.Author.Needs.{needs}
-use Prim.Native.Nat.{_-_, _<_}
+use Prim.Native.Nat.{_-_, _*_, _/_, _<_}
+use Rattle.counting_type.proofs.Waiting.SlotBytes.{scaled-fits, scaled-below}
 use Rattle.counting_type.proofs.gathering.slot_of.Statement.{statement}
 use Rattle.counting_type.proofs.gathering.slot_of.Tie as tie
 
 abbrev Inv-loop : tie.InvT-loop
-Inv-loop t i end hash₀ j₀ hash j = hash < 2048
+Inv-loop t i end slots hash₀ j₀ hash j = hash < 4294967296
 
 abbrev μ-loop : tie.MeasureT-loop
-μ-loop t i end hash₀ j₀ hash j = end - j
+μ-loop t i end slots hash₀ j₀ hash j = end - j
 
 loop-holds : tie.Need-loop-holds Inv-loop μ-loop
 loop-holds c = search needs
+
+mul-hash : tie.Need-mul-hash Inv-loop μ-loop
+mul-hash c = search needs
 
 mul-number32 : tie.Need-mul-number32 Inv-loop μ-loop
 mul-number32 c = search needs
@@ -19,20 +23,8 @@ mul-number32 c = search needs
 number32-requires : tie.Need-number32-requires Inv-loop μ-loop
 number32-requires c κs = search needs
 
-mul-hash : tie.Need-mul-hash Inv-loop μ-loop
-mul-hash c = search needs
-
-mul-hash-2 : tie.Need-mul-hash-2 Inv-loop μ-loop
-mul-hash-2 c = search needs
-
-mul-hash-3 : tie.Need-mul-hash-3 Inv-loop μ-loop
-mul-hash-3 c = search needs
-
 add-hash : tie.Need-add-hash Inv-loop μ-loop
 add-hash c = search needs
-
-add-hash-2 : tie.Need-add-hash-2 Inv-loop μ-loop
-add-hash-2 c = search needs
 
 add-j : tie.Need-add-j Inv-loop μ-loop
 add-j c = search needs
@@ -43,8 +35,18 @@ loop-less c = search needs
 loop-again : tie.Need-loop-again Inv-loop μ-loop
 loop-again c = search needs
 
+mul-result : tie.Need-mul-result Inv-loop μ-loop
+mul-result c = search needs
+
+mul-result-2 : tie.Need-mul-result-2 Inv-loop μ-loop
+mul-result-2 c =
+    let s = c .before .before .before in
+    record { fits = scaled-fits (c .before .loop .hash * 2654435769 / 65536) (s .args .slots) (s .pre .3) }
+
 returns : tie.Need-returns Inv-loop μ-loop
-returns c = search needs
+returns c =
+    let s = c .before .before .before in
+    scaled-below (c .before .loop .hash * 2654435769 / 65536) (s .args .slots) (s .pre .2)
 
 pub slot-of-spec : {M : Type 1} → statement M
 slot-of-spec =
@@ -53,14 +55,13 @@ slot-of-spec =
     Inv-loop
     μ-loop
     loop-holds
+    mul-hash
     mul-number32
     number32-requires
-    mul-hash
-    mul-hash-2
-    mul-hash-3
     add-hash
-    add-hash-2
     add-j
     loop-less
     loop-again
+    mul-result
+    mul-result-2
     returns)

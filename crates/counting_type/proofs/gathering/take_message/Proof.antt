@@ -1,11 +1,26 @@
 -- `take_message` meets its contract.
+use mathlib.Core.Path.{_≡_}
 use mathlib.Core.List.{[]}
+use Prim.Native.Nat.{_<_}
 use native.Mathlib.Omega.{arith}
-use lib.ListN.{length-set}
+use lib.ListN.{length, getD}
+use Rattle.counting_type.specs.Gathering.{slotsOf, Slot}
+use Rattle.counting_type.proofs.Waiting.SlotBytes.{length-slots}
 use Rattle.counting_type.proofs.Waiting.Turns.{here, slot-later, taken-same, taken-to}
 use borrow.Author.Needs.{needs}
 use Rattle.counting_type.proofs.gathering.take_message.Statement.{statement}
 use Rattle.counting_type.proofs.gathering.take_message.Tie as tie
+
+-- the slot that is read
+module _ (c : tie.After-read-slot) where
+  inside : c .before .before .slot-of .result < length (slotsOf (c .before .before .before .before .before .before .before .before .args .slots) (c .before .before .before .before .before .before .before .before .args .work .now))
+  inside = omega (arith, c .before .before .slot-of .ensures, length-slots (c .before .before .before .before .before .before .before .before .args .slots) (c .before .before .before .before .before .before .before .before .args .work .now))
+
+  slot-is : c .read-slot .result ≡ getD (slotsOf (c .before .before .before .before .before .before .before .before .args .slots) (c .before .before .before .before .before .before .before .before .args .work .now)) (c .before .before .slot-of .result) 0
+  slot-is = c .read-slot .ensures (c .before .before .before .before .before .before .before .before .args .slots) (c .before .before .slot-of .ensures)
+
+  slot-holds : Slot (c .before .before .before .before .before .before .before .before .args .t .now) (c .before .before .before .before .before .before .before .before .args .i) (c .read-slot .result)
+  slot-holds = rw slot-is (c .before .before .before .before .before .before .before .before .pre .0 .held (c .before .before .slot-of .result) inside)
 
 span-at-requires : tie.Need-span-at-requires
 span-at-requires c κs =
@@ -17,72 +32,71 @@ first-records-requires : tie.Need-first-records-requires
 first-records-requires c κs = search needs
 
 add-slot-of : tie.Need-add-slot-of
-add-slot-of c =
-    let s = c .before .before .before .before .before .pre in
-    omega (arith, s .2, here (s .0) (s .2) (s .1) .within, c .before .span-at .ensures .0, c .first-records .ensures)
+add-slot-of c = search needs
 
 slot-of-requires : tie.Need-slot-of-requires
 slot-of-requires c κs =
     let s = c .before .before .before .before .before .pre in
-    (omega (arith, here (s .0) (s .2) (s .1) .within, c .before .span-at .ensures .0, c .first-records .ensures), s .2)
+    (omega (arith, here (s .0) (s .2) (s .1) .within, c .before .span-at .ensures .0, c .first-records .ensures), s .2, s .3 .some, omega (arith, s .3 .few, s .0 .holds .short))
 
-mul-slot : tie.Need-mul-slot
-mul-slot c = search needs
-
-element-copy-out-slot : tie.Need-element-copy-out-slot
-element-copy-out-slot c = search needs
+read-slot-requires : tie.Need-read-slot-requires
+read-slot-requires c κs = search needs
 
 same-message-requires : tie.Need-same-message-requires
 same-message-requires c κs =
-    let s = c .before .before .before .before .before .before .before .pre in
+    let s = c .before .before .before .before .before .before .before .before .pre in
     let m = here (s .0) (s .2) (s .1) in
-    (s .0 .held (c .before .slot-of .result) (omega (arith, c .before .slot-of .ensures, s .4)) .start, m .some, m .within, s .2)
+    (slot-holds c .start, m .some, m .within, s .2)
 
-add-slots : tie.Need-add-slots
-add-slots c =
-    let s = c .before .before .before .before .before .before .before .before .before .pre in
-    omega (arith, s .0 .held (c .before .before .before .slot-of .result) (omega (arith, c .before .before .before .slot-of .ensures, s .4)) .few, s .1, s .2)
-
-mul-slots : tie.Need-mul-slots
-mul-slots c = search needs
-
-element-write-slots : tie.Need-element-write-slots
-element-write-slots c = search needs
-
-returns : tie.Need-returns
-returns c =
-    let s = c .before .before .before .before .before .before .before .before .before .pre in
-    (taken-same (s .0) (s .2) (s .1) (c .before .before .before .slot-of .result) (omega (arith, c .before .before .before .slot-of .ensures, s .4)) (c .before .same-message .ensures (c .if1 .taken)), simp length-set (s .4))
-
-add-slots-2 : tie.Need-add-slots-2
-add-slots-2 c =
-    let s = c .before .before .before .before .before .before .before .before .before .pre in
-    omega (arith, s .1, s .2)
-
-mul-slots-2 : tie.Need-mul-slots-2
-mul-slots-2 c = search needs
-
-element-write-slots-2 : tie.Need-element-write-slots-2
-element-write-slots-2 c = search needs
-
-add-waiting-requires : tie.Need-add-waiting-requires
-add-waiting-requires c κs =
+add-put-slot : tie.Need-add-put-slot
+add-put-slot c =
     let s = c .before .before .before .before .before .before .before .before .before .before .before .pre in
-    let g = s .0 in
-    (record { f = g .f; q = []; free = g .free; holds = g .holds }, slot-later (omega (arith, s .1)) (g .held (c .before .before .before .before .before .slot-of .result) (omega (arith, c .before .before .before .before .before .slot-of .ensures, s .4))), s .2, omega (arith, s .3))
+    omega (arith, slot-holds (c .before .before .before) .few, s .1, s .2)
+
+put-slot-requires : tie.Need-put-slot-requires
+put-slot-requires c κs = search needs
 
 same-length : tie.Need-same-length
 same-length c = search needs
 
+returns : tie.Need-returns
+returns c =
+    let b = c .before .before .before .before .before .before .before .before .before .before .before .before .before .before in
+    let s = b .pre in
+    let r = c .before .before .before .before .before .before in
+    let k = r .before .before .slot-of in
+    let z = slot-is r in
+    rw (c .before .before .put-slot .ensures (b .args .slots) (k .ensures) (omega (arith, s .3 .few, s .3 .enough)), z)
+    (taken-same (s .0) (s .2) (s .1) (k .result) (inside r) (rw z at (c .before .before .before .before .before .same-message .ensures (c .before .before .before .before .if1 .taken))))
+
+add-put-slot-2 : tie.Need-add-put-slot-2
+add-put-slot-2 c = search needs
+
+put-slot-requires-2 : tie.Need-put-slot-requires-2
+put-slot-requires-2 c κs = search needs
+
+add-waiting-requires : tie.Need-add-waiting-requires
+add-waiting-requires c κs =
+    let s = c .before .before .before .before .before .before .before .before .before .before .before .before .before .before .before .before .pre in
+    let g = s .0 in
+    (record { f = g .f; q = []; free = g .free; holds = g .holds }, slot-later (omega (arith, s .1)) (slot-holds (c .before .before .before .before .before .before .before .before)), s .2, omega (arith, s .3 .enough, c .before .before .before .before .put-slot2 .kept .0))
+
 same-length-2 : tie.Need-same-length-2
 same-length-2 c = search needs
 
+same-length-3 : tie.Need-same-length-3
+same-length-3 c = search needs
+
 returns-2 : tie.Need-returns-2
 returns-2 c =
-    let s = c .before .before .before .before .before .before .before .before .before .before .before .before .before .before .before .before .pre in
+    let b = c .before .before .before .before .before .before .before .before .before .before .before .before .before .before .before .before .before .before .before .before .before in
+    let s = b .pre in
     let g = s .0 in
+    let r = c .before .before .before .before .before .before .before .before .before .before .before .before .before in
+    let k = r .before .before .slot-of in
     let w = c .before .before .before .before .add-waiting in
-    (taken-to g (s .2) (s .1) (c .before .before .before .before .before .before .before .before .before .before .slot-of .result) (omega (arith, c .before .before .before .before .before .before .before .before .before .before .slot-of .ensures, s .4)) (omega (arith, s .1, s .2)) (w .result) (w .last .0) (omega (arith, w .kept .0, g .holds .short)) (w .ensures (g .f) (g .free) (g .holds)), simp length-set (s .4))
+    rw (w .ensures .1 (b .args .slots), c .before .before .before .before .before .before .before .before .before .put-slot2 .ensures (b .args .slots) (k .ensures) (omega (arith, s .3 .few, s .3 .enough)))
+    (taken-to g (s .2) (s .1) (k .result) (inside r) (omega (arith, s .1, s .2)) (w .result) (w .last .0) (omega (arith, w .kept .0, g .holds .short)) (rw (slot-is r) at (w .ensures .0 (g .f) (g .free) (g .holds))))
 
 pub take-message-spec : {M : Type 1} → statement M
 take-message-spec =
@@ -92,17 +106,15 @@ take-message-spec =
     first-records-requires
     add-slot-of
     slot-of-requires
-    mul-slot
-    element-copy-out-slot
+    read-slot-requires
     same-message-requires
-    add-slots
-    mul-slots
-    element-write-slots
-    returns
-    add-slots-2
-    mul-slots-2
-    element-write-slots-2
-    add-waiting-requires
+    add-put-slot
+    put-slot-requires
     same-length
+    returns
+    add-put-slot-2
+    put-slot-requires-2
+    add-waiting-requires
     same-length-2
+    same-length-3
     returns-2)
