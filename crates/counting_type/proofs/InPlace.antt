@@ -19,4 +19,5 @@ pub mod Items
 pub mod Steps
 pub mod Repeats
 pub mod Turns
+pub mod Scalars
 pub mod Whole

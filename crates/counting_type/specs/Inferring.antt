@@ -96,6 +96,10 @@ unfoldable pub spot : Label → ℕ → CountingType → Found
 spot l at nil = Missing at
 spot l at (node k count c s) = spotHere (compareLabel l k) at (spot l (at + (1 + size c)) s)
 
+-- the label l stands at record p of the siblings f
+abbrev pub StandsAt : Label → CountingType → ℕ → Type 0
+StandsAt l f p = Here p ≡ spot l 0 f
+
 -- each key fits its bytes
 abbrev pub Keyed : CountingType → Type 0
 Keyed nil = Unit {0}

@@ -4,3 +4,4 @@ pub mod Merging
 pub mod Inferring
 pub mod Gathering
 pub mod Outcomes
+pub mod ScalarFields

@@ -8,6 +8,7 @@ mod key_list;
 mod merging;
 mod placing;
 mod repeats;
+mod scalar_fields;
 mod search;
 mod slots;
 mod store;

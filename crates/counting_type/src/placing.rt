@@ -13,14 +13,25 @@ ghost use lib.Dec.{eqb};
 ghost use lib.ListN.{length};
 ghost use Rattle.value_table.specs.Value.{recordKind, Values};
 ghost use Rattle.counting_theory.specs.Trie.{size};
-ghost use Rattle.counting_theory.specs.Label.{CountingType};
+ghost use Rattle.counting_theory.specs.Label.{Equivalence, Label, CountingType};
+ghost use Rattle.counting_theory.specs.Encoding.{typeSize};
 ghost use Rattle.counting_type.specs.Checker.{under};
-ghost use Rattle.counting_type.specs.Inferring.{TableRun, SomeRun, wanted, Holds, Starts, HeldFrom, split, CountedWithin, PlacedAt, labelFor, withItem};
+ghost use Rattle.counting_type.specs.Inferring.{TableRun, SomeRun, wanted, Holds, Starts, StandsAt, HeldFrom, split, Counted, CountedWithin, PlacedAt, labelFor, withItem};
 
 // The record where a label stands, and the number of records of its siblings; or that there is no room.
 pub enum Put {
     At(usize, usize),
     NoRoom,
+}
+
+// Counts `weight` more in the record at p, where a label stands.
+pub fn count_here(a: &mut [u8], p: usize, weight: usize)
+    requires { ⌜ typeSize * p + typeSize ≤ length (now a) ⌝ }
+    ensures { λ _. ⌜ ((e : Equivalence) (field : Bool) (n rest : ℕ) (l : Label) (f : CountingType) (q free : List ℕ) → Holds e field (now (a .entry)) n rest f q free → StandsAt l f p →
+        Counted (split l f) l weight q p n (now (a .exit))) ⌝ }
+{
+    let o = type_record::SIZE * p;
+    count_more(&mut a[o..], weight);
 }
 
 // Counts `weight` at a label among n records of siblings, with `rest` records in use behind them.
@@ -42,8 +53,7 @@ fn place(
 {
     match search(a, from, n, kind, key, work, keys, label) {
         Found::Here(p) => {
-            let o = type_record::SIZE * p;
-            count_more(&mut a[o..], weight);
+            count_here(a, p, weight);
             Put::At(p, n)
         }
         Found::Missing(p) => {

@@ -3,7 +3,7 @@ use mathlib.Core.Path.{_≡_, refl, _∙_, ap}
 use mathlib.Core.Bool.{Bool}
 use mathlib.Core.List.{List, _++_, append-assoc}
 use Prim.Native.Nat.{ℕ, _+_, _-_, _*_, _≤_, _<_}
-use native.Mathlib.Nat.{zero-add}
+use native.Mathlib.Nat.{zero-add, add-zero}
 use native.Mathlib.Omega.{arith}
 use lib.ListN.{length, take, drop, length-append}
 use lib.Seq.{take-at, drop-append-add}
@@ -42,6 +42,10 @@ module _ {e : Equivalence} {field : Bool} {a : List ℕ} {n rest : ℕ} {f : Cou
 
       pub here-within : p < n
       here-within = omega (arith, here-count, v .spot-is)
+
+      -- nothing is counted yet
+      pub here-as-is : Counted x l 0 q p n a
+      here-as-is = record { place = omega (arith, v .spot-is); count = here-count; free = free; bytes = here-bytes ∙ rw add-zero refl }
 
       pub here-counted : (b : List ℕ) →
           ((l : Label) (span count : ℕ) (q : List ℕ) → take (length a - typeSize * p) (drop (typeSize * p) a) ≡ header l span count ++ q → b ≡ header l span (count + w) ++ q) →

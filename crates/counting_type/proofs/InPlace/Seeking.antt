@@ -48,12 +48,12 @@ not-both o z = (λ e. let y : _≡_ {A = ℕ} 0 1 = cc in omega arith, λ e. let
 module _ {e : Equivalence} {field : Bool} {a : List ℕ} {n rest : ℕ} {f : CountingType} {q free : List ℕ} (h : Holds e field a n rest f q free) where
   -- what is held behind the first siblings of f
   module _ (first last : CountingType) (whole : f ≡ append first last) (from : ℕ) (count : from ≡ size first) where
-    from-bytes : drop (typeSize * from) a ≡ encode last ++ (q ++ free)
+    pub from-bytes : drop (typeSize * from) a ≡ encode last ++ (q ++ free)
     from-bytes =
         tail-drop a (encode first) (encode last ++ (q ++ free)) (typeSize * from)
         (h .bytes ∙ ap (λ g. encode g ++ (q ++ free)) whole ∙ simp (encode-append, append-assoc)) (omega (arith, length-encode first))
 
-    from-count : from + size last ≡ n
+    pub from-count : from + size last ≡ n
     from-count = omega (arith, h .count, ap size whole, size-append first last)
 
     from-siblings : Siblings e field last
@@ -72,11 +72,14 @@ module _ {e : Equivalence} {field : Bool} {a : List ℕ} {n rest : ℕ} {f : Cou
         count = omega (arith, y .span-is, size-append first (node k c d nil));
       }
 
+  pub starts-next : (from : ℕ) → Starts from f → from < n → Starts (from + typeSpan a from) f
+  starts-next from s u = next-start (s .first) (s .last) (s .whole) from (s .count) u
+
   pub starts-resumed : (o : Bool) (from : ℕ) → Starts from f → Starts (resumed o a from n) f
   starts-resumed o from s = go o (ltb (from + typeSpan a from) n) refl
     where
       go : (o b : Bool) → ltb (from + typeSpan a from) n ≡ b → Starts (cond o (cond b (from + typeSpan a from) from) from) f
-      go true true z = next-start (s .first) (s .last) (s .whole) from (s .count) (omega (arith, ltb-true (from + typeSpan a from) n z))
+      go true true z = starts-next from s (omega (arith, ltb-true (from + typeSpan a from) n z))
       go true false z = s
       go false b z = s
 
@@ -96,18 +99,26 @@ module _ {e : Equivalence} {field : Bool} {a : List ℕ} {n rest : ℕ} {f : Cou
         let label = label-in a (h .short) e field from k c d t (q ++ free) (i .keyed) b (i .tagged) in
         all-before l first k c d t (rw z at (h .siblings .sorted)) (λ y. m (rw label y))
 
+    first-before : from < n → (compareLabel l (labelAt e a from) ≡ lt → ⊥) → AllBefore l first
+    first-before u m = before-last u m last whole (from-bytes h first last whole from count) (from-count h first last whole from count) (from-siblings h first last whole from count)
+
     seen-from : (resumed : Bool) → (resumed ≡ true → from < n) → (resumed ≡ false → AllBefore l first) → Seen e a n l f resumed from
     seen-from resumed u b =
         record { field = field; g = last; q = q ++ free; bytes = from-bytes h first last whole from count; count = from-count h first last whole from count; siblings = from-siblings h first last whole from count; within = u; same = λ m. from-same (go resumed u b m) }
       where
         go : (o : Bool) → (o ≡ true → from < n) → (o ≡ false → AllBefore l first) → (o ≡ true → compareLabel l (labelAt e a from) ≡ lt → ⊥) → AllBefore l first
-        go true u b m = before-last (u refl) (m refl) last whole (from-bytes h first last whole from count) (from-count h first last whole from count) (from-siblings h first last whole from count)
+        go true u b m = first-before (u refl) (m refl)
         go false u b m = b refl
 
   -- a search from the first sibling on
   pub seen-start : Seen e a n l f false 0
   unfolding append size
   seen-start = seen-from nil f refl 0 refl false (λ z. absurd (true≢false (sym z))) (λ z. tt)
+
+  -- one from a sibling that the label does not come before
+  pub seen-at : {from : ℕ} → Starts from f → from < n → (compareLabel l (labelAt e a from) ≡ lt → ⊥) → Seen e a n l f false from
+  seen-at {from} s u m =
+      seen-from (s .first) (s .last) (s .whole) from (s .count) false (λ z. absurd (true≢false (sym z))) (λ z. first-before (s .first) (s .last) (s .whole) from (s .count) u m)
 
   -- one that is resumed, where it can be
   pub seen-resumed : {from : ℕ} → Starts from f → Seen e a n l f (ltb 0 (cond (ltb from n) from 0)) (cond (ltb from n) from 0)

@@ -118,19 +118,31 @@ module _ {l : Label} {w : ℕ} (f : CountingType) {q : List ℕ} (rest : ℕ) (u
           rw (tail-put b head tail (typeSize * p + typeSize) head-tail head-length z)
           (simp (length-append, header-length, before-length) (omega (arith, insert-size l w g f, y .count, y .place)))
 
+      step-put : (z : List ℕ) → putMid (typeSize * p + typeSize) (length b - (typeSize * p + typeSize)) b z ≡ encode (x .before) ++ (header l (1 + size (x .content)) (x .count + w) ++ z)
+      step-put z = tail-put b head tail (typeSize * p + typeSize) head-tail head-length z ∙ append-assoc (encode (x .before)) (header l (1 + size (x .content)) (x .count + w)) z
+
       pub step-grown : (k : ℕ) (z b′ : List ℕ) → Grown (g (x .content)) (encode (x .after) ++ q) k z →
           b′ ≡ sets (putMid (typeSize * p + typeSize) (length b - (typeSize * p + typeSize)) b z) (typeSize * p + 4) (bytesOf 4 (k + 1)) →
           Grown (insert Counting l w g f) q (m + (k + 1) - s) b′
       step-grown k z b′ v h =
-          let u : putMid (typeSize * p + typeSize) (length b - (typeSize * p + typeSize)) b z ≡ encode (x .before) ++ (header l (1 + size (x .content)) (x .count + w) ++ z) =
-          tail-put b head tail (typeSize * p + typeSize) head-tail head-length z ∙ append-assoc (encode (x .before)) (header l (1 + size (x .content)) (x .count + w)) z in
           let i : k + 1 ≡ 1 + size (g (x .content)) = omega (arith, v .count) in
           record {
             count = omega (arith, insert-size l w g f, y .count, y .place, v .count);
             free = v .free;
             bytes = h
-                ∙ rw (u, ← before-length, sets-behind (encode (x .before)) (header l (1 + size (x .content)) (x .count + w) ++ z) (bytesOf 4 (k + 1)) 4, span-stored, i, v .bytes, insert-split l w g f)
+                ∙ rw (step-put z, ← before-length, sets-behind (encode (x .before)) (header l (1 + size (x .content)) (x .count + w) ++ z) (bytesOf 4 (k + 1)) 4, span-stored, i, v .bytes, insert-split l w g f)
                 (simp (encode-append, encode-node, append-assoc));
+          }
+
+      -- as many records as before are below it
+      pub step-kept : (z : List ℕ) → Grown (g (x .content)) (encode (x .after) ++ q) (s - 1) z →
+          Grown (insert Counting l w g f) q m (putMid (typeSize * p + typeSize) (length b - (typeSize * p + typeSize)) b z)
+      step-kept z v =
+          let i : size (x .content) ≡ size (g (x .content)) = omega (arith, v .count) in
+          record {
+            count = omega (arith, insert-size l w g f, y .count, y .place, v .count);
+            free = v .free;
+            bytes = rw (step-put z, i, v .bytes, insert-split l w g f) (simp (encode-append, encode-node, append-assoc));
           }
 
 -- an empty run adds nothing

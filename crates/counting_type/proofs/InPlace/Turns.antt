@@ -20,6 +20,7 @@ use Rattle.counting_theory.specs.Encoding.{typeSize}
 use Rattle.counting_theory.specs.Encoding as bytes
 use Rattle.counting_type.specs.Checker.{InTable}
 use Rattle.counting_type.specs.Inferring.{TableRun, Siblings, Holds, Starts, split, Grown, AddedAt, labelFor, times, withItem, Weighed, ItemAt, EqualRecords, resumed}
+use Rattle.counting_type.specs.ScalarFields.{Ran}
 use Rattle.counting_theory.proofs.Label.{counting-laws}
 use Rattle.counting_theory.proofs.Trie.Growth.{add-grows}
 use Rattle.counting_theory.proofs.Tagged.Parts.{listed-field}
@@ -57,23 +58,6 @@ times-item e field w kind key content next =
 bit-small : (o : Bool) → cond o 1 0 ≤ 1
 bit-small true = omega arith
 bit-small false = omega arith
-
--- what is left of the run vs from record i on, and the siblings g that it is to be added to, w times
-pub record Ran (e : Equivalence) (field : Bool) (w : ℕ) (vs : Values) (f : CountingType) (q a t : List ℕ) (m i from : ℕ) : Type 0 where
-  pub asFields : Bool
-  pub depth : ℕ
-  pub left : Values
-  pub g : CountingType
-  pub free : List ℕ
-  pub left-bytes : drop (recordSize * i) t ≡ encode left
-  pub valid : ValidAt asFields depth left
-  pub fields : field ≡ true → asFields ≡ true
-  pub held : a ≡ bytes.encode g ++ (q ++ free)
-  pub count : m ≡ size g
-  pub siblings : Siblings e field g
-  pub starts : Starts from g
-  pub some : 1 ≤ w
-  pub same : add Counting (times w (raw e field left)) g ≡ add Counting (times w (raw e field vs)) f
 
 module _ {e : Equivalence} {field : Bool} {w : ℕ} {vs : Values} {f : CountingType} {q t : List ℕ} where
   pub ran-start : {a free : List ℕ} {n rest : ℕ} → Holds e field a n rest f q free → TableRun field t vs → 1 ≤ w → Ran e field w vs f q a t n 0 0

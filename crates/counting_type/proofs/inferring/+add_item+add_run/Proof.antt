@@ -15,8 +15,9 @@ use Rattle.counting_theory.specs.Raw.{raw}
 use Rattle.counting_theory.specs.Encoding.{encode}
 use Rattle.counting_type.specs.Checker.{under}
 use Rattle.counting_type.specs.Inferring.{TableRun, Holds, split, Counted, Grown, labelFor, times, withItem, Weighed, AddedAt}
+use Rattle.counting_type.specs.ScalarFields.{Ran}
 use Rattle.counting_type.proofs.InPlace.Steps.{Task, step-length, step-within, step-span, step-empty, nothing-added, step-holds, step-full, step-grown, added-full, added-records, grown-length}
-use Rattle.counting_type.proofs.InPlace.Turns.{Ran, ran-start, ran-holds, ran-end, ran-first, below, below-run, turn-full, turn-room, turn-added, turn-order, turn-measure, turn-few, turn-weighed}
+use Rattle.counting_type.proofs.InPlace.Turns.{ran-start, ran-holds, ran-end, ran-first, below, below-run, turn-full, turn-room, turn-added, turn-order, turn-measure, turn-few, turn-weighed}
 use Rattle.counting_type.proofs.InPlace.Runs.{whole-records}
 use borrow.Fn.Kinds.{In}
 use borrow.Fn.PlainCycle.{Measures, is, falls, and}
@@ -28,6 +29,7 @@ use Rattle.counting_type.proofs.inferring.add_run.Kinds as add-run-kind
 use Rattle.counting_type.proofs.inferring.+add_item+add_run.Lts-add_run as add-run-lts
 use Rattle.counting_type.proofs.inferring.read_item.Reads as read-item-reads
 use Rattle.counting_type.proofs.repeats.equal_values.Reads as equal-values-reads
+use Rattle.counting_type.proofs.scalar_fields.count_standing.Reads as count-standing-reads
 use Rattle.counting_type.proofs.search.resume_at.Reads as resume-at-reads
 use Rattle.counting_type.proofs.placing.locate.Reads as locate-reads
 use Rattle.counting_type.proofs.type_record.span_at.Reads as span-at-reads
@@ -264,10 +266,10 @@ abbrev add-run-μ-loop : add-run-lts.MeasureT-loop
 add-run-μ-loop a₀ n rest weight t field label work₀ end m₀ i₀ from₀ a work m i from = end - i
 
 abbrev add-run-calls : ℕ → add-run-lts.Claims
-add-run-calls t = (read-item-reads.Asked, read-item-reads.Learnt, equal-values-reads.Asked, equal-values-reads.Learnt, add-item-below t, add-item.Post, resume-at-reads.Asked, resume-at-reads.Learnt)
+add-run-calls t = (count-standing-reads.Asked, count-standing-reads.Learnt, read-item-reads.Asked, read-item-reads.Learnt, equal-values-reads.Asked, equal-values-reads.Learnt, add-item-below t, add-item.Post, resume-at-reads.Asked, resume-at-reads.Learnt)
 
 module _ (t : ℕ) where
-  -- the item at the loop's head
+  -- the loop's head
   module _ (c : add-run-lts.In-loop (add-run-calls t) (add-run-at t) add-run.Post add-run-Inv-loop add-run-μ-loop) where
     abbrev start : add-run-lts.Start (add-run-calls t) (add-run-at t) add-run.Post add-run-Inv-loop add-run-μ-loop
     start = c .before .before .before .before .before
@@ -278,32 +280,62 @@ module _ (t : ℕ) where
     abbrev short-table : length (start .args .t .now) ≤ 65536
     short-table = start .pre .1 .1 .run .short
 
-    one : Ran (under (start .args .label)) (start .args .field) (start .args .weight) (start .pre .1 .1 .values) (start .pre .1 .0 .f) (start .pre .1 .0 .q) (state .loop .a) (start .args .t .now) (state .loop .m) (state .loop .i) (state .loop .from)
-    one = let g = start .pre .1 .0 in state .loop .inv .3 (g .f) (g .q) (g .free) (start .pre .1 .1 .values) (g .holds) (start .pre .1 .1 .run)
+  -- fields that stand in the arena have been counted
+  module _ (c : add-run-lts.After-count-standing (add-run-calls t) (add-run-at t) add-run.Post add-run-Inv-loop add-run-μ-loop) where
+    abbrev head : add-run-lts.In-loop (add-run-calls t) (add-run-at t) add-run.Post add-run-Inv-loop add-run-μ-loop
+    head = c .before .before
 
-    more : 8 * state .loop .i < length (start .args .t .now)
-    more = omega (arith, state .loop .inv .0, c .loop-test .taken)
+    abbrev next : ℕ
+    next = c .count-standing .result .next
 
-    room : 8 * state .loop .i + 8 ≤ length (start .args .t .now)
-    room = let v = ran-first one short-table more in omega (arith, v .within, v .span-is)
+    abbrev arena-at : List ℕ
+    arena-at = c .count-standing .last .0
+
+    same-arena-at : length arena-at ≡ length (start head .args .a .now)
+    same-arena-at = c .count-standing .kept .0 ∙ state head .loop .inv .1
+
+    ran : (f : CountingType) (q free : List ℕ) (vs : Values) → Holds (under (start head .args .label)) (start head .args .field) (start head .args .a .now) (start head .args .n) (start head .args .rest) f q free →
+        TableRun (start head .args .field) (start head .args .t .now) vs →
+        Ran (under (start head .args .label)) (start head .args .field) (start head .args .weight) vs f q arena-at (start head .args .t .now) (state head .loop .m) next (c .count-standing .result .from)
+    ran f q free vs h r = c .count-standing .ensures .1 (start head .args .label) vs f q (start head .args .rest) (h .used) (state head .loop .inv .3 f q free vs h r)
+
+    one : Ran (under (start head .args .label)) (start head .args .field) (start head .args .weight) (start head .pre .1 .1 .values) (start head .pre .1 .0 .f) (start head .pre .1 .0 .q) arena-at (start head .args .t .now) (state head .loop .m) next (c .count-standing .result .from)
+    one = let g = start head .pre .1 .0 in ran (g .f) (g .q) (g .free) (start head .pre .1 .1 .values) (g .holds) (start head .pre .1 .1 .run)
+
+  -- the item behind them
+  module _ (c : add-run-lts.Else1 (add-run-calls t) (add-run-at t) add-run.Post add-run-Inv-loop add-run-μ-loop) where
+    abbrev standing : add-run-lts.After-count-standing (add-run-calls t) (add-run-at t) add-run.Post add-run-Inv-loop add-run-μ-loop
+    standing = c .before .before .before
+
+    abbrev asked-of : add-run-lts.Start (add-run-calls t) (add-run-at t) add-run.Post add-run-Inv-loop add-run-μ-loop
+    asked-of = start (head standing)
+
+    abbrev table-short : length (asked-of .args .t .now) ≤ 65536
+    table-short = short-table (head standing)
+
+    more : 8 * next standing < length (asked-of .args .t .now)
+    more = omega (arith, state (head standing) .loop .inv .0, c .if1 .left)
+
+    room : 8 * next standing + 8 ≤ length (asked-of .args .t .now)
+    room = let v = ran-first (one standing) table-short more in omega (arith, v .within, v .span-is)
 
   -- the order of its numbers
   module _ (c : add-run-lts.After-read-item (add-run-calls t) (add-run-at t) add-run.Post add-run-Inv-loop add-run-μ-loop) where
-    abbrev order : (c .read-item .result .start ≤ 8 * c .read-item .result .next) × (8 * c .read-item .result .next ≤ length (start (c .before) .args .t .now)) × (c .before .before .loop .i < c .read-item .result .next) × (8 * c .before .before .loop .i ≤ c .read-item .result .start)
-    order = turn-order (one (c .before)) (short-table (c .before)) (more (c .before)) (c .read-item .ensures)
+    abbrev order : (c .read-item .result .start ≤ 8 * c .read-item .result .next) × (8 * c .read-item .result .next ≤ length (asked-of (c .before) .args .t .now)) × (next (standing (c .before)) < c .read-item .result .next) × (8 * next (standing (c .before)) ≤ c .read-item .result .start)
+    order = turn-order (one (standing (c .before))) (table-short (c .before)) (more (c .before)) (c .read-item .ensures)
 
   -- the values that equal it
   module _ (c : add-run-lts.After-equal-values (add-run-calls t) (add-run-at t) add-run.Post add-run-Inv-loop add-run-μ-loop) where
     abbrev weight : ℕ
-    weight = start (c .before .before) .args .weight * (1 + c .equal-values .result)
+    weight = asked-of (c .before .before) .args .weight * (1 + c .equal-values .result)
 
-    weighed : let x = c .before .read-item .result in Weighed weight (take (8 * x .next - x .start) (drop (x .start) (start (c .before .before) .args .t .now)))
+    weighed : let x = c .before .read-item .result in Weighed weight (take (8 * x .next - x .start) (drop (x .start) (asked-of (c .before .before) .args .t .now)))
     weighed =
         let i = c .before .before in
-        turn-weighed (one i) (short-table i) (more i) (c .before .read-item .ensures) (c .equal-values .result) (c .equal-values .ensures) (start i .pre .1 .3)
+        turn-weighed (one (standing i)) (table-short i) (more i) (c .before .read-item .ensures) (c .equal-values .result) (c .equal-values .ensures) (asked-of i .pre .1 .3)
 
     few : 1 + c .equal-values .result ≤ weight
-    few = let i = c .before .before in turn-few (one i) (short-table i) (more i) (c .before .read-item .ensures) (c .equal-values .result) (c .equal-values .ensures)
+    few = let i = c .before .before in turn-few (one (standing i)) (table-short i) (more i) (c .before .read-item .ensures) (c .equal-values .result) (c .equal-values .ensures)
 
   -- what is said of the siblings after it
   module _ (c : add-run-lts.After-add-item (add-run-calls t) (add-run-at t) add-run.Post add-run-Inv-loop add-run-μ-loop) where
@@ -313,24 +345,59 @@ module _ (t : ℕ) where
     abbrev read : add-run-lts.After-read-item (add-run-calls t) (add-run-at t) add-run.Post add-run-Inv-loop add-run-μ-loop
     read = group .before
 
-    added : (f : CountingType) (q free : List ℕ) (vs : Values) (h : Holds (under (start (read .before) .args .label)) (start (read .before) .args .field) (start (read .before) .args .a .now) (start (read .before) .args .n) (start (read .before) .args .rest) f q free)
-        (r : TableRun (start (read .before) .args .field) (start (read .before) .args .t .now) vs) →
-        let x = state (read .before) .loop .inv .3 f q free vs h r in
-        let under-item = below x (r .short) (more (read .before)) (read .read-item .ensures) in
+    abbrev behind : add-run-lts.Else1 (add-run-calls t) (add-run-at t) add-run.Post add-run-Inv-loop add-run-μ-loop
+    behind = read .before
+
+    abbrev known : add-run-lts.After-count-standing (add-run-calls t) (add-run-at t) add-run.Post add-run-Inv-loop add-run-μ-loop
+    known = standing behind
+
+    added : (f : CountingType) (q free : List ℕ) (vs : Values) (h : Holds (under (asked-of behind .args .label)) (asked-of behind .args .field) (asked-of behind .args .a .now) (asked-of behind .args .n) (asked-of behind .args .rest) f q free)
+        (r : TableRun (asked-of behind .args .field) (asked-of behind .args .t .now) vs) →
+        let x = ran known f q free vs h r in
+        let under-item = below x (r .short) (more behind) (read .read-item .ensures) in
         let kind = read .read-item .result .kind in let key = read .read-item .result .key in
-        AddedAt (withItem (under (start (read .before) .args .label)) kind key (weight group) under-item (x .g)) (size (split (labelFor (under (start (read .before) .args .label)) kind key under-item) (x .g) .before))
-        q (start (read .before) .args .rest) (c .add-item .result) (c .add-item .last .0)
+        AddedAt (withItem (under (asked-of behind .args .label)) kind key (weight group) under-item (x .g)) (size (split (labelFor (under (asked-of behind .args .label)) kind key under-item) (x .g) .before))
+        q (asked-of behind .args .rest) (c .add-item .result) (c .add-item .last .0)
     added f q free vs h r =
-        let i = read .before in
-        let v = state i .loop .inv in
-        let x = v .3 f q free vs h r in
-        c .add-item .ensures (start i .args .field) (x .g) q (x .free) _ (ran-holds x _ (h .used) (omega (arith, h .short, v .1))) (x .starts) (below-run x (r .short) (more i) (read .read-item .ensures))
+        let x = ran known f q free vs h r in
+        c .add-item .ensures (asked-of behind .args .field) (x .g) q (x .free) _ (ran-holds x _ (h .used) (omega (arith, h .short, same-arena-at known))) (x .starts) (below-run x (r .short) (more behind) (read .read-item .ensures))
 
     short-arena : length (c .add-item .last .0) ≤ 65536
-    short-arena = let i = read .before in omega (arith, start i .pre .1 .0 .holds .short, state i .loop .inv .1, c .add-item .kept .0)
+    short-arena = omega (arith, asked-of behind .pre .1 .0 .holds .short, same-arena-at known, c .add-item .kept .0)
+
+    same-work-at : length (c .add-item .last .1 .1 .1 .1 .1 .1 .1 .1 .1 .0) ≡ length (asked-of behind .args .work .now)
+    same-work-at = c .add-item .kept .1 .1 .1 .1 .1 .1 .1 .1 .1 .0 ∙ state (head known) .loop .inv .2
 
   add-run-loop-holds : add-run-lts.Need-loop-holds (add-run-calls t) (add-run-at t) add-run.Post add-run-Inv-loop add-run-μ-loop
   add-run-loop-holds c = (refl, refl, refl, λ f q free vs h r. ran-start h r (c .before .before .before .pre .1 .3 .some))
+
+  add-run-count-standing-requires : add-run-lts.Need-count-standing-requires (add-run-calls t) (add-run-at t) add-run.Post add-run-Inv-loop add-run-μ-loop
+  add-run-count-standing-requires c κs =
+      let i = c .before in
+      let g = start i .pre .1 in
+      let v = state i .loop .inv in
+      record {
+        label = start i .args .label;
+        vs = g .1 .values;
+        f = g .0 .f;
+        q = g .0 .q;
+        rest = start i .args .rest;
+        used = g .0 .holds .used;
+        ran = v .3 (g .0 .f) (g .0 .q) (g .0 .free) (g .1 .values) (g .0 .holds) (g .1 .run);
+        short = omega (arith, g .0 .holds .short, v .1);
+        short-table = short-table i;
+      }
+
+  add-run-same-length : add-run-lts.Need-same-length (add-run-calls t) (add-run-at t) add-run.Post add-run-Inv-loop add-run-μ-loop
+  add-run-same-length c = same-arena-at (c .before .before .before)
+
+  add-run-same-length-2 : add-run-lts.Need-same-length-2 (add-run-calls t) (add-run-at t) add-run.Post add-run-Inv-loop add-run-μ-loop
+  add-run-same-length-2 c = state (head (c .before .before .before)) .loop .inv .2
+
+  add-run-returns : add-run-lts.Need-returns (add-run-calls t) (add-run-at t) add-run.Post add-run-Inv-loop add-run-μ-loop
+  add-run-returns c f q free vs h r =
+      let k = c .before .before .before in
+      ran-end (ran k f q free vs h r) (omega (arith, state (head k) .loop .inv .0, c .if1 .taken, whole-records _ vs (r .bytes)))
 
   add-run-read-item-requires : add-run-lts.Need-read-item-requires (add-run-calls t) (add-run-at t) add-run.Post add-run-Inv-loop add-run-μ-loop
   add-run-read-item-requires c κs = room c
@@ -339,7 +406,7 @@ module _ (t : ℕ) where
   add-run-equal-values-requires c κs = (order c .2, order c .1)
 
   add-run-mul-stop : add-run-lts.Need-mul-stop (add-run-calls t) (add-run-at t) add-run.Post add-run-Inv-loop add-run-μ-loop
-  add-run-mul-stop c = omega (arith, order c, short-table (c .before))
+  add-run-mul-stop c = omega (arith, order c, table-short (c .before))
 
   add-run-add-w : add-run-lts.Need-add-w (add-run-calls t) (add-run-at t) add-run.Post add-run-Inv-loop add-run-μ-loop
   add-run-add-w c = omega (arith, weighed c .small, few c)
@@ -361,14 +428,13 @@ module _ (t : ℕ) where
       let k = c .before .before .before in
       let j = k .before in
       let i = j .before in
-      let g = start i .pre in
-      let x = one i in
-      let v = state i .loop .inv in (
-        rw (g .0) at (turn-measure x (short-table i) (more i) (j .read-item .ensures)),
+      let g = asked-of i .pre in
+      let x = one (standing i) in (
+        rw (g .0) at (turn-measure x (table-short i) (more i) (j .read-item .ensures)),
         (
-          record { field = _; f = x .g; q = g .1 .0 .q; free = x .free; holds = ran-holds x _ (g .1 .0 .holds .used) (omega (arith, g .1 .0 .holds .short, v .1)); starts = x .starts },
-          record { values = _; run = below-run x (short-table i) (more i) (j .read-item .ensures) },
-          omega (arith, v .1, v .2, g .1 .2),
+          record { field = _; f = x .g; q = g .1 .0 .q; free = x .free; holds = ran-holds x _ (g .1 .0 .holds .used) (omega (arith, g .1 .0 .holds .short, same-arena-at (standing i))); starts = x .starts },
+          record { values = _; run = below-run x (table-short i) (more i) (j .read-item .ensures) },
+          omega (arith, same-arena-at (standing i), state (head (standing i)) .loop .inv .2, g .1 .2),
           weighed k,
         ),
       )
@@ -379,61 +445,57 @@ module _ (t : ℕ) where
   add-run-enum-told : add-run-lts.Need-enum-told (add-run-calls t) (add-run-at t) add-run.Post add-run-Inv-loop add-run-μ-loop
   add-run-enum-told c = search needs
 
-  add-run-same-length : add-run-lts.Need-same-length (add-run-calls t) (add-run-at t) add-run.Post add-run-Inv-loop add-run-μ-loop
-  add-run-same-length c = let k = c .before .before .before .before .before .before in k .add-item .kept .0 ∙ state (read k .before) .loop .inv .1
+  add-run-same-length-3 : add-run-lts.Need-same-length-3 (add-run-calls t) (add-run-at t) add-run.Post add-run-Inv-loop add-run-μ-loop
+  add-run-same-length-3 c = let k = c .before .before .before .before .before .before in k .add-item .kept .0 ∙ same-arena-at (known k)
 
-  add-run-same-length-2 : add-run-lts.Need-same-length-2 (add-run-calls t) (add-run-at t) add-run.Post add-run-Inv-loop add-run-μ-loop
-  add-run-same-length-2 c = let k = c .before .before .before .before .before .before in k .add-item .kept .1 .1 .1 .1 .1 .1 .1 .1 .1 .0 ∙ state (read k .before) .loop .inv .2
+  add-run-same-length-4 : add-run-lts.Need-same-length-4 (add-run-calls t) (add-run-at t) add-run.Post add-run-Inv-loop add-run-μ-loop
+  add-run-same-length-4 c = same-work-at (c .before .before .before .before .before .before)
 
-  add-run-returns : add-run-lts.Need-returns (add-run-calls t) (add-run-at t) add-run.Post add-run-Inv-loop add-run-μ-loop
-  add-run-returns c f q free vs h r =
+  add-run-returns-2 : add-run-lts.Need-returns-2 (add-run-calls t) (add-run-at t) add-run.Post add-run-Inv-loop add-run-μ-loop
+  add-run-returns-2 c f q free vs h r =
       let k = c .before .before .before .before .before .before in
-      let j = read k in
-      turn-full (state (j .before) .loop .inv .3 f q free vs h r) (r .short) (more (j .before)) (j .read-item .ensures) (group k .equal-values .result) (group k .equal-values .ensures) _ _ _ (c .enum-told .given .1) (added k f q free vs h r)
+      turn-full (ran (known k) f q free vs h r) (r .short) (more (behind k)) (read k .read-item .ensures) (group k .equal-values .result) (group k .equal-values .ensures) _ _ _ (c .enum-told .given .1) (added k f q free vs h r)
 
   add-run-resume-at-requires : add-run-lts.Need-resume-at-requires (add-run-calls t) (add-run-at t) add-run.Post add-run-Inv-loop add-run-μ-loop
   add-run-resume-at-requires c κs =
       let k = c .before .before .before .before .before .before .before .before in
-      let i = read k .before in
-      let g = start i .pre .1 in
-      turn-room (state i .loop .inv .3 (g .0 .f) (g .0 .q) (g .0 .free) (g .1 .values) (g .0 .holds) (g .1 .run)) (g .1 .run .short) (more i) (read k .read-item .ensures)
+      let g = asked-of (behind k) .pre .1 in
+      turn-room (ran (known k) (g .0 .f) (g .0 .q) (g .0 .free) (g .1 .values) (g .0 .holds) (g .1 .run)) (g .1 .run .short) (more (behind k)) (read k .read-item .ensures)
       (group k .equal-values .result) (group k .equal-values .ensures) _ _ _ _ (c .before .before .p .given .1) (added k (g .0 .f) (g .0 .q) (g .0 .free) (g .1 .values) (g .0 .holds) (g .1 .run)) (short-arena k)
 
   add-run-sub-i : add-run-lts.Need-sub-i (add-run-calls t) (add-run-at t) add-run.Post add-run-Inv-loop add-run-μ-loop
   add-run-sub-i c = let k = c .before .before .before .before .before .before .before .before .before in omega (arith, order (read k))
 
   add-run-mul-i : add-run-lts.Need-mul-i (add-run-calls t) (add-run-at t) add-run.Post add-run-Inv-loop add-run-μ-loop
-  add-run-mul-i c = let k = c .before .before .before .before .before .before .before .before .before in omega (arith, group k .equal-values .ensures .within, short-table (read k .before))
+  add-run-mul-i c = let k = c .before .before .before .before .before .before .before .before .before in omega (arith, group k .equal-values .ensures .within, table-short (behind k))
 
   add-run-add-i : add-run-lts.Need-add-i (add-run-calls t) (add-run-at t) add-run.Post add-run-Inv-loop add-run-μ-loop
-  add-run-add-i c = let k = c .before .before .before .before .before .before .before .before .before in omega (arith, group k .equal-values .ensures .within, short-table (read k .before))
+  add-run-add-i c = let k = c .before .before .before .before .before .before .before .before .before in omega (arith, group k .equal-values .ensures .within, table-short (behind k))
 
   add-run-loop-less : add-run-lts.Need-loop-less (add-run-calls t) (add-run-at t) add-run.Post add-run-Inv-loop add-run-μ-loop
   add-run-loop-less c =
       let k = c .before .before .before .before .before .before .before .before .before in
-      omega (arith, order (read k), group k .equal-values .ensures .within, state (read k .before) .loop .inv .0)
+      omega (arith, order (read k), group k .equal-values .ensures .within, state (head (known k)) .loop .inv .0, known k .count-standing .ensures .0)
 
   add-run-loop-again : add-run-lts.Need-loop-again (add-run-calls t) (add-run-at t) add-run.Post add-run-Inv-loop add-run-μ-loop
   add-run-loop-again c =
-      let k = c .before .before .before .before .before .before .before .before .before in
-      let j = read k in
-      let v = state (j .before) .loop .inv in (
-        v .0,
-        k .add-item .kept .0 ∙ v .1,
-        k .add-item .kept .1 .1 .1 .1 .1 .1 .1 .1 .1 .0 ∙ v .2,
+      let k = c .before .before .before .before .before .before .before .before .before in (
+        state (head (known k)) .loop .inv .0,
+        k .add-item .kept .0 ∙ same-arena-at (known k),
+        same-work-at k,
         λ f q free vs h r.
-            turn-added (v .3 f q free vs h r) (r .short) (more (j .before)) (j .read-item .ensures) (group k .equal-values .result) (group k .equal-values .ensures) _ _ _ _ (c .before .before .before .p .given .1) (added k f q free vs h r) (short-arena k)
+            turn-added (ran (known k) f q free vs h r) (r .short) (more (behind k)) (read k .read-item .ensures) (group k .equal-values .result) (group k .equal-values .ensures) _ _ _ _ (c .before .before .before .p .given .1) (added k f q free vs h r) (short-arena k)
             (h .used) _ (c .resume-at .ensures),
       )
 
-  add-run-same-length-3 : add-run-lts.Need-same-length-3 (add-run-calls t) (add-run-at t) add-run.Post add-run-Inv-loop add-run-μ-loop
-  add-run-same-length-3 c = c .before .loop .inv .1
+  add-run-same-length-5 : add-run-lts.Need-same-length-5 (add-run-calls t) (add-run-at t) add-run.Post add-run-Inv-loop add-run-μ-loop
+  add-run-same-length-5 c = c .before .loop .inv .1
 
-  add-run-same-length-4 : add-run-lts.Need-same-length-4 (add-run-calls t) (add-run-at t) add-run.Post add-run-Inv-loop add-run-μ-loop
-  add-run-same-length-4 c = c .before .loop .inv .2
+  add-run-same-length-6 : add-run-lts.Need-same-length-6 (add-run-calls t) (add-run-at t) add-run.Post add-run-Inv-loop add-run-μ-loop
+  add-run-same-length-6 c = c .before .loop .inv .2
 
-  add-run-returns-2 : add-run-lts.Need-returns-2 (add-run-calls t) (add-run-at t) add-run.Post add-run-Inv-loop add-run-μ-loop
-  add-run-returns-2 c f q free vs h r =
+  add-run-returns-3 : add-run-lts.Need-returns-3 (add-run-calls t) (add-run-at t) add-run.Post add-run-Inv-loop add-run-μ-loop
+  add-run-returns-3 c f q free vs h r =
       let v = c .before .loop .inv in
       ran-end (v .3 f q free vs h r) (omega (arith, v .0, c .loop-test .left, whole-records _ vs (r .bytes)))
 
@@ -441,4 +503,4 @@ pub +add-item+add-run-spec : {M : Type 1} → statement M
 +add-item+add-run-spec =
     close μ-add-item μ-add-run
     (λ t. add-item-lts.spec (add-item-calls t) (add-item-at t) add-item.Post (add-item-locate-requires t) (add-item-enum-known-p t) (add-item-enum-told t) (add-item-same-length t) (add-item-same-length-2 t) (add-item-returns t) (add-item-same-length-3 t) (add-item-same-length-4 t) (add-item-returns-2 t) (add-item-span-at-requires t) (add-item-mul-o t) (add-item-add-inner t) (add-item-add-behind t) (add-item-sub-behind t) (add-item-sub-behind-2 t) (add-item-sub-held t) (add-item-sub-add-run t) (add-item-part-add-run-start t) (add-item-part-add-run-end t) (add-item-add-run-requires t) (add-item-enum-known-added t) (add-item-enum-told-2 t) (add-item-same-length-5 t) (add-item-same-length-6 t) (add-item-returns-3 t) (add-item-add-store32 t) (add-item-add-store32-2 t) (add-item-store32-requires t) (add-item-add-t30 t) (add-item-add-t26 t) (add-item-sub-t39 t) (add-item-same-length-7 t) (add-item-same-length-8 t) (add-item-returns-4 t))
-    (λ t. add-run-lts.spec (add-run-calls t) (add-run-at t) add-run.Post add-run-Inv-loop add-run-μ-loop (add-run-loop-holds t) (add-run-read-item-requires t) (add-run-mul-stop t) (add-run-equal-values-requires t) (add-run-add-w t) (add-run-mul-w t) (add-run-sub-below t) (add-run-part-below-start t) (add-run-part-below-end t) (add-run-add-item-requires t) (add-run-enum-known-p t) (add-run-enum-told t) (add-run-same-length t) (add-run-same-length-2 t) (add-run-returns t) (add-run-resume-at-requires t) (add-run-sub-i t) (add-run-mul-i t) (add-run-add-i t) (add-run-loop-less t) (add-run-loop-again t) (add-run-same-length-3 t) (add-run-same-length-4 t) (add-run-returns-2 t))
+    (λ t. add-run-lts.spec (add-run-calls t) (add-run-at t) add-run.Post add-run-Inv-loop add-run-μ-loop (add-run-loop-holds t) (add-run-count-standing-requires t) (add-run-same-length t) (add-run-same-length-2 t) (add-run-returns t) (add-run-read-item-requires t) (add-run-mul-stop t) (add-run-equal-values-requires t) (add-run-add-w t) (add-run-mul-w t) (add-run-sub-below t) (add-run-part-below-start t) (add-run-part-below-end t) (add-run-add-item-requires t) (add-run-enum-known-p t) (add-run-enum-told t) (add-run-same-length-3 t) (add-run-same-length-4 t) (add-run-returns-2 t) (add-run-resume-at-requires t) (add-run-sub-i t) (add-run-mul-i t) (add-run-add-i t) (add-run-loop-less t) (add-run-loop-again t) (add-run-same-length-5 t) (add-run-same-length-6 t) (add-run-returns-3 t))

@@ -6,11 +6,11 @@ use Prim.Native.Nat.{ℕ, _+_, _*_, _≤_}
 use native.Mathlib.Omega.{arith}
 use lib.ListN.{length, length-take, length-drop}
 use borrow.Author.Needs.{needs}
-use Rattle.counting_type.specs.Inferring.{wanted, Holds, Starts, split}
+use Rattle.counting_type.specs.Inferring.{wanted, Holds, Starts, StandsAt, split}
 use Rattle.counting_type.specs.Checker.{under}
 use Rattle.counting_theory.specs.Label.{Label, CountingType}
-use Rattle.counting_type.proofs.InPlace.Placing.{holds-length, here-within, here-counted, missing-within, missing-full, missing-counted}
-use Rattle.counting_type.proofs.InPlace.Splits.{HereAt, MissingAt, here-at, missing-at}
+use Rattle.counting_type.proofs.InPlace.Placing.{holds-length, here-within, missing-within, missing-full, missing-counted}
+use Rattle.counting_type.proofs.InPlace.Splits.{MissingAt, here-at, missing-at}
 use Rattle.counting_type.proofs.placing.place.Statement.{statement}
 use Rattle.counting_type.proofs.placing.place.Tie as tie
 
@@ -22,15 +22,14 @@ module _ (c : tie.After-known-told) where
   abbrev found-place : ℕ
   found-place = c .before .p .given .0 .0
 
-  found : (field : Bool) (f : CountingType) (q free : List ℕ) → Holds (under (c .before .before .before .before .before .before .before .args .label)) field (c .before .before .before .before .before .before .before .args .a .now) (c .before .before .before .before .before .before .before .args .n) (c .before .before .before .before .before .before .before .args .rest) f q free →
-      Starts (c .before .before .before .before .before .before .before .args .from) f → HereAt (split found-label f) found-label 0 f found-place
-  found field f q free h s =
-      here-at found-label 0 found-place f (sym (c .before .p .given .1) ∙ c .before .before .before .search .ensures field _ f q free h s)
+  stands : (field : Bool) (f : CountingType) (q free : List ℕ) → Holds (under (c .before .before .before .before .before .before .before .args .label)) field (c .before .before .before .before .before .before .before .args .a .now) (c .before .before .before .before .before .before .before .args .n) (c .before .before .before .before .before .before .before .args .rest) f q free →
+      Starts (c .before .before .before .before .before .before .before .args .from) f → StandsAt found-label f found-place
+  stands field f q free h s = sym (c .before .p .given .1) ∙ c .before .before .before .search .ensures field _ f q free h s
 
   found-room : 16 * found-place + 16 ≤ length (c .before .before .before .before .before .before .before .args .a .now)
   found-room =
       let g = c .before .before .before .before .before .before .before .pre .0 in
-      omega (arith, here-within (g .holds) found-label _ _ 0 (found (g .field) (g .f) (g .q) (g .free) (g .holds) (g .starts)), holds-length (g .holds))
+      omega (arith, here-within (g .holds) found-label _ _ 0 (here-at found-label 0 found-place (g .f) (stands (g .field) (g .f) (g .q) (g .free) (g .holds) (g .starts))), holds-length (g .holds))
 
 -- where it would stand
 module _ (c : tie.After-known-told2) where
@@ -56,20 +55,8 @@ search-requires c κs = let g = c .before .before .before .pre in (record { rest
 enum-known-p : tie.Need-enum-known-p
 enum-known-p c = search needs
 
-mul-o : tie.Need-mul-o
-mul-o c = omega (arith, found-room c)
-
-sub-count-more : tie.Need-sub-count-more
-sub-count-more c = omega (arith, found-room c)
-
-part-count-more-start : tie.Need-part-count-more-start
-part-count-more-start c = omega (arith, found-room c)
-
-part-count-more-end : tie.Need-part-count-more-end
-part-count-more-end c = search needs
-
-count-more-requires : tie.Need-count-more-requires
-count-more-requires c κs = simp (length-take, length-drop) (omega (arith, found-room (c .before)))
+count-here-requires : tie.Need-count-here-requires
+count-here-requires c κs = found-room (c .before)
 
 enum-known-p-2 : tie.Need-enum-known-p-2
 enum-known-p-2 c = search needs
@@ -90,8 +77,8 @@ returns : tie.Need-returns
 returns c field f q free h s =
     missing-full h (missed-label (c .before)) _ _ 0 (missed (c .before) field f q free h s) _ (c .if1 .taken) (missed-room (c .before) .1)
 
-mul-o-2 : tie.Need-mul-o-2
-mul-o-2 c = omega (arith, missed-room (c .before))
+mul-o : tie.Need-mul-o
+mul-o c = omega (arith, missed-room (c .before))
 
 sub-insert-record : tie.Need-sub-insert-record
 sub-insert-record c = omega (arith, missed-room (c .before))
@@ -108,14 +95,16 @@ sub-insert-record-2 c = omega (arith, missed-room (c .before .before))
 insert-record-requires : tie.Need-insert-record-requires
 insert-record-requires c κs = simp (length-take, length-drop) (omega (arith, missed-room (c .before .before), c .before .if1 .left))
 
-add-t25 : tie.Need-add-t25
-add-t25 c = search needs
+add-t22 : tie.Need-add-t22
+add-t22 c = search needs
 
 same-length-2 : tie.Need-same-length-2
 same-length-2 c = search needs
 
 returns-2 : tie.Need-returns-2
-returns-2 c field f q free h s = here-counted h (found-label (c .before .before .before .before)) _ _ _ (found (c .before .before .before .before) field f q free h s) _ (c .before .before .count-more .ensures)
+returns-2 c field f q free h s =
+    let k = c .before .before .before .before in
+    c .before .before .count-here .ensures _ field _ _ (found-label k) f q free h (stands k field f q free h s)
 
 same-length-3 : tie.Need-same-length-3
 same-length-3 c = search needs
@@ -130,24 +119,20 @@ place-spec =
     (tie.spec
     search-requires
     enum-known-p
-    mul-o
-    sub-count-more
-    part-count-more-start
-    part-count-more-end
-    count-more-requires
+    count-here-requires
     enum-known-p-2
     add-used
     mul-used
     sub-if1
     same-length
     returns
-    mul-o-2
+    mul-o
     sub-insert-record
     part-insert-record-start
     part-insert-record-end
     sub-insert-record-2
     insert-record-requires
-    add-t25
+    add-t22
     same-length-2
     returns-2
     same-length-3
