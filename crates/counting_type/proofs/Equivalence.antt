@@ -4,7 +4,7 @@ use mathlib.Core.Option.{none, some}
 use Prim.Native.Nat.{ℕ, zero, suc, _≤_, _<_}
 use native.Mathlib.Omega.{arith}
 use lib.Dec.{eqb}
-use Rattle.counting_type.specs.Checker.{under}
+use Rattle.type_arena.specs.Arena.{under}
 use Rattle.counting_theory.specs.Answers.{equivalenceOf}
 
 pub known : (n : ℕ) → n ≤ 1 → equivalenceOf n ≡ some (under (eqb n 1))

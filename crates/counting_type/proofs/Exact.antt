@@ -15,7 +15,7 @@ use Rattle.counting_theory.specs.Encoding.{typeSize, typeOf}
 use Rattle.counting_theory.specs.WellFormed.{maxTotal, wellFormed, badTypeLength}
 use Rattle.counting_theory.specs.Answers.{equivalenceOf, Written, turnedDown, arenaWith, stored, inferredFrom, inferredUnder, inferred, mergedUnder, merged}
 use Rattle.counting_theory.proofs.Encoding.Header.{length-encode}
-use Rattle.counting_type.proofs.Clear.{clearedFrom}
+use Rattle.type_arena.proofs.Clear.{clearedFrom}
 
 abbrev pub Exact : Written → Type 0
 Exact w = length (w .bytes) ≡ typeSize * w .outcome .count

@@ -1,11 +1,11 @@
 -- What the calls that write a type leave: first the type in the front of the arena, then zeros behind it.
 use mathlib.Core.Path.{_≡_, refl, ap, _∙_}
 use mathlib.Core.Bool.{true, false}
-use mathlib.Core.List.{List}
-use Prim.Native.Nat.{ℕ, _*_, _/_, _≤_, _<_}
+use mathlib.Core.List.{List, []}
+use Prim.Native.Nat.{ℕ, _+_, _*_, _/_, _≤_, _<_}
 use native.Mathlib.Omega.{arith}
 use lib.Dec.{ltb}
-use lib.ListN.{length, take, length-take}
+use lib.ListN.{length, take, length-take, length-append}
 use lib.Seq.{sets, sets-eq, take-at}
 use borrow.Author.Tests.{lt-ltb, le-ltb}
 use Rattle.value_table.specs.declared.Refusal as faulty
@@ -22,8 +22,9 @@ use Rattle.counting_theory.specs.Encoding.{typeSize, encode}
 use Rattle.counting_theory.specs.WellFormed.{maxTotal}
 use Rattle.counting_theory.specs.Answers.{Written, turnedDown, zeros, leaves, stored, inferredFrom, mergedTypes}
 use Rattle.counting_type.specs.Outcomes.{numberOfRefusal, outcomeOf, leftBy, Front}
+use Rattle.inference.specs.Inferring.{Grown}
 use Rattle.counting_theory.proofs.Encoding.Header.{length-encode}
-use Rattle.counting_type.proofs.Clear.{clearedFrom}
+use Rattle.type_arena.proofs.Clear.{clearedFrom}
 use Rattle.counting_type.proofs.Exact.{Exact, cleared-arena}
 
 pub front-refused : {w : Written} (why : Refusal) (place : ℕ) (arena : List ℕ) → w ≡ turnedDown (numberOfRefusal why) place → Front w (Refused why place) arena
@@ -73,3 +74,13 @@ module _ {w : Written} {answered : Answered} {arena : List ℕ} (exact : Exact w
   front-cleared before cleared work zeroed l e z =
       let c = e ∙ ap (λ o. clearedFrom arena (typeSize * o .count)) (h .outcome) ∙ cleared-arena w arena (length before) exact l (rw exact at (h .bytes)) in
       λ i. record { outcome = h .outcome i; arena = c i; work = z i }
+
+-- inference has filled the arena, or there is no room
+module _ (g : CountingType) (b : List ℕ) (n : ℕ) (l : length b ≡ n) where
+  pub inferred-room : length b < typeSize * (size g + 0) → Front (stored n g) (Refused Room 0) b
+  inferred-room h = front-room g n b (omega (arith, length-encode g))
+
+  pub inferred-stored : (k : ℕ) → Grown g [] k b → Front (stored n g) (Accepted k) b
+  inferred-stored k h =
+      let z : length b ≡ length (encode g) + length (h .free) = ap length (h .bytes) ∙ length-append (encode g) (h .free) in
+      front-stored g n k b (h .count) (omega arith) (ap (take (length (encode g))) (h .bytes) ∙ take-at (encode g) (h .free) (length (encode g)) refl)

@@ -2,33 +2,18 @@
 -- its record, and the total of each union on the way.
 use mathlib.Core.Path.{_≡_}
 use mathlib.Core.Bool.{Bool, true, false, cond, _&&_, _||_}
-use mathlib.Core.List.{List, [], _∷_}
+use mathlib.Core.List.{List, []}
 use mathlib.Core.Option.{Option, none, some}
-use Prim.Native.Nat.{ℕ, zero, suc, _+_, _*_, _-_, _≤_, _<_}
+use Prim.Native.Nat.{ℕ, zero, suc, _+_, _*_, _-_, _≤_}
 use lib.Dec.{eqb, leb, ltb}
 use lib.ListN.{length}
 use Rattle.value_table.specs.Value.{recordKind, maxLength}
 use Rattle.counting_type.specs.declared.checker.Checked.{Checked}
 use Rattle.counting_type.specs.declared.checker.Checked.the-variants.{Total, Faulty}
-use Rattle.counting_theory.specs.Label.{Equivalence, byKind, byLabel, Label, labelOf, compareLabel}
+use Rattle.counting_theory.specs.Label.{Equivalence, compareLabel}
 use Rattle.counting_theory.specs.Encoding.{typeSize, typeKind, typeKey, typeSpan, typeCount}
+use Rattle.type_arena.specs.Arena.{labelAt, InTable, FieldsInside}
 use Rattle.counting_theory.specs.WellFormed.{maxTotal, typeRecord, isLt, fieldCount}
-
--- the keys of the fields in records i to end; k bounds their number
-unfoldable pub keysFrom : List ℕ → ℕ → ℕ → ℕ → List ℕ
-keysFrom b zero i end = []
-keysFrom b (suc k) i end =
-    elim (ltb i end) [
-      | true ↦ typeKey b i ∷ keysFrom b k (i + typeSpan b i) end
-      | false ↦ []
-    ]
-
--- the keys of the fields inside record p, and its label
-abbrev pub keysIn : List ℕ → ℕ → List ℕ
-keysIn b p = keysFrom b (typeSpan b p - 1) (p + 1) (p + typeSpan b p)
-
-unfoldable pub labelAt : Equivalence → List ℕ → ℕ → Label
-labelAt e b p = labelOf e (typeKind b p) (typeKey b p) (keysIn b p)
 
 -- What a run of records is, and what has been seen of it: the addends of a union at some depth, with the addend before the next one
 -- (or the next one itself, where there is none) and the total so far; or the fields of a record with some count, with the key before.
@@ -85,11 +70,7 @@ check e b (suc k) p end r =
 abbrev pub checkRun : Equivalence → List ℕ → ℕ → ℕ → Run → Option ℕ
 checkRun e b p end r = check e b (end - p) p end r
 
--- The code's flag for label equivalence, and its verdict on a union.
-abbrev pub under : Bool → Equivalence
-under false = byKind
-under true = byLabel
-
+-- the code's verdict on a union
 abbrev pub checkedOf : Checked → Option ℕ
 checkedOf (Total t) = some t
 checkedOf Faulty = none
@@ -97,23 +78,6 @@ checkedOf Faulty = none
 abbrev pub isSome : {A : Type 0} → Option A → Bool
 isSome none = false
 isSome (some x) = true
-
--- record p stands in b, which is no longer than a type may be
-pub record InTable (b : List ℕ) (p : ℕ) : Type 0 where
-  pub whole : typeSize * p + typeSize ≤ length b
-  pub short : length b ≤ maxLength
-
--- from record p on, spans lead to `end` by way of fields with these keys
-pub data FieldChain (b : List ℕ) (end : ℕ) : ℕ → List ℕ → Type 0 where
-  done : FieldChain b end end []
-  then : {p : ℕ} {ks : List ℕ} → p < end → 1 ≤ typeSpan b p → FieldChain b end (p + typeSpan b p) ks → FieldChain b end p (typeKey b p ∷ ks)
-
--- the fields inside the record at p, which has been checked
-pub record FieldsInside (b : List ℕ) (p : ℕ) : Type 0 where
-  pub keys : List ℕ
-  pub chain : FieldChain b (p + typeSpan b p) (p + 1) keys
-  pub within : typeSize * (p + typeSpan b p) ≤ length b
-  pub short : length b ≤ maxLength
 
 -- an addend that has been checked
 pub record AddendInside (b : List ℕ) (p : ℕ) : Type 0 where

@@ -1,7 +1,4 @@
 -- What the contracts of the upper library cite beside the theory.
 pub mod Checker
 pub mod Merging
-pub mod Inferring
-pub mod Gathering
 pub mod Outcomes
-pub mod ScalarFields

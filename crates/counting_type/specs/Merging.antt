@@ -13,19 +13,15 @@ use Rattle.counting_type.specs.declared.addend.Order.the-variants.{Less,
 use Rattle.counting_theory.specs.Trie.{size, reduce, largestBelow, largestTotal}
 use Rattle.counting_theory.specs.Label.{Equivalence, Counting, CountingType}
 use Rattle.counting_theory.specs.Place.{FieldTotals}
-use Rattle.counting_theory.specs.Encoding.{typeSize, typeKind, typeKey, typeSpan, typeCount, header, encode, typeOf, Tagged, Fitting}
+use Rattle.counting_theory.specs.Encoding.{typeSize, typeKind, typeKey, typeSpan, typeCount, encode, typeOf, Tagged, Fitting}
 use Rattle.counting_theory.specs.WellFormed.{maxTotal, Shallow}
-use Rattle.counting_type.specs.Checker.{under}
+use Rattle.type_arena.specs.Arena.{under, headerOf}
 
 -- the code's comparisons
 abbrev pub orderingOf : Order → Ordering
 orderingOf Less = lt
 orderingOf Same = eq
 orderingOf More = gt
-
--- the bytes of a type record
-abbrev pub headerOf : ℕ → ℕ → ℕ → ℕ → List ℕ
-headerOf kind key span count = header (record { kind = kind; key = key; keys = [] }) span count
 
 -- The first addend or field of a run x with what stands inside it, what stands inside it, and what follows it.
 unfoldable pub front : List ℕ → List ℕ

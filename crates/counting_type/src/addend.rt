@@ -1,9 +1,9 @@
 // The first addend or field of a run of type records, its label against another's, and the total of a union.
-use crate::type_record;
-use crate::type_record::count_at;
-use crate::type_record::key_at;
-use crate::type_record::kind_at;
-use crate::type_record::span_at;
+use type_arena::type_record;
+use type_arena::type_record::count_at;
+use type_arena::type_record::key_at;
+use type_arena::type_record::kind_at;
+use type_arena::type_record::span_at;
 ghost use mathlib.Core.Path.{_≡_};
 ghost use mathlib.Core.Bool.{true, cond};
 ghost use Prim.Native.Nat.{_≤_, _<_, compare};
@@ -12,7 +12,7 @@ ghost use Rattle.counting_theory.specs.Trie.{total};
 ghost use Rattle.counting_theory.specs.Order.{compareList};
 ghost use Rattle.counting_theory.specs.Label.{byLabel, compareLabel, Counting};
 ghost use Rattle.counting_theory.specs.Encoding.{siblingKeys, typeOf};
-ghost use Rattle.counting_type.specs.Checker.{under, labelAt};
+ghost use Rattle.type_arena.specs.Arena.{under, labelAt};
 ghost use Rattle.counting_type.specs.Merging.{orderingOf, front, body, rest, Headed, Coded, Part, insideOf};
 
 // How one label stands to another.

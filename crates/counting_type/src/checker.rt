@@ -1,10 +1,10 @@
 // Well-formedness of a type, in one pass over its records.
-use crate::type_record;
-use crate::type_record::count_at;
-use crate::type_record::key_at;
-use crate::type_record::kind_at;
-use crate::type_record::span_at;
-use crate::type_record::zero_at;
+use type_arena::type_record;
+use type_arena::type_record::count_at;
+use type_arena::type_record::key_at;
+use type_arena::type_record::kind_at;
+use type_arena::type_record::span_at;
+use type_arena::type_record::zero_at;
 ghost use mathlib.Core.Path.{_≡_};
 ghost use mathlib.Core.Bool.{false, _&&_, _||_};
 ghost use Prim.Native.Nat.{ℕ, _+_, _-_, _≤_, _<_, compare};
@@ -15,7 +15,8 @@ ghost use Rattle.counting_theory.specs.Order.{compareList};
 ghost use Rattle.counting_theory.specs.Label.{Equivalence, compareLabel};
 ghost use Rattle.counting_theory.specs.Encoding.{typeKind, typeSpan, typeCount};
 ghost use Rattle.counting_theory.specs.WellFormed.{maxTotal, badTypeLength, wellFormed, isLt, placedRecord, fieldRecord, typeRecord, fieldCount};
-ghost use Rattle.counting_type.specs.Checker.{InTable, RunOf, under, checkedOf, isSome, hasTotal, addends, fields, fits, keysIn, labelAt, ordered, addendRight, checkRun, FieldsInside, AddendInside};
+ghost use Rattle.type_arena.specs.Arena.{InTable, under, keysIn, labelAt, FieldsInside};
+ghost use Rattle.counting_type.specs.Checker.{RunOf, checkedOf, isSome, hasTotal, addends, fields, fits, ordered, addendRight, checkRun, AddendInside};
 
 const MAX_TOTAL: usize = 1000000000000000;
 

@@ -1,42 +1,35 @@
 // The upper library: infers, judges and merges counting types.
 mod addend;
 mod checker;
-mod clearing;
-mod gathering;
-mod inferring;
-mod key_list;
 mod merging;
-mod placing;
-mod repeats;
-mod scalar_fields;
-mod search;
-mod slots;
-mod store;
-pub mod type_record;
-mod type_store;
 
 use checker::well_formed;
-use clearing::clear_from;
-use gathering::infer_type;
+use inference::gathering::add_messages;
+use inference::inferring::Inferred;
 use merging::merge_types;
-use type_record::bad_length;
+use type_arena::clearing::clear_from;
+use type_arena::type_record;
+use type_arena::type_record::bad_length;
 use value_table::Judged;
 use value_table::judge;
 use value_table::record;
 ghost use mathlib.Core.Path.{_≡_};
 ghost use mathlib.Core.Bool.{not, _||_};
 ghost use mathlib.Core.List.{[]};
-ghost use Prim.Native.Nat.{_*_, _^_, _<_};
+ghost use Prim.Native.Nat.{_*_, _^_, _≤_, _<_};
 ghost use lib.Dec.{eqb};
 ghost use lib.ListN.{length};
-ghost use Rattle.value_table.specs.Judged.{badLength};
+ghost use Rattle.value_table.specs.Value.{maxLength};
+ghost use Rattle.value_table.specs.Judged.{badLength, messages};
 ghost use Rattle.value_table.specs.Outcome.{outcomeOfAnswer};
 ghost use Rattle.counting_theory.specs.Trie.{reduce};
 ghost use Rattle.counting_theory.specs.Label.{Counting};
+ghost use Rattle.counting_theory.specs.Raw.{profileOf};
 ghost use Rattle.counting_theory.specs.Encoding.{typeSize, typeOf};
 ghost use Rattle.counting_theory.specs.WellFormed.{badTypeLength, IsType};
-ghost use Rattle.counting_type.specs.Checker.{under};
-ghost use Rattle.counting_theory.specs.Answers.{judgedType, leaves, inferred, inferredDefault, merged, mergedTypes};
+ghost use Rattle.counting_theory.specs.Answers.{judgedType, leaves, stored, inferred, inferredDefault, merged, mergedTypes};
+ghost use Rattle.type_arena.specs.Arena.{under};
+ghost use Rattle.inference.specs.Inferring.{AcceptedTable};
 ghost use Rattle.counting_type.specs.Outcomes.{numberOfRefusal, outcomeOf, leftBy, Front};
 
 // The equivalence of call 3: kind.
@@ -116,7 +109,18 @@ fn bad_buffers(table: usize, arena: usize, work: usize) -> bool
     work != arena
 }
 
-// The type of a table's messages, in the front of the arena, for any inputs.
+// The type of an accepted table's messages, in the front of the arena.
+fn infer_checked(table: &[u8], label: bool, arena: &mut [u8], work: &mut [u8]) -> Answered
+    requires { ⌜ AcceptedTable (now table) × (length (now arena) ≤ maxLength) × (length (now arena) ≤ length (now work)) ⌝ }
+    ensures { λ r. ⌜ Front (stored (length (now (arena .entry))) (profileOf (under label) (messages (now (table .entry))))) r (now (arena .exit)) ⌝ }
+{
+    match add_messages(arena, table, label, work) {
+        Inferred::Records(n) => Answered::Accepted(n),
+        Inferred::Full => Answered::Refused(Refusal::Room, 0),
+    }
+}
+
+// The same for any inputs.
 fn infer_front(table: &[u8], equivalence: u64, arena: &mut [u8], work: &mut [u8]) -> Answered
     ensures { λ r. ⌜ Front (inferred (now (table .entry)) equivalence (length (now (arena .entry))) (length (now (work .entry)))) r (now (arena .exit)) ⌝ }
 {
@@ -128,7 +132,7 @@ fn infer_front(table: &[u8], equivalence: u64, arena: &mut [u8], work: &mut [u8]
     }
     match judge(table) {
         Judged::Refused(why, place) => Answered::Refused(Refusal::Table(why), place),
-        Judged::Accepted(_) => infer_type(table, equivalence == 1, arena, work),
+        Judged::Accepted(_) => infer_checked(table, equivalence == 1, arena, work),
     }
 }
 

@@ -5,10 +5,10 @@ mod walk;
 
 use counting_type::answer_of;
 use counting_type::infer_default;
-use counting_type::type_record;
 use decimal::digit_count;
 use decimal::put_text;
 use line::put_number_and;
+use type_arena::type_record;
 use walk::largest_count;
 use walk::put_run;
 use walk::union_total;

@@ -1,11 +1,11 @@
 // The walk over the records of a type.
 use crate::line::put_line;
 use crate::line::share;
-use counting_type::type_record;
-use counting_type::type_record::count_at;
-use counting_type::type_record::key_at;
-use counting_type::type_record::kind_at;
-use counting_type::type_record::span_at;
+use type_arena::type_record;
+use type_arena::type_record::count_at;
+use type_arena::type_record::key_at;
+use type_arena::type_record::kind_at;
+use type_arena::type_record::span_at;
 ghost use mathlib.Core.Path.{_≡_};
 ghost use Prim.Native.Nat.{_+_, _-_, _*_, _≤_, _<_, max};
 ghost use lib.ListN.{length};

@@ -9,7 +9,8 @@ use Rattle.value_table.proofs.Tests.{and-parts}
 use Rattle.counting_theory.specs.Label.{Equivalence, compareLabel}
 use Rattle.counting_theory.specs.Encoding.{typeKey, typeCount}
 use Rattle.counting_theory.specs.WellFormed.{maxTotal, typeRecord, isLt, fieldCount}
-use Rattle.counting_type.specs.Checker.{labelAt, Run, addends, fields, fits}
+use Rattle.type_arena.specs.Arena.{labelAt}
+use Rattle.counting_type.specs.Checker.{Run, addends, fields, fits}
 use Rattle.counting_theory.proofs.WellFormed.Tests.{both, three-parts, three}
 use Rattle.counting_theory.proofs.WellFormed.Rules.{isLt-true}
 use Rattle.counting_theory.proofs.WellFormed.Record.{TypeRecord, type-record, record-test}

@@ -8,7 +8,7 @@ use lib.Dec.{ltb}
 use Rattle.counting_theory.specs.Trie.{node}
 use Rattle.counting_theory.specs.Label.{Equivalence, Label, CountingType}
 use Rattle.counting_theory.specs.Encoding.{typeKey, typeSpan, siblingKeys, decode}
-use Rattle.counting_type.specs.Checker.{keysFrom, keysIn, labelAt}
+use Rattle.type_arena.specs.Arena.{keysFrom, keysIn, labelAt}
 use Rattle.counting_theory.proofs.Tagged.Parts.{tagged-parts, shape-label}
 use Rattle.counting_theory.proofs.Encoding.Decode.{decode-run}
 use Rattle.counting_theory.proofs.WellFormed.Holds.{Holds, holds-first}

@@ -13,7 +13,8 @@ use Rattle.value_table.proofs.Tests.{and-parts}
 use Rattle.counting_theory.specs.Label.{Equivalence}
 use Rattle.counting_theory.specs.Encoding.{typeKind, typeKey, typeSpan, typeCount}
 use Rattle.counting_theory.specs.WellFormed.{maxTotal, typeRecord}
-use Rattle.counting_type.specs.Checker.{addends, fields, fits, ordered, checkRun, isSome, hasTotal, addendRight, RunOf, InTable, AddendInside}
+use Rattle.type_arena.specs.Arena.{InTable}
+use Rattle.counting_type.specs.Checker.{addends, fields, fits, ordered, checkRun, isSome, hasTotal, addendRight, RunOf, AddendInside}
 use Rattle.counting_type.proofs.OnePass.Fits.{fits-record}
 use Rattle.counting_type.proofs.OnePass.Steps.{check-end}
 use Rattle.counting_type.proofs.OnePass.Turns.{countFits, union-step, fields-step, addend-inside, record-span, wrong-record, with-nothing}

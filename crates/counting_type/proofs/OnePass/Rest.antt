@@ -10,7 +10,8 @@ use Rattle.counting_theory.specs.Trie.{nil, node, size, Before, total}
 use Rattle.counting_theory.specs.Label.{Equivalence, fieldLabel, compareLabel, Counting, CountingType}
 use Rattle.counting_theory.specs.Encoding.{typeCount, Tagged}
 use Rattle.counting_theory.specs.WellFormed.{maxTotal, counted, fieldsOf, Shallow}
-use Rattle.counting_type.specs.Checker.{labelAt, Run, addends, fields}
+use Rattle.type_arena.specs.Arena.{labelAt}
+use Rattle.counting_type.specs.Checker.{Run, addends, fields}
 use Rattle.counting_theory.proofs.Order.{less-compare}
 use Rattle.counting_theory.proofs.Label.{kind-eq, compare-fields}
 use Rattle.counting_theory.proofs.WellFormed.Nodes.{counted-parts}

@@ -12,7 +12,8 @@ use Rattle.value_table.proofs.Tests.{and-parts}
 use Rattle.counting_theory.specs.Label.{Equivalence}
 use Rattle.counting_theory.specs.Encoding.{typeKind, typeKey, typeSpan, typeCount}
 use Rattle.counting_theory.specs.WellFormed.{maxTotal, typeRecord}
-use Rattle.counting_type.specs.Checker.{addends, fields, fits, ordered, agrees, checkRun, isSome, hasTotal, addendRight, RunOf, FieldChain, done, then as next, AddendInside}
+use Rattle.type_arena.specs.Arena.{FieldChain, done, then as next}
+use Rattle.counting_type.specs.Checker.{addends, fields, fits, ordered, agrees, checkRun, isSome, hasTotal, addendRight, RunOf, AddendInside}
 use Rattle.counting_theory.proofs.WellFormed.Record.{type-record}
 use Rattle.counting_type.proofs.OnePass.Fits.{fits-record}
 use Rattle.counting_type.proofs.OnePass.Steps.{check-end, check-step}

@@ -10,7 +10,7 @@ use Rattle.value_table.specs.Value.{recordKind}
 use Rattle.counting_theory.specs.Order.{then, comparePair, compareList, compareOn}
 use Rattle.counting_theory.specs.Label.{Equivalence, byKind, byLabel, Label, listed, compareLabel}
 use Rattle.counting_theory.specs.Encoding.{typeKind, typeKey, siblingKeys, typeOf}
-use Rattle.counting_type.specs.Checker.{under, labelAt}
+use Rattle.type_arena.specs.Arena.{under, labelAt}
 use Rattle.counting_type.specs.Merging.{body, rest, Coded}
 use Rattle.counting_theory.proofs.Order.{number-refl, less-compare, more-compare}
 use Rattle.counting_theory.proofs.Label.{label-order, kind-eq, keys-eq}

@@ -15,7 +15,7 @@ use Rattle.counting_theory.specs.Label.{Equivalence, Label, fieldKind, Counting
 use Rattle.counting_theory.specs.Place.{FieldTotals}
 use Rattle.counting_theory.specs.Encoding.{typeKind, typeCount, typeOf, Tagged}
 use Rattle.counting_theory.specs.WellFormed.{maxTotal, depthInside, Shallow, IsType}
-use Rattle.counting_type.specs.Checker.{under, labelAt}
+use Rattle.type_arena.specs.Arena.{under, labelAt}
 use Rattle.counting_type.specs.Merging.{body, rest, Coded, depthOf, Part, insideOf, exceeds}
 use Rattle.counting_theory.proofs.Label.{kind-eq}
 use Rattle.counting_theory.proofs.Tagged.Parts.{holdsFields}

@@ -13,8 +13,9 @@ use Rattle.counting_theory.specs.Trie.{size, total}
 use Rattle.counting_theory.specs.Label.{Equivalence, Counting}
 use Rattle.counting_theory.specs.Encoding.{typeSize, typeKind, typeKey, typeCount, typeOf}
 use Rattle.counting_theory.specs.WellFormed.{maxTotal}
-use Rattle.counting_type.specs.Merging.{headerOf, front, body, rest, Part, insideOf, exceedsBelow, both, mergedBytes, joinedBytes, Kept, Ran, Stored, Joined}
-use Rattle.counting_type.proofs.TypeMerge.Sets.{sets-append, sets-last, length-headerOf}
+use Rattle.type_arena.specs.Arena.{headerOf}
+use Rattle.counting_type.specs.Merging.{front, body, rest, Part, insideOf, exceedsBelow, both, mergedBytes, joinedBytes, Kept, Ran, Stored, Joined}
+use Rattle.type_arena.proofs.Sets.{sets-append, sets-last, length-headerOf}
 use Rattle.counting_type.proofs.TypeMerge.Addend.{body-rest, front-rest}
 use Rattle.counting_type.proofs.TypeMerge.Part.{Head}
 use Rattle.counting_type.proofs.TypeMerge.Labels.{order}

@@ -4,7 +4,7 @@ use native.Mathlib.Omega.{arith}
 use borrow.Author.Needs.{needs}
 use Rattle.counting_theory.specs.Answers.{zeros}
 use Rattle.counting_type.proofs.Fronts.{front-length, front-cleared}
-use Rattle.counting_type.proofs.Clear.{cleared-whole}
+use Rattle.type_arena.proofs.Clear.{cleared-whole}
 use Rattle.counting_type.proofs.Exact.{exact-inferred}
 use Rattle.counting_type.proofs.infer.Statement.{statement}
 use Rattle.counting_type.proofs.infer.Tie as tie

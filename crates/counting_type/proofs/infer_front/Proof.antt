@@ -46,8 +46,8 @@ enum-known-why c = search needs
 enum-told : tie.Need-enum-told
 enum-told c = search needs
 
-infer-type-requires : tie.Need-infer-type-requires
-infer-type-requires c κs =
+infer-checked-requires : tie.Need-infer-checked-requires
+infer-checked-requires c κs =
     let j = sym (c .before .before .before .before .judge .ensures) ∙ ap outcomeOf (c .before .before .enum-told .given .1) in
     let l = buffers (length (c .before .before .before .before .before .before .before .before .before .before .before .args .table .now)) (length (c .before .before .before .before .before .before .before .before .before .before .before .args .arena .now)) (length (c .before .before .before .before .before .before .before .before .before .before .before .args .work .now)) (sym (c .before .before .before .before .before .before .before .bad-buffers .ensures) ∙ c .before .before .before .before .before .before .if1 .left) in
     (record { count = _; is-table = accepts _ _ (λ p. c .before .before .before .before .before .before .before .before .before .before .shared-slice-known .given p .fits) .0 j }, l .0, l .1)
@@ -69,7 +69,7 @@ returns-4 : tie.Need-returns-4
 unfolding inferred
 returns-4 c =
     let j = sym (c .before .before .before .before .before .before .before .before .before .judge .ensures) ∙ ap outcomeOf (c .before .before .before .before .before .before .before .enum-told .given .1) in
-    rw (sym (c .before .before .before .before .before .before .before .before .before .before .before .before .bad-buffers .ensures) ∙ c .before .before .before .before .before .before .before .before .before .before .before .if1 .left, known _ (c .before .before .before .before .before .before .before .before .before .before .if2 .left), j) (c .before .before .before .before .infer-type .ensures)
+    rw (sym (c .before .before .before .before .before .before .before .before .before .before .before .before .bad-buffers .ensures) ∙ c .before .before .before .before .before .before .before .before .before .before .before .if1 .left, known _ (c .before .before .before .before .before .before .before .before .before .before .if2 .left), j) (c .before .before .before .before .infer-checked .ensures)
 
 pub infer-front-spec : {M : Type 1} → statement M
 infer-front-spec =
@@ -81,7 +81,7 @@ infer-front-spec =
     judge-requires
     enum-known-why
     enum-told
-    infer-type-requires
+    infer-checked-requires
     returns-3
     same-length
     same-length-2

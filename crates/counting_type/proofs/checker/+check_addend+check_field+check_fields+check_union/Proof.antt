@@ -7,7 +7,8 @@ use borrow.Author.Tests.{not-true, not-false}
 use borrow.Fn.Kinds.{In}
 use borrow.Fn.PlainCycle.{Measures, is, falls, and}
 use Rattle.counting_theory.specs.Encoding.{typeSpan, typeCount}
-use Rattle.counting_type.specs.Checker.{under, checkedOf, isSome, hasTotal, addends, checkRun, addendRight}
+use Rattle.type_arena.specs.Arena.{under}
+use Rattle.counting_type.specs.Checker.{checkedOf, isSome, hasTotal, addends, checkRun, addendRight}
 use Rattle.counting_type.proofs.OnePass.Turns.{addend-inside, wrong-record, record-span, with-fields, with-union, with-nothing}
 use Rattle.counting_type.proofs.OnePass.Loops.{run-from, run-within, in-table, Addends, addends-start, addends-done, last-inside, wrong-addend, wrong-count, wrong-order, addend-span, count-below, addends-next, Fields, fields-start, fields-done, wrong-field, field-span, wrong-total, fields-next}
 use Rattle.counting_type.proofs.checker.check_addend.Reads as check-addend
@@ -27,10 +28,10 @@ use Rattle.counting_type.proofs.checker.check_scalar.Reads as check-sca
 use Rattle.counting_type.proofs.checker.count_fits.Reads as count-fits-reads
 use Rattle.counting_type.proofs.checker.field_fits.Reads as field-fits-reads
 use Rattle.counting_type.proofs.checker.in_order.Reads as in-order-reads
-use Rattle.counting_type.proofs.type_record.count_at.Reads as count-at-reads
-use Rattle.counting_type.proofs.type_record.key_at.Reads as key-at-reads
-use Rattle.counting_type.proofs.type_record.kind_at.Reads as kind-at-reads
-use Rattle.counting_type.proofs.type_record.span_at.Reads as span-at-reads
+use Rattle.type_arena.proofs.type_record.count_at.Reads as count-at-reads
+use Rattle.type_arena.proofs.type_record.key_at.Reads as key-at-reads
+use Rattle.type_arena.proofs.type_record.kind_at.Reads as kind-at-reads
+use Rattle.type_arena.proofs.type_record.span_at.Reads as span-at-reads
 use Rattle.counting_type.proofs.checker.+check_addend+check_field+check_fields+check_union.{statement}
 use Rattle.counting_type.proofs.checker.+check_addend+check_field+check_fields+check_union.Tie.{close}
 

@@ -2,7 +2,7 @@
 use mathlib.Core.Path.{sym, _∙_}
 use borrow.Author.Tests.{not-true, not-false}
 use borrow.Author.Needs.{needs}
-use Rattle.counting_type.proofs.Chain.{kinds-order, one-kind, one-class, keys-order}
+use Rattle.type_arena.proofs.Chain.{kinds-order, one-kind, one-class, keys-order}
 use Rattle.counting_type.proofs.checker.addend_precedes.Statement.{statement}
 use Rattle.counting_type.proofs.checker.addend_precedes.Tie as tie
 

@@ -3,8 +3,8 @@ use mathlib.Core.Path.{sym, _∙_}
 use Prim.Native.Nat.{_+_, _-_}
 use native.Mathlib.Omega.{arith}
 use borrow.Author.Needs.{needs}
-use Rattle.counting_type.specs.Checker.{keysIn}
-use Rattle.counting_type.proofs.Chain.{chain-le, Comparing, comparing-start, comparing-second, comparing-first, comparing-left, comparing-right, comparing-settled, comparing-next}
+use Rattle.type_arena.specs.Arena.{keysIn}
+use Rattle.type_arena.proofs.Chain.{chain-le, Comparing, comparing-start, comparing-second, comparing-first, comparing-left, comparing-right, comparing-settled, comparing-next}
 use Rattle.counting_type.proofs.checker.keys_precede.Statement.{statement}
 use Rattle.counting_type.proofs.checker.keys_precede.Tie as tie
 

@@ -10,7 +10,7 @@ use Rattle.report.proofs.Walking.{Walking, walking-start, walking-next,
 use Rattle.report.proofs.walk.put_run.Reads as put-run
 use Rattle.report.proofs.walk.put_run.Kinds as put-run-kinds
 use Rattle.report.proofs.walk.+put_run.Lts-put_run as put-run-lts
-use Rattle.counting_type.proofs.type_record.span_at.Reads as span-at-reads
+use Rattle.type_arena.proofs.type_record.span_at.Reads as span-at-reads
 use Rattle.report.proofs.walk.depth_inside.Reads as depth-inside-reads
 use Rattle.report.proofs.walk.put_record.Reads as put-record-reads
 use Rattle.report.proofs.walk.whole_inside.Reads as whole-inside-reads

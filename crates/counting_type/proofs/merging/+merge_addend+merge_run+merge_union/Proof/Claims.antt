@@ -23,11 +23,11 @@ use Rattle.counting_type.proofs.merging.append.Reads as append-reads
 use Rattle.counting_type.proofs.merging.either.Reads as either-reads
 use Rattle.counting_type.proofs.merging.keep.Reads as keep-reads
 use Rattle.counting_type.proofs.merging.total_over.Reads as total-over-reads
-use Rattle.counting_type.proofs.store.put_bytes.Reads as put-bytes-reads
-use Rattle.counting_type.proofs.store.put_record.Reads as put-record-reads
-use Rattle.counting_type.proofs.type_record.count_at.Reads as count-at-reads
-use Rattle.counting_type.proofs.type_record.key_at.Reads as key-at-reads
-use Rattle.counting_type.proofs.type_record.kind_at.Reads as kind-at-reads
+use Rattle.type_arena.proofs.store.put_bytes.Reads as put-bytes-reads
+use Rattle.type_arena.proofs.store.put_record.Reads as put-record-reads
+use Rattle.type_arena.proofs.type_record.count_at.Reads as count-at-reads
+use Rattle.type_arena.proofs.type_record.key_at.Reads as key-at-reads
+use Rattle.type_arena.proofs.type_record.kind_at.Reads as kind-at-reads
 
 abbrev pub μ-addend : Measures 5 merge-addend-kinds.ps ℕ
 μ-addend κs a = 3 * rank (a .1 .1 .1 .1 .1 .0)

@@ -1,0 +1,82 @@
+-- What is added of a run of values keeps siblings as inference makes them.
+use mathlib.Core.Path.{_≡_, refl, sym, _∙_, ap}
+use mathlib.Core.Bool.{Bool, true, false}
+use Prim.Native.Nat.{ℕ, suc, _≤_, _<_, Ordering, Ordering·lt as lt, Ordering·eq as eq, Ordering·gt as gt}
+use native.Mathlib.Omega.{arith}
+use lib.Dec.{eqb}
+use Rattle.value_table.specs.Value.{recordKind, Values, none, value, ValidAt}
+use Rattle.counting_theory.specs.Trie.{nil, node, insertStep, insert, add, profile, reduce}
+use Rattle.counting_theory.specs.Label.{Equivalence, Label, compareLabel, Counting, CountingType}
+use Rattle.counting_theory.specs.Raw.{classOf, addend, raw}
+use Rattle.counting_theory.specs.Encoding.{Tagged}
+use Rattle.inference.specs.Inferring.{Keyed, Siblings, times}
+use Rattle.counting_theory.proofs.Label.{counting-laws}
+use Rattle.counting_theory.proofs.Trie.Sorted.{sorted-add, sorted-profile}
+use Rattle.counting_theory.proofs.Trie.Profile.{add-comm, reduce-add}
+use Rattle.counting_theory.proofs.Tagged.Profile.{inferred}
+use Rattle.counting_theory.proofs.Tagged.Reduce.{tagged-reduce}
+use Rattle.inference.proofs.InPlace.Runs.{key-fits}
+use Rattle.inference.proofs.InPlace.Times.{times-keeps}
+
+-- values that are no fields: their keys make no difference
+unfoldable unkeyed : Values → Values
+unkeyed none = none
+unkeyed (value kind key content next) = value kind 0 content (unkeyed next)
+
+module _ (e : Equivalence) where
+  raw-unkeyed : (vs : Values) → raw e false (unkeyed vs) ≡ raw e false vs
+  unfolding raw unkeyed
+  raw-unkeyed none = refl
+  raw-unkeyed (value kind key content next) = ap (addend false key (classOf e kind content) (raw e (eqb kind recordKind) content)) (raw-unkeyed next)
+
+  valid-unkeyed : (asFields : Bool) (depth : ℕ) (vs : Values) → ValidAt asFields depth vs → ValidAt false depth (unkeyed vs)
+  unfolding ValidAt unkeyed
+  valid-unkeyed asFields depth none h = tt
+  valid-unkeyed asFields depth (value kind key content next) h =
+      let p = h .0 in (
+        record { kind-low = p .kind-low; kind-high = p .kind-high; scalar = p .scalar; keyed = refl; distinct = p .distinct; shallow = p .shallow },
+        h .1,
+        valid-unkeyed asFields depth next (h .2),
+      )
+
+  run-tagged : (field asFields : Bool) (depth : ℕ) (vs : Values) → ValidAt asFields depth vs → (field ≡ true → asFields ≡ true) → Tagged e field (profile Counting (raw e field vs))
+  run-tagged true asFields depth vs h i = inferred e true depth vs (rw (i refl) at h) .is-tagged
+  run-tagged false asFields depth vs h i = rw (raw-unkeyed vs) at (inferred e false depth (unkeyed vs) (valid-unkeyed asFields depth vs h) .is-tagged)
+
+  keyed-raw : (field asFields : Bool) (depth : ℕ) (vs : Values) → ValidAt asFields depth vs → Keyed (raw e field vs)
+  unfolding raw ValidAt
+  keyed-raw field asFields depth none h = tt
+  keyed-raw true asFields depth (value kind key content next) h =
+      (key-fits asFields key (h .0 .keyed), (omega arith, keyed-raw (eqb kind recordKind) (eqb kind recordKind) (suc depth) content (h .1), tt), keyed-raw true asFields depth next (h .2))
+  keyed-raw false asFields depth (value kind key content next) h =
+      (omega arith, keyed-raw (eqb kind recordKind) (eqb kind recordKind) (suc depth) content (h .1), keyed-raw false asFields depth next (h .2))
+
+keyed-insert : (l : Label) (a : ℕ) (g : CountingType → CountingType) → l .key < 65536 → ((c : CountingType) → Keyed c → Keyed (g c)) → (f : CountingType) → Keyed f → Keyed (insert Counting l a g f)
+unfolding insert insertStep
+keyed-insert l a g h i nil k = (h, i nil tt, tt)
+keyed-insert l a g h i (node m b c s) k = go (compareLabel l m) (keyed-insert l a g h i s (k .2))
+  where
+    go : (o : Ordering) → Keyed (insert Counting l a g s) → Keyed (insertStep Counting o l a g m b c s (insert Counting l a g s))
+    go lt j = (h, i nil tt, k)
+    go eq j = (k .0, i c (k .1), k .2)
+    go gt j = (k .0, k .1, j)
+
+keyed-add : (r f : CountingType) → Keyed r → Keyed f → Keyed (add Counting r f)
+unfolding add
+keyed-add nil f h k = k
+keyed-add (node l a c s) f h k = keyed-add s (insert Counting l a (add Counting c) f) (h .2) (keyed-insert l a (add Counting c) (h .0) (λ d. keyed-add c d (h .1)) f k)
+
+module _ (e : Equivalence) (field asFields : Bool) (depth : ℕ) (vs : Values) (valid : ValidAt asFields depth vs) (fields : field ≡ true → asFields ≡ true) where
+  add-siblings : (f : CountingType) → Siblings e field f → Siblings e field (add Counting (raw e field vs) f)
+  add-siblings f h =
+      let r = raw e field vs in
+      let p = profile Counting r in
+      let z : reduce Counting f p ≡ add Counting r f = reduce-add counting-laws f p (h .sorted) (sorted-profile counting-laws r) ∙ sym (add-comm counting-laws r f (h .sorted)) in
+      record {
+        tagged = rw z at (tagged-reduce e field f p (h .tagged) (run-tagged e field asFields depth vs valid fields));
+        sorted = sorted-add counting-laws r f (h .sorted);
+        keyed = keyed-add r f (keyed-raw e field asFields depth vs valid) (h .keyed);
+      }
+
+  pub times-siblings : (w : ℕ) → 1 ≤ w → (f : CountingType) → Siblings e field f → Siblings e field (add Counting (times w (raw e field vs)) f)
+  times-siblings = times-keeps (Siblings e field) (raw e field vs) (λ f h. h .sorted) add-siblings

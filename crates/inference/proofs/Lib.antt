@@ -1,0 +1,3 @@
+-- The laws behind inference; a folder for each function's proof.
+pub mod InPlace
+pub mod Waiting

@@ -1,0 +1,139 @@
+-- `place` meets its contract.
+use mathlib.Core.List.{List}
+use mathlib.Core.Bool.{Bool}
+use mathlib.Core.Path.{refl, sym, _∙_}
+use Prim.Native.Nat.{ℕ, _+_, _*_, _≤_}
+use native.Mathlib.Omega.{arith}
+use lib.ListN.{length, length-take, length-drop}
+use borrow.Author.Needs.{needs}
+use Rattle.inference.specs.Inferring.{wanted, Holds, Starts, StandsAt, split}
+use Rattle.type_arena.specs.Arena.{under}
+use Rattle.counting_theory.specs.Label.{Label, CountingType}
+use Rattle.inference.proofs.InPlace.Placing.{holds-length, here-within, missing-within, missing-full, missing-counted}
+use Rattle.inference.proofs.InPlace.Splits.{MissingAt, here-at, missing-at}
+use Rattle.inference.proofs.placing.place.Statement.{statement}
+use Rattle.inference.proofs.placing.place.Tie as tie
+
+-- where the label stands, and its room
+module _ (c : tie.After-known-told) where
+  abbrev found-label : Label
+  found-label = wanted (under (c .before .before .before .before .before .before .before .args .label)) (c .before .before .before .before .before .before .before .args .kind) (c .before .before .before .before .before .before .before .args .key) (c .before .before .before .before .before .before .before .args .keys) (c .before .before .before .before .before .before .before .args .work .now)
+
+  abbrev found-place : ℕ
+  found-place = c .before .p .given .0 .0
+
+  stands : (field : Bool) (f : CountingType) (q free : List ℕ) → Holds (under (c .before .before .before .before .before .before .before .args .label)) field (c .before .before .before .before .before .before .before .args .a .now) (c .before .before .before .before .before .before .before .args .n) (c .before .before .before .before .before .before .before .args .rest) f q free →
+      Starts (c .before .before .before .before .before .before .before .args .from) f → StandsAt found-label f found-place
+  stands field f q free h s = sym (c .before .p .given .1) ∙ c .before .before .before .search .ensures field _ f q free h s
+
+  found-room : 16 * found-place + 16 ≤ length (c .before .before .before .before .before .before .before .args .a .now)
+  found-room =
+      let g = c .before .before .before .before .before .before .before .pre .0 in
+      omega (arith, here-within (g .holds) found-label _ _ 0 (here-at found-label 0 found-place (g .f) (stands (g .field) (g .f) (g .q) (g .free) (g .holds) (g .starts))), holds-length (g .holds))
+
+-- where it would stand
+module _ (c : tie.After-known-told2) where
+  abbrev missed-label : Label
+  missed-label = wanted (under (c .before .before .before .before .before .before .before .args .label)) (c .before .before .before .before .before .before .before .args .kind) (c .before .before .before .before .before .before .before .args .key) (c .before .before .before .before .before .before .before .args .keys) (c .before .before .before .before .before .before .before .args .work .now)
+
+  abbrev missed-place : ℕ
+  missed-place = c .before .p2 .given .0 .0
+
+  missed : (field : Bool) (f : CountingType) (q free : List ℕ) → Holds (under (c .before .before .before .before .before .before .before .args .label)) field (c .before .before .before .before .before .before .before .args .a .now) (c .before .before .before .before .before .before .before .args .n) (c .before .before .before .before .before .before .before .args .rest) f q free →
+      Starts (c .before .before .before .before .before .before .before .args .from) f → MissingAt (split missed-label f) 0 f missed-place
+  missed field f q free h s =
+      missing-at missed-label 0 missed-place f (sym (c .before .p2 .given .1) ∙ c .before .before .before .search .ensures field _ f q free h s)
+
+  missed-room : (16 * missed-place ≤ 16 * (c .before .before .before .before .before .before .before .args .n + c .before .before .before .before .before .before .before .args .rest)) × (16 * (c .before .before .before .before .before .before .before .args .n + c .before .before .before .before .before .before .before .args .rest) ≤ length (c .before .before .before .before .before .before .before .args .a .now))
+  missed-room =
+      let g = c .before .before .before .before .before .before .before .pre .0 in
+      omega (arith, missing-within (g .holds) missed-label _ _ 0 (missed (g .field) (g .f) (g .q) (g .free) (g .holds) (g .starts)), holds-length (g .holds))
+
+search-requires : tie.Need-search-requires
+search-requires c κs = let g = c .before .before .before .pre in (record { rest = _; held = g .0 }, g .1)
+
+enum-known-p : tie.Need-enum-known-p
+enum-known-p c = search needs
+
+count-here-requires : tie.Need-count-here-requires
+count-here-requires c κs = found-room (c .before)
+
+enum-known-p-2 : tie.Need-enum-known-p-2
+enum-known-p-2 c = search needs
+
+add-used : tie.Need-add-used
+add-used c = omega (arith, missed-room c)
+
+mul-used : tie.Need-mul-used
+mul-used c = omega (arith, missed-room c)
+
+sub-if1 : tie.Need-sub-if1
+sub-if1 c = omega (arith, missed-room c)
+
+same-length : tie.Need-same-length
+same-length c = search needs
+
+returns : tie.Need-returns
+returns c field f q free h s =
+    missing-full h (missed-label (c .before)) _ _ 0 (missed (c .before) field f q free h s) _ (c .if1 .taken) (missed-room (c .before) .1)
+
+mul-o : tie.Need-mul-o
+mul-o c = omega (arith, missed-room (c .before))
+
+sub-insert-record : tie.Need-sub-insert-record
+sub-insert-record c = omega (arith, missed-room (c .before))
+
+part-insert-record-start : tie.Need-part-insert-record-start
+part-insert-record-start c = omega (arith, missed-room (c .before))
+
+part-insert-record-end : tie.Need-part-insert-record-end
+part-insert-record-end c = search needs
+
+sub-insert-record-2 : tie.Need-sub-insert-record-2
+sub-insert-record-2 c = omega (arith, missed-room (c .before .before))
+
+insert-record-requires : tie.Need-insert-record-requires
+insert-record-requires c κs = simp (length-take, length-drop) (omega (arith, missed-room (c .before .before), c .before .if1 .left))
+
+add-t22 : tie.Need-add-t22
+add-t22 c = search needs
+
+same-length-2 : tie.Need-same-length-2
+same-length-2 c = search needs
+
+returns-2 : tie.Need-returns-2
+returns-2 c field f q free h s =
+    let k = c .before .before .before .before in
+    c .before .before .count-here .ensures _ field _ _ (found-label k) f q free h (stands k field f q free h s)
+
+same-length-3 : tie.Need-same-length-3
+same-length-3 c = search needs
+
+returns-3 : tie.Need-returns-3
+returns-3 c field f q free h s =
+    missing-counted h (missed-label (c .before .before .before .before .before)) _ _ _ (missed (c .before .before .before .before .before) field f q free h s) _ (c .before .before .insert-record .ensures _ refl refl)
+
+pub place-spec : {M : Type 1} → statement M
+place-spec =
+    tie.close
+    (tie.spec
+    search-requires
+    enum-known-p
+    count-here-requires
+    enum-known-p-2
+    add-used
+    mul-used
+    sub-if1
+    same-length
+    returns
+    mul-o
+    sub-insert-record
+    part-insert-record-start
+    part-insert-record-end
+    sub-insert-record-2
+    insert-record-requires
+    add-t22
+    same-length-2
+    returns-2
+    same-length-3
+    returns-3)

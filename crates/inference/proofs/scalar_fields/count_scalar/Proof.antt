@@ -1,0 +1,146 @@
+-- `count_scalar` meets its contract.
+use mathlib.Core.List.{List, _++_}
+use mathlib.Core.Bool.{Bool, true, false}
+use mathlib.Core.Path.{refl, sym, _∙_}
+use Prim.Native.Nat.{ℕ, _+_, _*_, _-_, _≤_}
+use native.Mathlib.Omega.{arith}
+use lib.ListN.{length, take, drop, length-take, length-drop}
+use borrow.Author.Needs.{needs}
+use Rattle.counting_theory.specs.Label.{fieldKind, CountingType}
+use Rattle.counting_theory.specs.Encoding.{typeSpan, encode}
+use Rattle.type_arena.specs.Arena.{under}
+use Rattle.inference.specs.Inferring.{Holds, StandsAt, split, Counted}
+use Rattle.inference.specs.ScalarFields.{plain}
+use Rattle.inference.proofs.InPlace.Placing.{holds-length, here-within}
+use Rattle.inference.proofs.InPlace.Splits.{here-at}
+use Rattle.inference.proofs.InPlace.Scalars.{begun-first, field-bound, union-holds, counted-union, scalar-counted}
+use Rattle.inference.proofs.scalar_fields.count_scalar.Statement.{statement}
+use Rattle.inference.proofs.scalar_fields.count_scalar.Tie as tie
+
+-- the field at p
+module _ (c : tie.Start) where
+  bound : (c .args .p + typeSpan (c .args .a .now) (c .args .p) ≤ length (c .args .a .now)) × (1 ≤ typeSpan (c .args .a .now) (c .args .p)) × (16 * (c .args .p + typeSpan (c .args .a .now) (c .args .p)) ≤ length (c .args .a .now)) × (length (c .args .a .now) ≤ 65536)
+  bound = let g = c .pre .0 in omega (arith, field-bound (g .holds) (g .key) _ (g .here))
+
+mul-inner : tie.Need-mul-inner
+mul-inner c = omega (arith, bound (c .before))
+
+add-inner : tie.Need-add-inner
+add-inner c = omega (arith, bound (c .before))
+
+span-at-requires : tie.Need-span-at-requires
+span-at-requires c κs = omega (arith, bound (c .before .before))
+
+sub-held : tie.Need-sub-held
+sub-held c = omega (arith, bound (c .before .before .before), c .span-at .ensures .0)
+
+sub-find-scalar : tie.Need-sub-find-scalar
+sub-find-scalar c = omega (arith, bound (c .before .before .before))
+
+part-find-scalar-start : tie.Need-part-find-scalar-start
+part-find-scalar-start c = omega (arith, bound (c .before .before .before .before))
+
+part-find-scalar-end : tie.Need-part-find-scalar-end
+part-find-scalar-end c = search needs
+
+find-scalar-requires : tie.Need-find-scalar-requires
+find-scalar-requires c κs =
+    let g = c .before .before .before .before .before .pre in
+    let x = g .0 in
+    let h = union-holds (x .holds) (x .key) _ (x .here) _ (c .before .before .span-at .ensures .0) in
+    (record { label = x .label; rest = _; f = _; q = _; free = _; holds = h; starts = begun-first h (plain (under (x .label)) 0 0) .starts }, g .1)
+
+enum-known-q : tie.Need-enum-known-q
+enum-known-q c = search needs
+
+enum-told : tie.Need-enum-told
+enum-told c = search needs
+
+same-length : tie.Need-same-length
+same-length c = search needs
+
+returns : tie.Need-returns
+returns c label n rest key f q free h o = refl
+
+count-here-requires : tie.Need-count-here-requires
+count-here-requires c κs = omega (arith, bound (c .before .before .before .before .before .before .before .before .before .before))
+
+-- the scalar in its union, when the field has been counted
+module _ (c : tie.After-slice-known2) where
+  abbrev found : tie.After-find-scalar
+  found = c .before .before .before .before .before .before .before
+
+  abbrev start : tie.Start
+  start = found .before .before .before .before .before .before
+
+  abbrev span : ℕ
+  span = found .before .before .before .span-at .result
+
+  abbrev arena : List ℕ
+  arena = c .before .before .count-here .last .0
+
+  short : length arena ≤ 65536
+  short = omega (arith, bound start, c .before .before .count-here .kept .0)
+
+  module _ (label : Bool) (n rest key : ℕ) (f : CountingType) (q free : List ℕ) (h : Holds (under label) true (start .args .a .now) n rest f q free) (o : StandsAt (plain (under label) fieldKind key) f (start .args .p)) where
+    counted : Counted (split (plain (under label) fieldKind key) f) (plain (under label) fieldKind key) (start .args .weight) q (start .args .p) n arena
+    counted = c .before .before .count-here .ensures _ true n rest _ f q free h o
+
+    abbrev union : CountingType
+    union = split (plain (under label) fieldKind key) f .content
+
+    stands : StandsAt (plain (under label) (start .args .kind) 0) union (c .before .before .before .before .before .q .given .0 .0)
+    stands = sym (c .before .before .before .before .before .q .given .1) ∙ found .find-scalar .ensures label _ union _ _ (union-holds h key _ o _ (found .before .before .before .span-at .ensures .0))
+
+    inner : Holds (under label) false (take (length arena - (16 * start .args .p + 16)) (drop (16 * start .args .p + 16) arena)) (span - 1) (n + rest - start .args .p - span) union (encode (split (plain (under label) fieldKind key) f .after) ++ q) (counted .free)
+    inner = counted-union h key _ o span (found .before .before .before .span-at .ensures .0) counted short
+
+sub-count-here : tie.Need-sub-count-here
+sub-count-here c = omega (arith, bound (start c), c .before .before .count-here .kept .0)
+
+part-count-here-start : tie.Need-part-count-here-start
+part-count-here-start c = omega (arith, bound (start c), c .before .before .count-here .kept .0)
+
+part-count-here-end : tie.Need-part-count-here-end
+part-count-here-end c = search needs
+
+count-here-requires-2 : tie.Need-count-here-requires-2
+count-here-requires-2 c κs =
+    let i = c .before in
+    let g = start i .pre .0 in
+    let h = inner i (g .label) (g .n) (g .rest) (g .key) (g .f) (g .q) (g .free) (g .holds) (g .here) in
+    omega (arith, here-within h _ _ _ 0 (here-at _ 0 _ _ (stands i (g .label) (g .n) (g .rest) (g .key) (g .f) (g .q) (g .free) (g .holds) (g .here))), holds-length h)
+
+same-length-2 : tie.Need-same-length-2
+same-length-2 c = search needs
+
+returns-2 : tie.Need-returns-2
+returns-2 c label n rest key f q free h o =
+    let i = c .before .before .before .before in
+    let k = c .before .before .count-here2 .ensures _ false _ _ _ _ _ _ (inner i label n rest key f q free h o) (stands i label n rest key f q free h o) in
+    scalar-counted h key _ o _ (found i .before .before .before .span-at .ensures .0) (counted i label n rest key f q free h o) (short i) _ k
+    (omega (arith, short i, simp (length-take, length-drop) at (c .before .before .count-here2 .kept .0)))
+
+pub count-scalar-spec : {M : Type 1} → statement M
+count-scalar-spec =
+    tie.close
+    (tie.spec
+    mul-inner
+    add-inner
+    span-at-requires
+    sub-held
+    sub-find-scalar
+    part-find-scalar-start
+    part-find-scalar-end
+    find-scalar-requires
+    enum-known-q
+    enum-told
+    same-length
+    returns
+    count-here-requires
+    sub-count-here
+    part-count-here-start
+    part-count-here-end
+    count-here-requires-2
+    same-length-2
+    returns-2)

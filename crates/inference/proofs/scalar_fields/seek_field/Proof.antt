@@ -1,0 +1,97 @@
+-- `seek_field` meets its contract.
+use mathlib.Core.List.{List}
+use mathlib.Core.Bool.{Bool, true, false}
+use Prim.Native.Nat.{ℕ, _-_}
+use native.Mathlib.Omega.{arith}
+use Rattle.counting_theory.specs.Label.{fieldKind, CountingType}
+use Rattle.type_arena.specs.Arena.{under}
+use Rattle.inference.specs.Inferring.{Holds, Starts}
+use Rattle.inference.specs.ScalarFields.{plain}
+use Rattle.inference.proofs.InPlace.Seeking.{Stop, stop, starts-next}
+use Rattle.inference.proofs.InPlace.Scalars.{Begun, begun-start, table-at, field-kind, plain-equal, plain-key-greater}
+use Rattle.inference.proofs.scalar_fields.seek_field.Statement.{statement}
+use Rattle.inference.proofs.scalar_fields.seek_field.Tie as tie
+
+abbrev Inv-loop : tie.InvT-loop
+Inv-loop b from n key at₀ before₀ at before = (label : Bool) (rest : ℕ) (f : CountingType) (q free : List ℕ) → Holds (under label) true b n rest f q free → Starts from f →
+    Begun (under label) b n (plain (under label) fieldKind key) f at × Starts before f
+
+abbrev μ-loop : tie.MeasureT-loop
+μ-loop b from n key at₀ before₀ at before = n - at
+
+-- the field at the loop's head
+module _ (c : tie.In-loop Inv-loop μ-loop) where
+  abbrev start : tie.Start Inv-loop μ-loop
+  start = c .before .before .before .before
+
+  module _ (label : Bool) (rest : ℕ) (f : CountingType) (q free : List ℕ) (h : Holds (under label) true (start .args .b .now) (start .args .n) rest f q free) (s : Starts (start .args .from) f) where
+    abbrev begun : Begun (under label) (start .args .b .now) (start .args .n) (plain (under label) fieldKind (start .args .key)) f (c .before .loop .at)
+    begun = c .before .loop .inv label rest f q free h s .0
+
+    all : Stop (under label) (start .args .b .now) (start .args .n) (plain (under label) fieldKind (start .args .key)) f false (c .before .loop .at)
+    all = stop (h .short) (begun .seen) (c .loop-test .taken)
+
+  one : let g = start .pre in Stop (under (g .label)) (start .args .b .now) (start .args .n) (plain (under (g .label)) fieldKind (start .args .key)) (g .f) false (c .before .loop .at)
+  one = let g = start .pre in all (g .label) (g .rest) (g .f) (g .q) (g .free) (g .holds) (g .starts)
+
+field-start-requires : tie.Need-field-start-requires Inv-loop μ-loop
+field-start-requires c κs u = let g = c .before .pre in table-at (g .holds) (g .starts) u
+
+loop-holds : tie.Need-loop-holds Inv-loop μ-loop
+loop-holds c label rest f q free h s =
+    let x = begun-start label h (c .before .before .args .key) s in
+    rw (c .field-start .ensures) (x, x .starts)
+
+key-at-requires : tie.Need-key-at-requires Inv-loop μ-loop
+key-at-requires c κs = one c .here .whole
+
+returns : tie.Need-returns Inv-loop μ-loop
+returns c label rest f q free h s =
+    let i = c .before .before in
+    all i label rest f q free h s .equal
+    (plain-equal label _ _ fieldKind _ (field-kind h (begun i label rest f q free h s .starts) (i .loop-test .taken)) (omega (arith, c .before .key-at .ensures, c .if1 .taken)) (λ z. omega arith))
+
+returns-2 : tie.Need-returns-2 Inv-loop μ-loop
+returns-2 c label rest f q free h s = c .before .before .before .before .loop .inv label rest f q free h s .1
+
+span-at-requires : tie.Need-span-at-requires Inv-loop μ-loop
+span-at-requires c κs = one (c .before .before .before) .here .whole
+
+add-at : tie.Need-add-at Inv-loop μ-loop
+add-at c = omega (arith, one (c .before .before .before .before) .upto, c .span-at .ensures .0)
+
+loop-less : tie.Need-loop-less Inv-loop μ-loop
+loop-less c = omega (arith, one (c .before .before .before .before) .upto, one (c .before .before .before .before) .some, c .span-at .ensures .0)
+
+loop-again : tie.Need-loop-again Inv-loop μ-loop
+loop-again c label rest f q free h s =
+    let i = c .before .before .before .before in
+    let x = begun i label rest f q free h s .starts in
+    rw (c .span-at .ensures .0) (
+      record {
+        seen = all i label rest f q free h s .greater
+            (plain-key-greater label _ _ fieldKind _ (field-kind h x (i .loop-test .taken)) (omega (arith, c .before .before .before .key-at .ensures, c .before .before .if1 .left, c .before .if2 .left)));
+        starts = starts-next h _ x (i .loop-test .taken);
+      },
+      x,
+    )
+
+returns-3 : tie.Need-returns-3 Inv-loop μ-loop
+returns-3 c label rest f q free h s = c .before .loop .inv label rest f q free h s .1
+
+pub seek-field-spec : {M : Type 1} → statement M
+seek-field-spec =
+    tie.close
+    (tie.spec
+    Inv-loop
+    μ-loop
+    field-start-requires
+    loop-holds
+    key-at-requires
+    returns
+    returns-2
+    span-at-requires
+    add-at
+    loop-less
+    loop-again
+    returns-3)

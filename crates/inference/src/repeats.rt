@@ -1,0 +1,35 @@
+// Equal values that directly follow each other in a run.
+use value_table::little_endian::number64;
+use value_table::record;
+ghost use Prim.Native.Nat.{_*_, _-_, _≤_, _<_};
+ghost use lib.ListN.{length};
+ghost use Rattle.value_table.specs.Value.{recordSize};
+ghost use Rattle.inference.specs.Inferring.{EqualRecords};
+
+// How many records from i on equal those from j on, one by one, up to record `end`.
+pub fn equal_records(t: &[u8], i: usize, j: usize, end: usize) -> usize
+    requires { ⌜ (i ≤ j) × (j ≤ end) × (recordSize * end ≤ length (now t)) ⌝ }
+    ensures { λ r. ⌜ EqualRecords (now (t .entry)) i j r ⌝ }
+{
+    let mut n = 0;
+    while j + n < end {
+        if number64(t, record::SIZE * (i + n)) != number64(t, record::SIZE * (j + n)) {
+            return n;
+        }
+        n += 1;
+    }
+    n
+}
+
+// How many values that equal the one at record i directly follow it. `next` is the record behind it.
+pub fn equal_values(t: &[u8], i: usize, next: usize) -> usize
+    requires { ⌜ (i < next) × (recordSize * next ≤ length (now t)) ⌝ }
+    ensures { λ r. ⌜ EqualRecords (now (t .entry)) i next ((next - i) * r) ⌝ }
+{
+    let span = next - i;
+    let n = equal_records(t, i, next, t.len() / record::SIZE);
+    if n < span {
+        return 0;
+    }
+    n / span
+}

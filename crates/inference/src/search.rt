@@ -1,0 +1,156 @@
+// The search for a label among siblings in an arena. The key list of the label stands in the working buffer.
+use type_arena::type_record;
+use type_arena::type_record::key_at;
+use type_arena::type_record::kind_at;
+use type_arena::type_record::span_at;
+use value_table::little_endian::number16;
+ghost use mathlib.Core.Path.{_≡_};
+ghost use mathlib.Core.Bool.{Bool, cond};
+ghost use mathlib.Core.List.{List};
+ghost use Prim.Native.Nat.{ℕ, _*_, _≤_, compare};
+ghost use lib.Dec.{ltb};
+ghost use lib.ListN.{length};
+ghost use Rattle.counting_theory.specs.Order.{compareList};
+ghost use Rattle.counting_theory.specs.Label.{compareLabel, CountingType};
+ghost use Rattle.type_arena.specs.Arena.{under, keysIn, labelAt, InTable, FieldsInside};
+ghost use Rattle.inference.specs.Inferring.{keysOf, comparedOf, Comparable, wanted, spot, Holds, Starts, resumed, Shown};
+
+// A label against that of a record.
+pub enum Compared {
+    Less,
+    Equal,
+    Greater,
+}
+
+// Where a label stands among siblings, or would.
+pub enum Found {
+    Here(usize),
+    Missing(usize),
+}
+
+// The first n keys of the working buffer against the key list of the record at p: the first key that differs settles it.
+fn compare_keys(b: &[u8], p: usize, work: &[u8], n: usize) -> Compared
+    requires { ⌜ FieldsInside (now b) p × (2 * n ≤ length (now work)) ⌝ }
+    ensures { λ r. ⌜ r ≡ comparedOf (compareList compare (keysOf n (now (work .entry))) (keysIn (now (b .entry)) p)) ⌝ }
+{
+    let end = p + span_at(b, p);
+    let mut i = 0;
+    let mut j = p + 1;
+    let order = loop {
+        if i == n {
+            if j == end {
+                break Compared::Equal;
+            }
+            break Compared::Less;
+        }
+        if j == end {
+            break Compared::Greater;
+        }
+        let k = number16(work, 2 * i);
+        let m = key_at(b, j);
+        if k < m {
+            break Compared::Less;
+        }
+        if m < k {
+            break Compared::Greater;
+        }
+        i += 1;
+        j += span_at(b, j);
+    };
+    order
+}
+
+// A label against that of the record at p: by kind, then by key, then by key list.
+fn compare_label(
+    b: &[u8],
+    p: usize,
+    kind: u8,
+    key: usize,
+    work: &[u8],
+    n: usize,
+    label: bool,
+) -> Compared
+    requires { ⌜ Comparable (now b) p (now work) n ⌝ }
+    ensures { λ r. ⌜ r ≡ comparedOf (compareLabel (wanted (under label) kind key n (now (work .entry))) (labelAt (under label) (now (b .entry)) p)) ⌝ }
+{
+    let other_kind = kind_at(b, p);
+    if kind < other_kind {
+        return Compared::Less;
+    }
+    if other_kind < kind {
+        return Compared::Greater;
+    }
+    let other_key = key_at(b, p);
+    if key < other_key {
+        return Compared::Less;
+    }
+    if other_key < key {
+        return Compared::Greater;
+    }
+    if !label {
+        return Compared::Equal;
+    }
+    if kind != type_record::RECORD {
+        return Compared::Equal;
+    }
+    compare_keys(b, p, work, n)
+}
+
+// Where a search may begin that follows one which ended at `from`.
+fn search_start(from: usize, n: usize) -> usize
+    ensures { λ r. ⌜ r ≡ cond (ltb from n) from 0 ⌝ }
+{
+    if from < n { from } else { 0 }
+}
+
+// Where the search for the next label may begin, after one was found at record p of n records of siblings: there, or behind it among
+// fields, since their keys differ, if a sibling is there.
+pub fn resume_at(b: &[u8], p: usize, n: usize, field: bool) -> usize
+    requires { ⌜ InTable (now b) p ⌝ }
+    ensures { λ r. ⌜ r ≡ resumed field (now (b .entry)) p n ⌝ }
+{
+    if !field {
+        return p;
+    }
+    let next = p + span_at(b, p);
+    if next < n { next } else { p }
+}
+
+// Where the label stands among n records of siblings, or would. The search begins where the last one ended, at `from`, and starts again
+// if the label comes before the sibling there.
+pub fn search(
+    b: &[u8],
+    from: usize,
+    n: usize,
+    kind: u8,
+    key: usize,
+    work: &[u8],
+    keys: usize,
+    label: bool,
+) -> Found
+    requires { ⌜ Shown (under label) (now b) n from × (2 * keys ≤ length (now work)) ⌝ }
+    ensures { λ r. ⌜ ((field : Bool) (rest : ℕ) (f : CountingType) (q free : List ℕ) → Holds (under label) field (now (b .entry)) n rest f q free → Starts from f →
+        r ≡ spot (wanted (under label) kind key keys (now (work .entry))) 0 f) ⌝ }
+{
+    let mut at = search_start(from, n);
+    let mut resumed = 0 < at;
+    while at < n {
+        match compare_label(b, at, kind, key, work, keys, label) {
+            Compared::Less => {
+                if !resumed {
+                    return Found::Missing(at);
+                }
+                resumed = false;
+                at = 0;
+            }
+            Compared::Equal => {
+                return Found::Here(at);
+            }
+            Compared::Greater => {
+                resumed = false;
+                at += span_at(b, at);
+            }
+        }
+    }
+    Found::Missing(at)
+}

@@ -1,0 +1,4 @@
+-- The laws behind the loops over type records and buffers; a folder for each function's proof.
+pub mod Chain
+pub mod Sets
+pub mod Clear

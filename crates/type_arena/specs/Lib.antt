@@ -1,0 +1,2 @@
+-- What the contracts on type records cite beside the theory.
+pub mod Arena
