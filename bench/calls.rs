@@ -19,16 +19,16 @@ mod validator;
 use pair::Workload;
 
 /// The calls that write a type, with tables of n records and types of half as many.
-fn writers(n: usize) -> Vec<Workload> {
-    let mut workloads = inferences::workloads(n);
+fn writers(n: usize, log: &[u8]) -> Vec<Workload> {
+    let mut workloads = inferences::workloads(n, log);
     workloads.extend(merges::workloads(n as u16 / 2));
     workloads
 }
 
-fn workloads(n: usize) -> Vec<Workload> {
+fn workloads(n: usize, log: &[u8]) -> Vec<Workload> {
     let mut workloads = judges::of_tables(n);
     workloads.extend(judges::of_types(n as u16 / 2));
-    workloads.extend(writers(n));
+    workloads.extend(writers(n, log));
     workloads
 }
 
@@ -39,10 +39,12 @@ fn compare(workloads: &[Workload], turns: usize) {
 }
 
 fn main() {
-    let largest = workloads(8192);
-    compare(&workloads(100), 20_000);
+    let path = std::env::args().nth(1).expect("the path of a log");
+    let log = std::fs::read(path).expect("a log to read");
+    let largest = workloads(8192, &log);
+    compare(&workloads(100, &log), 20_000);
     compare(&largest, 10);
     timing::report(&largest);
     println!();
-    growth::report(|kib| writers(128 * kib));
+    growth::report(|kib| writers(128 * kib, &log));
 }

@@ -4,7 +4,8 @@ use crate::pair::{accepted, refused, Buffers, Inputs, Pair, Workload, KIND, LABE
 use crate::plain_inference;
 use crate::sequence::shuffled;
 use crate::tables::{
-    fifty_shapes, matrices, messages, nested, one_field_shapes, varied, with_keys,
+    fifty_shapes, fifty_varied, first_messages, matrices, messages, nested, one_field_shapes,
+    varied, with_keys,
 };
 use ct::raw::{self, Answer};
 
@@ -63,13 +64,15 @@ fn workload(pair: &'static Pair, name: &str, equivalence: u64, first: &[u8]) -> 
 }
 
 /// Workloads with tables of n records or a few less, but of one message with thousands of fields a quarter as many: more than 2,047 fields
-/// fit no arena.
-pub fn workloads(n: usize) -> Vec<Workload> {
+/// fit no arena. The log is one on which nothing was tuned.
+pub fn workloads(n: usize, log: &[u8]) -> Vec<Workload> {
     let f = (n / 4 - 1) as u16;
     let tables = [
         ("messages", messages(n / 13)),
         ("varied", varied(n / 13)),
         ("fifty shapes", fifty_shapes(n / 11)),
+        ("fifty varied", fifty_varied(n / 11)),
+        ("log", first_messages(log, n)),
         ("nested", nested(n / 32)),
         ("matrices", matrices(n / 21)),
         ("fields ascending", with_keys(1..=f)),

@@ -1,6 +1,7 @@
 //! Tables for the workloads.
 
 use crate::sequence::{shuffled, Sequence};
+use crate::validator::header;
 
 const NULL: u8 = 1;
 const NUMBER: u8 = 3;
@@ -50,10 +51,14 @@ pub fn messages(n: usize) -> Vec<u8> {
     message(|key| 1 + (key % 4) as u8).repeat(n)
 }
 
+fn null_or_string(sequence: &mut Sequence) -> u8 {
+    [NULL, STRING][sequence.below(2)]
+}
+
 /// n messages of ten fields that are now a null, now a string.
 pub fn varied(n: usize) -> Vec<u8> {
     let mut sequence = Sequence::new();
-    let mut kind = |_| [NULL, STRING][sequence.below(2)];
+    let mut kind = |_| null_or_string(&mut sequence);
     (0..n).flat_map(|_| message(&mut kind)).collect()
 }
 
@@ -70,12 +75,12 @@ pub fn matrices(n: usize) -> Vec<u8> {
     message.repeat(n)
 }
 
-/// A message with a number at each key.
-pub fn with_keys(keys: impl IntoIterator<Item = u16>) -> Vec<u8> {
+/// A message with a scalar at each key; `kind` gives their kinds.
+fn with_scalars(keys: impl IntoIterator<Item = u16>, mut kind: impl FnMut() -> u8) -> Vec<u8> {
     let mut fields = Vec::new();
     let mut span = 1;
     for key in keys {
-        put(&mut fields, NUMBER, key, 1);
+        put(&mut fields, kind(), key, 1);
         span += 1;
     }
     let mut message = Vec::new();
@@ -83,14 +88,30 @@ pub fn with_keys(keys: impl IntoIterator<Item = u16>) -> Vec<u8> {
     [message, fields].concat()
 }
 
-/// n messages of ten fields with fifty different lists of keys, in a mixed order.
-pub fn fifty_shapes(n: usize) -> Vec<u8> {
+/// A message with a number at each key.
+pub fn with_keys(keys: impl IntoIterator<Item = u16>) -> Vec<u8> {
+    with_scalars(keys, || NUMBER)
+}
+
+/// n messages of ten fields with fifty different lists of keys, in a mixed order; `kind` gives the kinds of the fields.
+fn fifty(n: usize, mut kind: impl FnMut() -> u8) -> Vec<u8> {
     let shape = |i: usize| {
         let start = 7 * (i % 50) as u16;
         let keys = (0..8).map(move |j| 3 + (start + 5 * j) % 100);
-        with_keys((1..=2).chain(keys))
+        with_scalars((1..=2).chain(keys), &mut kind)
     };
     shuffled(0..n).into_iter().flat_map(shape).collect()
+}
+
+/// Such messages with numbers.
+pub fn fifty_shapes(n: usize) -> Vec<u8> {
+    fifty(n, || NUMBER)
+}
+
+/// Such messages whose fields are now a null, now a string.
+pub fn fifty_varied(n: usize) -> Vec<u8> {
+    let mut sequence = Sequence::new();
+    fifty(n, || null_or_string(&mut sequence))
 }
 
 /// n messages of one field with different keys, three times each, in a mixed order.
@@ -98,4 +119,17 @@ pub fn one_field_shapes(n: u16) -> Vec<u8> {
     let keys = (1..=n).chain(1..=n).chain(1..=n);
     let shapes = shuffled(keys).into_iter().map(|key| with_keys([key]));
     shapes.flatten().collect()
+}
+
+/// The first messages of a log, up to n records.
+pub fn first_messages(log: &[u8], n: usize) -> Vec<u8> {
+    let mut records = 0;
+    while 8 * records < log.len() {
+        let next = records + header(log, records).span;
+        if n < next {
+            break;
+        }
+        records = next;
+    }
+    log[..8 * records].to_vec()
 }

@@ -1,6 +1,7 @@
 """Writes the sample log: messages of scanners, scales and diverters as a value table, and the list of its keys.
 
 The stored files were made by: python3 sample/make.py sample
+A second argument gives another number of messages.
 """
 import struct
 import sys
@@ -81,12 +82,12 @@ def value(content, key=0):
     return struct.pack("<BBHI", kind, 0, key, 1 + len(inside) // 8) + inside
 
 
-def main(folder):
+def main(folder, messages=MESSAGES):
     numbers = Numbers(1)
     with open(f"{folder}/log.table", "wb") as table:
-        table.write(b"".join(value(message(i, numbers)) for i in range(MESSAGES)))
+        table.write(b"".join(value(message(i, numbers)) for i in range(int(messages))))
     with open(f"{folder}/keys.txt", "w", encoding="ascii") as keys:
         keys.writelines(f"{number} {name}\n" for number, name in enumerate(KEYS, 1))
 
 
-main(sys.argv[1])
+main(*sys.argv[1:])

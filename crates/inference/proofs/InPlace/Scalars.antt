@@ -24,11 +24,11 @@ use Rattle.inference.specs.ScalarFields.{Ran, plain, fieldStart, withSca
 use Rattle.counting_theory.proofs.Label.{kind-eq, key-eq}
 use Rattle.counting_theory.proofs.Tagged.Parts.{listed-field, Shape, tagged-parts}
 use Rattle.inference.proofs.InPlace.Append.{siblings-last}
-use Rattle.inference.proofs.InPlace.Compare.{kind-less, kind-greater, key-less, key-greater, label-unlisted, label-no-record}
+use Rattle.inference.proofs.InPlace.Compare.{kind-less, kind-greater, key-greater, label-unlisted, label-no-record}
 use Rattle.inference.proofs.InPlace.Items.{label-is}
 use Rattle.inference.proofs.InPlace.Nodes.{node-in, table-in}
 use Rattle.inference.proofs.InPlace.Placing.{holds-length, here-as-is}
-use Rattle.inference.proofs.InPlace.Seeking.{Seen, from-bytes, from-count, seen-start, seen-at, stop, compared-less, compared-equal, compared-greater}
+use Rattle.inference.proofs.InPlace.Seeking.{Seen, from-bytes, from-count, seen-start, seen-at, stop, not-both, compared-less, compared-equal, compared-greater}
 use Rattle.inference.proofs.InPlace.Splits.{HereAt, here-at}
 use Rattle.inference.proofs.InPlace.Steps.{step-within, step-span, step-empty, step-holds, step-kept}
 use Rattle.inference.proofs.InPlace.Turns.{ran-first, below, grown, turn-room, turn-added}
@@ -76,22 +76,12 @@ module _ (label : Bool) (b : List ℕ) (p kind key : ℕ) where
   pub plain-kind-greater : typeKind b p < kind → compared ≡ gt
   plain-kind-greater h = compared-greater _ (kind-greater b p kind key 0 [] label h)
 
-  module _ (ek : kind ≡ typeKind b p) where
-    pub plain-key-less : key < typeKey b p → compared ≡ lt
-    plain-key-less h = compared-less _ (key-less b p kind key 0 [] ek label h)
-
-    pub plain-key-greater : typeKey b p < key → compared ≡ gt
-    plain-key-greater h = compared-greater _ (key-greater b p kind key 0 [] ek label h)
+  pub plain-key-greater : kind ≡ typeKind b p → typeKey b p < key → compared ≡ gt
+  plain-key-greater ek h = compared-greater _ (key-greater b p kind key 0 [] ek label h)
 
 pub plain-equal : (label : Bool) (b : List ℕ) (p kind key : ℕ) → kind ≡ typeKind b p → key ≡ typeKey b p → (kind ≡ recordKind → ⊥) → compareLabel (plain (under label) kind key) (labelAt (under label) b p) ≡ eq
 plain-equal false b p kind key ek ey m = compared-equal _ (label-unlisted b p kind key 0 [] ek ey)
 plain-equal true b p kind key ek ey m = compared-equal _ (label-no-record b p kind key 0 [] ek ey m)
-
-not-less : (o : Ordering) → o ≡ eq → o ≡ lt → ⊥
-not-less o z y = let x : _≡_ {A = ℕ} 0 1 = cc in omega arith
-
-not-behind : (o : Ordering) → o ≡ gt → o ≡ lt → ⊥
-not-behind o z y = let x : _≡_ {A = ℕ} 0 1 = cc in omega arith
 
 -- where a search has come to, and what it has seen
 pub record Begun (e : Equivalence) (b : List ℕ) (n : ℕ) (l : Label) (f : CountingType) (at : ℕ) : Type 0 where
@@ -111,8 +101,8 @@ module _ (label : Bool) {b : List ℕ} {n rest : ℕ} {f : CountingType} {q free
     no-less u z = go (decLt (typeKey b from) key)
       where
         go : Dec (typeKey b from < key) → compareLabel wantedField (labelAt (under label) b from) ≡ lt → ⊥
-        go (yes v) = not-behind _ (plain-key-greater label b from fieldKind key (field-kind h s u) v)
-        go (no v) = not-less _ (plain-equal label b from fieldKind key (field-kind h s u) (omega arith) (λ y. omega arith))
+        go (yes v) y = not-both _ y .1 (plain-key-greater label b from fieldKind key (field-kind h s u) v)
+        go (no v) y = not-both _ y .0 (plain-equal label b from fieldKind key (field-kind h s u) (omega arith) (λ w. omega arith))
 
     pub begun-start : Begun (under label) b n wantedField f (fieldStart b from n key)
     begun-start = go (decLt from n) (decLt key (typeKey b from))

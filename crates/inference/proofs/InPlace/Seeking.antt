@@ -42,7 +42,7 @@ spot-skip l at (node k n c s) g b =
     let z : at + (1 + size c) + size s ≡ at + (1 + (size c + size s)) = omega arith in
     rw (b .0) (spot-skip l (at + (1 + size c)) s g (b .1) ∙ ap (λ i. spot l i g) z)
 
-not-both : (o : Ordering) → o ≡ lt → (o ≡ eq → ⊥) × (o ≡ gt → ⊥)
+pub not-both : (o : Ordering) → o ≡ lt → (o ≡ eq → ⊥) × (o ≡ gt → ⊥)
 not-both o z = (λ e. let y : _≡_ {A = ℕ} 0 1 = cc in omega arith, λ e. let y : _≡_ {A = ℕ} 0 1 = cc in omega arith)
 
 module _ {e : Equivalence} {field : Bool} {a : List ℕ} {n rest : ℕ} {f : CountingType} {q free : List ℕ} (h : Holds e field a n rest f q free) where
