@@ -20,6 +20,7 @@ ghost use Rattle.value_table.specs.Judged.{messages};
 ghost use Rattle.counting_theory.specs.Trie.{add};
 ghost use Rattle.counting_theory.specs.Label.{Counting, CountingType};
 ghost use Rattle.counting_theory.specs.Raw.{profileOf};
+ghost use Rattle.counting_theory.specs.Encoding.{typeSize};
 ghost use Rattle.type_arena.specs.Arena.{under};
 ghost use Rattle.inference.specs.Inferring.{AcceptedTable, Holds, HeldRun, Added};
 ghost use Rattle.inference.specs.Gathering.{slotsOf, slotRaw, SameMessage, Slot, Roomy, Gathering, GatheredTo};
@@ -164,13 +165,21 @@ fn settle(a: &mut [u8], m: usize, t: &[u8], slots: usize, label: bool, work: &mu
     Inferred::Records(n)
 }
 
-// Adds the messages of an accepted table to an empty arena. There are as many slots as the arena has records; without any the messages
-// are added one by one.
+// How many slots there are: as many as an arena of this length has records, but no more than the table has.
+fn slots_for(arena: usize, table: usize) -> usize
+    ensures { λ r. ⌜ typeSize * r ≤ arena ⌝ }
+{
+    let most = arena / type_record::SIZE;
+    let records = table / record::SIZE;
+    if records < most { records } else { most }
+}
+
+// Adds the messages of an accepted table to an empty arena. Without slots they are added one by one.
 pub fn add_messages(a: &mut [u8], t: &[u8], label: bool, work: &mut [u8]) -> Inferred
     requires { ⌜ AcceptedTable (now t) × (length (now a) ≤ maxLength) × (length (now a) ≤ length (now work)) ⌝ }
     ensures { λ r. ⌜ Added (profileOf (under label) (messages (now (t .entry)))) [] 0 r (now (a .exit)) ⌝ }
 {
-    let slots = a.len() / type_record::SIZE;
+    let slots = slots_for(a.len(), t.len());
     if slots == 0 {
         return add_run(a, 0, 0, 1, t, false, label, work);
     }
