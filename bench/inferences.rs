@@ -64,7 +64,7 @@ fn workload(pair: &'static Pair, name: &str, equivalence: u64, first: &[u8]) -> 
 }
 
 /// Workloads with tables of n records or a few less, but of one message with thousands of fields a quarter as many: more than 2,047 fields
-/// fit no arena. The log is one on which nothing was tuned.
+/// fit no arena.
 pub fn workloads(n: usize, log: &[u8]) -> Vec<Workload> {
     let f = (n / 4 - 1) as u16;
     let tables = [
