@@ -2,12 +2,13 @@
 use mathlib.Core.Path.{_≡_, refl, ap}
 use mathlib.Core.Bool.{Bool, true, false, cond}
 use Prim.Native.Nat.{ℕ, _+_, compare, Ordering, Ordering·lt as lt, Ordering·eq as eq, Ordering·gt as gt}
-use native.Mathlib.Nat.{add-comm, add-assoc}
 use native.Mathlib.Omega.{arith}
 use lib.Dec.{eqb}
+use Rattle.counting_theory.specs.Payload.{Payload, join}
 use Rattle.counting_theory.specs.Order.{IsOrder, then, comparePair, compareList, compareOn}
 use Rattle.counting_theory.specs.Trie.{TrieLaws}
 use Rattle.counting_theory.specs.Label.{Label, fieldKind, fieldLabel, parts, compareLabel, Counting}
+use Rattle.counting_theory.proofs.Payload.{join-comm, join-assoc, count-join}
 use Rattle.counting_theory.proofs.Order.{number-order, pair-order, list-order, order-on}
 
 parts-apart : (l m : Label) → parts l ≡ parts m → l ≡ m
@@ -34,15 +35,15 @@ compare-fields k j = go (compare k j)
     go eq = refl
     go gt = refl
 
-weight-add : (t : Bool) (a b : ℕ) → cond t 0 (a + b) ≡ cond t 0 a + cond t 0 b
+weight-add : (t : Bool) (a b : Payload) → cond t 0 (join a b .count) ≡ cond t 0 (a .count) + cond t 0 (b .count)
 weight-add true a b = omega arith
-weight-add false a b = refl
+weight-add false a b = count-join a b
 
 pub counting-laws : TrieLaws Counting
 counting-laws =
     record {
       order = label-order;
-      join-comm = add-comm;
-      join-assoc = add-assoc;
+      join-comm = join-comm;
+      join-assoc = join-assoc;
       weight-join = λ l a b. weight-add (eqb (l .kind) fieldKind) a b;
     }

@@ -2,11 +2,13 @@
 pub mod Order
 pub mod Trie
 pub mod KeyList
+pub mod Payload
 pub mod Label
 pub mod Tagged
 pub mod Encoding
 pub mod Published
 pub mod Values
+pub mod Times
 pub mod WellFormed
 pub mod Ways
 pub mod Trials

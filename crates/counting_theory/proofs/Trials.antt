@@ -2,8 +2,10 @@
 use mathlib.Core.Path.{refl}
 use mathlib.Core.List.{flatMap}
 use Rattle.value_table.specs.Number.{bytesOf, numberOf, numberAt}
+use Rattle.value_table.specs.Format.{fieldAt, fieldsFrom, recordBytes}
 use Rattle.value_table.specs.Value as table
 use Rattle.value_table.specs.Judged as judging
+use Rattle.counting_theory.specs.Payload.{numbers, ofNumbers, one, oneField, join, proper}
 use Rattle.counting_theory.specs.Order.{then, comparePair, compareList, compareOn}
 use Rattle.counting_theory.specs.Trie as trie
 use Rattle.counting_theory.specs.Label.{listed}
@@ -14,14 +16,14 @@ use Rattle.counting_theory.specs.Answers.{inferred, merged}
 use Rattle.counting_theory.specs.Trials.{tableBytes, typeBytes, trials, TrialsHold, _&_, done}
 
 pub trials-hold : TrialsHold
-unfolding tableBytes typeBytes trials inferred merged flatMap bytesOf numberOf numberAt
+unfolding tableBytes typeBytes trials inferred merged flatMap bytesOf numberOf numberAt fieldAt fieldsFrom recordBytes
     table.header table.kindAt table.zeroAt table.keyAt table.spanAt table.keys table.member
     judging.badLength judging.badKind judging.badSpan judging.badKey judging.repeated judging.tooDeep judging.fault judging.faultIn
     judging.close judging.enter judging.walk judging.judged judging.decode judging.messages
-    listed insertKey ascending raw profileOf then comparePair compareList compareOn
+    numbers ofNumbers one oneField join proper listed insertKey ascending raw profileOf then comparePair compareList compareOn
     trie.size trie.insertStep trie.insert trie.add trie.reduceNode trie.reduce trie.total trie.largestBelow trie.largestTotal
-    types.typeKind types.typeZero types.typeKey types.typeSpan types.typeCount types.header types.encode types.decode types.typeOf
-    rules.typeRecord rules.laidOut rules.counted rules.withinLimit rules.ascends rules.fieldTotals rules.fieldCounts rules.wellFormed rules.badTypeLength
+    types.typeKind types.typeZero types.typeKey types.typeSpan types.typePayload types.header types.encode types.decode types.typeOf
+    rules.typeRecord rules.laidOut rules.counted rules.withinLimit rules.ascends rules.fieldTotals rules.fieldCounts rules.measured rules.wellFormed rules.badTypeLength
 trials-hold =
     ((refl & refl & done) & (refl & refl & done) & done)
     & ((refl & done) & done)

@@ -1,6 +1,7 @@
 -- Well-formed types: what profiles and merges keep, and which bytes are one.
 pub mod Tests
 pub mod Nodes
+pub mod Limit
 pub mod Fields
 pub mod Reduce
 pub mod Profile

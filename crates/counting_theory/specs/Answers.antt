@@ -8,11 +8,11 @@ use lib.Dec.{eqb, ltb}
 use lib.ListN.{length, replicate}
 use Rattle.value_table.specs.Outcome.{Outcome, accepted, refused}
 use Rattle.value_table.specs.Judged.{badLength, judged, messages}
-use Rattle.counting_theory.specs.Trie.{size, reduce, largestTotal}
+use Rattle.counting_theory.specs.Trie.{size, reduce}
 use Rattle.counting_theory.specs.Label.{Equivalence, byKind, byLabel, Counting, CountingType}
 use Rattle.counting_theory.specs.Raw.{profileOf}
 use Rattle.counting_theory.specs.Encoding.{typeSize, typeRecords, encode, typeOf}
-use Rattle.counting_theory.specs.WellFormed.{maxTotal, wellFormed, badTypeLength}
+use Rattle.counting_theory.specs.WellFormed.{withinLimit, wellFormed, badTypeLength}
 
 -- equivalence 0 is kind, 1 is label, and there is no other
 abbrev pub equivalenceOf : ℕ → Option Equivalence
@@ -81,7 +81,7 @@ inferredDefault table arena work = inferred table (numberOf houseDefault) arena 
 
 -- Call 5: 1, 2, 8, 9, 10, 11.
 abbrev pub mergedTypes : CountingType → ℕ → Written
-mergedTypes f n = cond (ltb maxTotal (largestTotal Counting f)) (turnedDown 10 0) (stored n f)
+mergedTypes f n = cond (withinLimit f) (stored n f) (turnedDown 10 0)
 
 abbrev pub mergedUnder : Option Equivalence → List ℕ → List ℕ → ℕ → Written
 mergedUnder none first second n = turnedDown 2 0

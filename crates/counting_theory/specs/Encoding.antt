@@ -2,48 +2,59 @@
 use mathlib.Core.Path.{_≡_}
 use mathlib.Core.Bool.{Bool, true, false}
 use mathlib.Core.List.{List, [], _∷_, _++_}
-use Prim.Native.Nat.{ℕ, zero, suc, _+_, _*_, _/_, _^_, _≤_, _<_}
+use Prim.Native.Nat.{ℕ, zero, suc, _+_, _/_, _≤_}
 use lib.Dec.{eqb, ltb}
-use lib.ListN.{length, getD}
-use Rattle.value_table.specs.Number.{bytesOf, numberAt}
+use lib.ListN.{length, drop}
+use Rattle.value_table.specs.Format.{Format, widthOf, fieldAt, fieldsAt, recordBytes, Fits}
 use Rattle.value_table.specs.Value.{recordKind, arrayKind, lastScalar}
+use Rattle.counting_theory.specs.Payload.{Payload, payloadFormat, numbers, ofNumbers}
 use Rattle.counting_theory.specs.Trie.{nil, node, size}
 use Rattle.counting_theory.specs.Label.{Equivalence, Label, labelOf, fieldLabel, CountingType}
 
+-- the fields of a type record: kind, zero, key and span, then the payload's
+abbrev pub typeFormat : Format
+typeFormat = 1 ∷ 1 ∷ 2 ∷ 4 ∷ payloadFormat
+
 -- bytes of a type record
 abbrev pub typeSize : ℕ
-typeSize = 16
+typeSize = widthOf typeFormat
 
 -- how many type records b has, and the fields of record i
 abbrev pub typeRecords : List ℕ → ℕ
 typeRecords b = length b / typeSize
 
 unfoldable pub typeKind : List ℕ → ℕ → ℕ
-typeKind b i = getD b (typeSize * i) 0
+typeKind = fieldAt typeFormat 0
 
 unfoldable pub typeZero : List ℕ → ℕ → ℕ
-typeZero b i = getD b (typeSize * i + 1) 0
+typeZero = fieldAt typeFormat 1
 
 unfoldable pub typeKey : List ℕ → ℕ → ℕ
-typeKey b i = numberAt 2 b (typeSize * i + 2)
+typeKey = fieldAt typeFormat 2
 
 unfoldable pub typeSpan : List ℕ → ℕ → ℕ
-typeSpan b i = numberAt 4 b (typeSize * i + 4)
+typeSpan = fieldAt typeFormat 3
 
 unfoldable pub typeCount : List ℕ → ℕ → ℕ
-typeCount b i = numberAt 8 b (typeSize * i + 8)
+typeCount = fieldAt typeFormat 4
+
+unfoldable pub typePayload : List ℕ → ℕ → Payload
+typePayload b i = ofNumbers (drop 4 (fieldsAt typeFormat b i))
 
 -- the key list of a label is not written: the children have it
-unfoldable pub header : Label → ℕ → ℕ → List ℕ
-header l span count = l .kind ∷ 0 ∷ (bytesOf 2 (l .key) ++ (bytesOf 4 span ++ bytesOf 8 count))
+abbrev pub recordNumbers : Label → ℕ → Payload → List ℕ
+recordNumbers l span a = l .kind ∷ 0 ∷ l .key ∷ span ∷ numbers a
+
+unfoldable pub header : Label → ℕ → Payload → List ℕ
+header l span a = recordBytes typeFormat (recordNumbers l span a)
 
 unfoldable pub encode : CountingType → List ℕ
 encode nil = []
-encode (node l count children next) = header l (1 + size children) count ++ (encode children ++ encode next)
+encode (node l a children next) = header l (1 + size children) a ++ (encode children ++ encode next)
 
 unfoldable pub siblingKeys : CountingType → List ℕ
 siblingKeys nil = []
-siblingKeys (node l count children next) = l .key ∷ siblingKeys next
+siblingKeys (node l a children next) = l .key ∷ siblingKeys next
 
 -- the type in records i to end, read by the spans; k bounds the number of records
 unfoldable pub decode : Equivalence → List ℕ → ℕ → ℕ → ℕ → CountingType
@@ -51,7 +62,7 @@ decode eq b zero i end = nil
 decode eq b (suc k) i end =
     elim (ltb i end) [
       | true ↦ let children = decode eq b k (i + 1) (i + typeSpan b i) in
-          node (labelOf eq (typeKind b i) (typeKey b i) (siblingKeys children)) (typeCount b i) children (decode eq b k (i + typeSpan b i) end)
+          node (labelOf eq (typeKind b i) (typeKey b i) (siblingKeys children)) (typePayload b i) children (decode eq b k (i + typeSpan b i) end)
       | false ↦ nil
     ]
 
@@ -68,10 +79,10 @@ pub record AddendShape (eq : Equivalence) (l : Label) (children : CountingType) 
 -- f is a union of addends, or (field ≡ true) the run of a record's fields, each with the union of its values
 abbrev pub Tagged : Equivalence → Bool → CountingType → Type 0
 Tagged eq field nil = Unit {0}
-Tagged eq true (node l count children next) = (l ≡ fieldLabel (l .key)) × Tagged eq false children × Tagged eq true next
-Tagged eq false (node l count children next) = AddendShape eq l children × Tagged eq (eqb (l .kind) recordKind) children × Tagged eq false next
+Tagged eq true (node l a children next) = (l ≡ fieldLabel (l .key)) × Tagged eq false children × Tagged eq true next
+Tagged eq false (node l a children next) = AddendShape eq l children × Tagged eq (eqb (l .kind) recordKind) children × Tagged eq false next
 
 -- each number fits its bytes
 unfoldable pub Fitting : CountingType → Type 0
 Fitting nil = Unit {0}
-Fitting (node l count children next) = (l .key < 65536) × (1 + size children < 2 ^ 32) × (count < 2 ^ 64) × Fitting children × Fitting next
+Fitting (node l a children next) = Fits typeFormat (recordNumbers l (1 + size children) a) × Fitting children × Fitting next

@@ -1,10 +1,11 @@
 -- 'Classes and places' of document 01: labels, their order, and the counting trie over them.
 use mathlib.Core.Bool.{cond}
 use mathlib.Core.List.{List, []}
-use Prim.Native.Nat.{ℕ, _+_, compare, Ordering}
+use Prim.Native.Nat.{ℕ, compare, Ordering}
 use lib.Dec.{eqb}
 use Rattle.value_table.specs.Value.{recordKind}
 use Rattle.counting_theory.specs.Order.{comparePair, compareList, compareOn}
+use Rattle.counting_theory.specs.Payload.{Payload, join}
 use Rattle.counting_theory.specs.Trie.{TrieOps, Trie}
 
 -- document 01's equivalence 0 and equivalence 1
@@ -38,12 +39,12 @@ parts l = (l .kind, (l .key, l .keys))
 abbrev pub compareLabel : Label → Label → Ordering
 compareLabel = compareOn (comparePair compare (comparePair compare (compareList compare))) parts
 
--- counts add; the counts of a union total, those of a record's fields don't
-abbrev pub weightOf : Label → ℕ → ℕ
-weightOf l count = cond (eqb (l .kind) fieldKind) 0 count
+-- the counts of a union total, those of a record's fields don't
+abbrev pub weightOf : Label → Payload → ℕ
+weightOf l a = cond (eqb (l .kind) fieldKind) 0 (a .count)
 
 abbrev pub Counting : TrieOps
-Counting = record { Label = Label; Payload = ℕ; compare = compareLabel; join = _+_; weight = weightOf }
+Counting = record { Label = Label; Payload = Payload; compare = compareLabel; join = join; weight = weightOf }
 
 abbrev pub CountingType : Type 0
 CountingType = Trie Counting

@@ -1,8 +1,10 @@
 -- The statements about counting types: generic tries, then labels, values and bytes over them.
 pub mod Order
 pub mod Trie
+pub mod Payload
 pub mod Label
 pub mod Raw
+pub mod Times
 pub mod Place
 pub mod Encoding
 pub mod Published

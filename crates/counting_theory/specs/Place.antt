@@ -4,37 +4,38 @@ use mathlib.Core.List.{List, [], _∷_, flatMap}
 use mathlib.Core.Logic.{_↔_}
 use mathlib.Core.Option.{Option, none as absent, some}
 use mathlib.Core.Path.{_≡_}
-use Prim.Native.Nat.{ℕ, zero, suc}
+use Prim.Native.Nat.{ℕ}
 use lib.Dec.{eqb, isEq}
 use lib.ListN.{length}
-use Rattle.value_table.specs.Value.{Values, none, value, keys, member, Distinct, Valid, recordKind, arrayKind}
-use Rattle.counting_theory.specs.Trie.{nil, node, lookup, total}
+use Rattle.value_table.specs.Value.{Head, Values, none, value, keys, member, Distinct, Valid, recordKind, arrayKind}
+use Rattle.counting_theory.specs.Payload.{Payload, one, oneField}
+use Rattle.counting_theory.specs.Trie.{nil, node, _⊞_ as joinOption, lookup, total}
 use Rattle.counting_theory.specs.Label.{Equivalence, byLabel, Label, fieldKind, fieldLabel, compareLabel, Counting, CountingType}
 use Rattle.counting_theory.specs.Raw.{classOf, profileOf}
 
 -- a value without its key; a list of these stands for a multiset of document 000
 pub record Value : Type 0 where
-  pub kind : ℕ
+  pub head : Head
   pub content : Values
 
 unfoldable pub valuesOf : Values → List Value
 valuesOf none = []
-valuesOf (value kind key content next) = record { kind = kind; content = content } ∷ valuesOf next
+valuesOf (value head key content next) = record { head = head; content = content } ∷ valuesOf next
 
 unfoldable pub valuesWith : ℕ → Values → List Value
 valuesWith k none = []
-valuesWith k (value kind key content next) = cond (eqb k key) (record { kind = kind; content = content } ∷ valuesWith k next) (valuesWith k next)
+valuesWith k (value head key content next) = cond (eqb k key) (record { head = head; content = content } ∷ valuesWith k next) (valuesWith k next)
 
 -- M/[*]: the elements of the arrays of M
 abbrev pub elementsOf : Value → List Value
-elementsOf v = cond (eqb (v .kind) arrayKind) (valuesOf (v .content)) []
+elementsOf v = cond (eqb (v .head .kind) arrayKind) (valuesOf (v .content)) []
 
 unfoldable pub elements : List Value → List Value
 elements M = flatMap elementsOf M
 
 -- M/k: the values that the records of M have under key k
 abbrev pub fieldOf : ℕ → Value → List Value
-fieldOf k v = cond (eqb (v .kind) recordKind) (valuesWith k (v .content)) []
+fieldOf k v = cond (eqb (v .head .kind) recordKind) (valuesWith k (v .content)) []
 
 unfoldable pub under : ℕ → List Value → List Value
 under k M = flatMap (fieldOf k) M
@@ -48,11 +49,11 @@ sameLabel l m = isEq (compareLabel l m)
 
 -- the values of M that have this class
 unfoldable pub ofClass : Equivalence → Label → List Value → List Value
-ofClass eq class M = select (λ v. sameLabel class (classOf eq (v .kind) (v .content))) M
+ofClass eq class M = select (λ v. sameLabel class (classOf eq (v .head .kind) (v .content))) M
 
 -- the records of M that have key k
 unfoldable pub having : ℕ → List Value → List Value
-having k M = select (λ v. eqb (v .kind) recordKind && member k (keys (v .content))) M
+having k M = select (λ v. eqb (v .head .kind) recordKind && member k (keys (v .content))) M
 
 -- Where a path has led: to the values of a class, or to the field k of the records M.
 pub data Reached : Type 0 where
@@ -66,33 +67,48 @@ unfoldable pub follow : Equivalence → Reached → Label → Reached
 follow eq (values M) l = cond (sameLabel l (fieldLabel (l .key))) (field (l .key) M) (values (ofClass eq l (elements M)))
 follow eq (field k M) l = values (ofClass eq l (under k M))
 
+-- what some values give together, each as `give` says; none where there is no value
+infixr 66 _⊞_
+abbrev pub _⊞_ : Option Payload → Option Payload → Option Payload
+x ⊞ y = joinOption Counting x y
+
+unfoldable pub gathered : (Value → Payload) → List Value → Option Payload
+gathered give [] = absent
+gathered give (v ∷ M) = some (give v) ⊞ gathered give M
+
+abbrev pub valuePayload : Value → Payload
+valuePayload v = one (v .head) (v .content)
+
 -- the values there, or the records there that have the field
-unfoldable pub countReached : Reached → ℕ
-countReached (values M) = length M
-countReached (field k M) = length (having k M)
+unfoldable pub payloadReached : Reached → Option Payload
+payloadReached (values M) = gathered valuePayload M
+payloadReached (field k M) = gathered (λ v. oneField) (having k M)
 
-unfoldable pub countFrom : Equivalence → Reached → List Label → ℕ
-countFrom eq r [] = countReached r
-countFrom eq r (l ∷ q) = countFrom eq (follow eq r l) q
+unfoldable pub payloadFrom : Equivalence → Reached → List Label → Option Payload
+payloadFrom eq r [] = payloadReached r
+payloadFrom eq r (l ∷ q) = payloadFrom eq (follow eq r l) q
 
-unfoldable pub valuesAt : Equivalence → List Value → List Label → ℕ
-valuesAt eq M [] = 0
-valuesAt eq M (l ∷ q) = countFrom eq (values (ofClass eq l M)) q
+unfoldable pub payloadAt : Equivalence → List Value → List Label → Option Payload
+payloadAt eq M [] = absent
+payloadAt eq M (l ∷ q) = payloadFrom eq (values (ofClass eq l M)) q
 
--- a count as a trie holds it: a place without values is absent
-abbrev pub present : ℕ → Option ℕ
-present zero = absent
-present (suc n) = some (suc n)
-
--- the profile has a place exactly if some value of the messages has it, with the number of those values
+-- the profile has a place exactly if some value of the messages has it, with what these values give together
 abbrev pub Counts : Type 0
 Counts = (eq : Equivalence) (messages : Values) → Valid messages → (place : List Label) →
-    lookup Counting (profileOf eq messages) place ≡ present (valuesAt eq (valuesOf messages) place)
+    lookup Counting (profileOf eq messages) place ≡ payloadAt eq (valuesOf messages) place
+
+-- a payload's count is the number of the values that it is gathered from
+abbrev pub countOf : Option Payload → ℕ
+countOf absent = 0
+countOf (some a) = a .count
+
+abbrev pub NumberGathered : Type 0
+NumberGathered = ((M : List Value) → countOf (gathered valuePayload M) ≡ length M) × ((M : List Value) → countOf (gathered (λ v. oneField) M) ≡ length M)
 
 -- a field's count is the total of its union
 abbrev pub FieldTotals : CountingType → Type 0
 FieldTotals nil = Unit {0}
-FieldTotals (node l count c s) = (l .kind ≡ fieldKind → count ≡ total Counting c) × FieldTotals c × FieldTotals s
+FieldTotals (node l a c s) = (l .kind ≡ fieldKind → a .count ≡ total Counting c) × FieldTotals c × FieldTotals s
 
 -- under label, two records have one class exactly if they have the same keys
 abbrev pub LabelsApart : Type 0

@@ -1,23 +1,24 @@
 -- 'Trials at the edges' of document 01: the ten trials marked with a star as one table, and one claim over the table.
 use mathlib.Core.Path.{_≡_}
 use mathlib.Core.List.{List, [], _∷_, flatMap}
-use Prim.Native.Nat.{ℕ, _*_}
+use Prim.Native.Nat.{ℕ, _*_, _/_}
 use Rattle.value_table.specs.Value as table
+use Rattle.counting_theory.specs.Payload.{ofNumbers}
 use Rattle.counting_theory.specs.Encoding.{typeSize, header}
 use Rattle.counting_theory.specs.Answers.{Written, inferred, merged}
 
--- a value record by kind, key and span; a type record by kind, key, span and count
+-- a value record by kind, key and span; a type record by kind, key, span and the numbers of its payload (zero where none is given)
 abbrev pub ValueRecord : Type 0
 ValueRecord = ℕ × ℕ × ℕ
 
 abbrev pub TypeRecord : Type 0
-TypeRecord = ℕ × ℕ × ℕ × ℕ
+TypeRecord = ℕ × ℕ × ℕ × List ℕ
 
 unfoldable pub tableBytes : List ValueRecord → List ℕ
-tableBytes records = flatMap (λ r. table.header (r .0) (r .1) (r .2)) records
+tableBytes records = flatMap (λ r. table.header (record { kind = r .0 }) (r .1) (r .2)) records
 
 unfoldable pub typeBytes : List TypeRecord → List ℕ
-typeBytes records = flatMap (λ r. header (record { kind = r .0; key = r .1; keys = [] }) (r .2) (r .3)) records
+typeBytes records = flatMap (λ r. header (record { kind = r .0; key = r .1; keys = [] }) (r .2) (ofNumbers (r .3))) records
 
 -- call 2 on a table, or call 5 on a first and a second type
 pub data Tried : Type 0 where
@@ -40,7 +41,7 @@ abbrev pub underBoth : List ℕ
 underBoth = 0 ∷ 1 ∷ []
 
 abbrev pub largest : List ℕ
-largest = table.maxLength ∷ []
+largest = typeSize * (table.maxLength / typeSize) ∷ []
 
 abbrev pub roomFor : ℕ → List ℕ
 roomFor records = typeSize * records ∷ []
@@ -51,16 +52,16 @@ abbrev pub nine : List ValueRecord
 nine = (5, 0, 5) ∷ (3, 1, 1) ∷ (6, 2, 3) ∷ (3, 0, 1) ∷ (3, 0, 1) ∷ (5, 0, 2) ∷ (1, 1, 1) ∷ (5, 0, 2) ∷ (6, 2, 1) ∷ []
 
 abbrev pub nineByKind : List TypeRecord
-nineByKind = (5, 0, 7, 3) ∷ (7, 1, 3, 2) ∷ (1, 0, 1, 1) ∷ (3, 0, 1, 1) ∷ (7, 2, 3, 2) ∷ (6, 0, 2, 2) ∷ (3, 0, 1, 2) ∷ []
+nineByKind = (5, 0, 7, 3 ∷ []) ∷ (7, 1, 3, 2 ∷ []) ∷ (1, 0, 1, 1 ∷ []) ∷ (3, 0, 1, 1 ∷ []) ∷ (7, 2, 3, 2 ∷ []) ∷ (6, 0, 2, 2 ∷ []) ∷ (3, 0, 1, 2 ∷ []) ∷ []
 
 abbrev pub nineByLabel : List TypeRecord
 nineByLabel =
-    (5, 0, 3, 1) ∷ (7, 1, 2, 1) ∷ (1, 0, 1, 1)
-    ∷ (5, 0, 6, 1) ∷ (7, 1, 2, 1) ∷ (3, 0, 1, 1) ∷ (7, 2, 3, 1) ∷ (6, 0, 2, 1) ∷ (3, 0, 1, 2)
-    ∷ (5, 0, 3, 1) ∷ (7, 2, 2, 1) ∷ (6, 0, 1, 1) ∷ []
+    (5, 0, 3, 1 ∷ []) ∷ (7, 1, 2, 1 ∷ []) ∷ (1, 0, 1, 1 ∷ [])
+    ∷ (5, 0, 6, 1 ∷ []) ∷ (7, 1, 2, 1 ∷ []) ∷ (3, 0, 1, 1 ∷ []) ∷ (7, 2, 3, 1 ∷ []) ∷ (6, 0, 2, 1 ∷ []) ∷ (3, 0, 1, 2 ∷ [])
+    ∷ (5, 0, 3, 1 ∷ []) ∷ (7, 2, 2, 1 ∷ []) ∷ (6, 0, 1, 1 ∷ []) ∷ []
 
 abbrev pub oneNull : List TypeRecord
-oneNull = (1, 0, 1, 1) ∷ []
+oneNull = (1, 0, 1, 1 ∷ []) ∷ []
 
 unfoldable pub trials : List Trial
 trials =

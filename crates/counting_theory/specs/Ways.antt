@@ -12,12 +12,12 @@ use Rattle.value_table.specs.Outcome.{accepted, refused}
 use Rattle.value_table.specs.Value.{Values, value}
 use Rattle.value_table.specs.Value as table
 use Rattle.value_table.specs.Judged.{judged, messages}
-use Rattle.counting_theory.specs.Trie.{size, lookup, largestTotal}
+use Rattle.counting_theory.specs.Trie.{size, lookup}
 use Rattle.counting_theory.specs.Label.{Equivalence, Label, Counting, CountingType}
 use Rattle.counting_theory.specs.Raw.{profileOf}
-use Rattle.counting_theory.specs.Place.{valuesOf, valuesAt, present}
+use Rattle.counting_theory.specs.Place.{valuesOf, payloadAt}
 use Rattle.counting_theory.specs.Encoding.{typeSize, encode}
-use Rattle.counting_theory.specs.WellFormed.{maxTotal, badTypeLength}
+use Rattle.counting_theory.specs.WellFormed.{withinLimit, badTypeLength}
 use Rattle.counting_theory.specs.Answers.{numberOf, houseDefault, Written, Left, leaves, zeros, inferred, inferredDefault, merged}
 
 -- One call of a plan, with the buffers lent to it as they are beforehand: call 2, call 3, or call 5 on the i-th type at hand, as the
@@ -85,7 +85,7 @@ pub record Way (e : Equivalence) (n : ℕ) (plan : List Call) : Type 0 where
 -- the messages of all its tables, reached or not: as values, and each by the bytes of all its records
 unfoldable pub joinValues : Values → Values → Values
 joinValues table.none ys = ys
-joinValues (value kind key content next) ys = value kind key content (joinValues next ys)
+joinValues (value head key content next) ys = value head key content (joinValues next ys)
 
 unfoldable pub planMessages : List Call → Values
 planMessages [] = table.none
@@ -95,7 +95,7 @@ planMessages (merge i j arena ∷ calls) = planMessages calls
 
 unfoldable pub messageBytes : Values → List (List ℕ)
 messageBytes table.none = []
-messageBytes (value kind key content next) = table.encode (value kind key content table.none) ∷ messageBytes next
+messageBytes (value head key content next) = table.encode (value head key content table.none) ∷ messageBytes next
 
 unfoldable pub sameBytes : List ℕ → List ℕ → Bool
 sameBytes [] [] = true
@@ -114,7 +114,7 @@ SameMessages plan other =
 
 -- the profile t of all the messages keeps the limit of 10, and an arena of n bytes has room for it
 abbrev pub WithinLimits : ℕ → CountingType → Type 0
-WithinLimits n t = (largestTotal Counting t ≤ maxTotal) × (typeSize * size t ≤ n)
+WithinLimits n t = (withinLimit t ≡ true) × (typeSize * size t ≤ n)
 
 -- an unrefused way's last call: 0, place 0 and the number of records; the arena holds the profile, then zeros
 abbrev pub Final : ℕ → CountingType → Left → Type 0
@@ -123,7 +123,7 @@ Final n t l = (l .outcome ≡ accepted (size t)) × (l .arena ≡ encode t ++ ze
 -- a refused call: 10 only where the profile passes the limit, 11 only where it has too many records; the arena is zero
 abbrev pub Refusal : ℕ → CountingType → Left → Type 0
 Refusal n t l =
-    (((l .outcome ≡ refused 10 0) × (maxTotal < largestTotal Counting t)) ⊎ ((l .outcome ≡ refused 11 0) × (n < typeSize * size t)))
+    (((l .outcome ≡ refused 10 0) × (withinLimit t ≡ false)) ⊎ ((l .outcome ≡ refused 11 0) × (n < typeSize * size t)))
     × (l .arena ≡ zeros n)
 
 -- every call but the last is accepted, and so is the last, or else it is refused, as the profile of all the messages says
@@ -150,7 +150,7 @@ pub record Repeatable (e : Equivalence) (n : ℕ) (plan : List Call) : Type 0 wh
   pub work-zero : WorkZero (run e plan [])
   pub alike : (other : List Call) → Way e n other → SameMessages plan other → LastAlike (run e plan []) (run e other [])
   pub counts : (place : List Label) →
-      lookup Counting (profileOf e (planMessages plan)) place ≡ present (valuesAt e (valuesOf (planMessages plan)) place)
+      lookup Counting (profileOf e (planMessages plan)) place ≡ payloadAt e (valuesOf (planMessages plan)) place
 
 -- the one claim, over every way
 abbrev pub EveryWay : Type 0

@@ -8,6 +8,7 @@ use lib.Dec.{eqb, leb, ltb}
 use lib.ListN.{length}
 use Rattle.value_table.specs.Number.{Bytes}
 use Rattle.value_table.specs.Value.{maxLength, maxDepth, recordKind, arrayKind, lastScalar}
+use Rattle.counting_theory.specs.Payload.{proper}
 use Rattle.counting_theory.specs.Trie.{nil, node, size, reduce, Sorted, total, largestTotal}
 use Rattle.counting_theory.specs.Label.{Equivalence, byKind, byLabel, Label, fieldKind, compareLabel, Counting, CountingType}
 use Rattle.counting_theory.specs.Place.{FieldTotals}
@@ -55,7 +56,7 @@ laidOut b (suc k) i end field depth =
 -- each count is at least 1
 unfoldable pub counted : CountingType → Bool
 counted nil = true
-counted (node l count c s) = leb 1 count && counted c && counted s
+counted (node l a c s) = leb 1 (a .count) && counted c && counted s
 
 -- the counts of any union total at most 10^15
 unfoldable pub withinLimit : CountingType → Bool
@@ -70,16 +71,16 @@ isLt gt = false
 
 abbrev pub precedes : Label → CountingType → Bool
 precedes l nil = true
-precedes l (node m count c s) = isLt (compareLabel l m)
+precedes l (node m a c s) = isLt (compareLabel l m)
 
 unfoldable pub ascends : CountingType → Bool
 ascends nil = true
-ascends (node l count c s) = precedes l s && ascends c && ascends s
+ascends (node l a c s) = precedes l s && ascends c && ascends s
 
 -- a field's count is the total of its union
 unfoldable pub fieldTotals : CountingType → Bool
 fieldTotals nil = true
-fieldTotals (node l count c s) = (not (eqb (l .kind) fieldKind) || eqb count (total Counting c)) && fieldTotals c && fieldTotals s
+fieldTotals (node l a c s) = (not (eqb (l .kind) fieldKind) || eqb (a .count) (total Counting c)) && fieldTotals c && fieldTotals s
 
 -- under kind a field's count is at most its record's, under label equal to it
 abbrev pub fieldCount : Equivalence → ℕ → ℕ → Bool
@@ -88,14 +89,19 @@ fieldCount byLabel count ofRecord = eqb count ofRecord
 
 unfoldable pub fieldsOf : Equivalence → ℕ → CountingType → Bool
 fieldsOf e ofRecord nil = true
-fieldsOf e ofRecord (node l count c s) = fieldCount e count ofRecord && fieldsOf e ofRecord s
+fieldsOf e ofRecord (node l a c s) = fieldCount e (a .count) ofRecord && fieldsOf e ofRecord s
 
 unfoldable pub fieldCounts : Equivalence → CountingType → Bool
 fieldCounts e nil = true
-fieldCounts e (node l count c s) = (not (eqb (l .kind) recordKind) || fieldsOf e count c) && fieldCounts e c && fieldCounts e s
+fieldCounts e (node l a c s) = (not (eqb (l .kind) recordKind) || fieldsOf e (a .count) c) && fieldCounts e c && fieldCounts e s
+
+-- what each payload asks
+unfoldable pub measured : CountingType → Bool
+measured nil = true
+measured (node l a c s) = proper (l .kind) a (total Counting c) && measured c && measured s
 
 abbrev pub obeys : Equivalence → CountingType → Bool
-obeys e f = counted f && withinLimit f && ascends f && fieldTotals f && fieldCounts e f
+obeys e f = counted f && withinLimit f && ascends f && fieldTotals f && fieldCounts e f && measured f
 
 unfoldable pub wellFormed : Equivalence → List ℕ → Bool
 wellFormed e b = laidOut b (typeRecords b) 0 (typeRecords b) false 1 && obeys e (typeOf e b)
@@ -107,8 +113,8 @@ badTypeLength n = not (eqb (n % typeSize) 0) || ltb maxLength n
 -- the keys of fields fit, and the depth of addends, from `depth` on, is at most 32
 abbrev pub Shallow : Bool → ℕ → CountingType → Type 0
 Shallow field depth nil = Unit {0}
-Shallow true depth (node l count c s) = (1 ≤ l .key) × (l .key < 65536) × Shallow false (depth + 1) c × Shallow true depth s
-Shallow false depth (node l count c s) =
+Shallow true depth (node l a c s) = (1 ≤ l .key) × (l .key < 65536) × Shallow false (depth + 1) c × Shallow true depth s
+Shallow false depth (node l a c s) =
     (depth ≤ maxDepth) × Shallow (eqb (l .kind) recordKind) (depthInside (eqb (l .kind) recordKind) depth) c × Shallow false depth s
 
 -- f is a well-formed type, and b its bytes
@@ -119,9 +125,10 @@ pub record IsType (e : Equivalence) (b : List ℕ) (f : CountingType) : Type 0 w
   pub shallow : Shallow false 1 f
   pub sorted : Sorted Counting f
   pub counts : counted f ≡ true
-  pub limit : largestTotal Counting f ≤ maxTotal
+  pub limit : withinLimit f ≡ true
   pub totals : FieldTotals f
   pub fields : fieldCounts e f ≡ true
+  pub payloads : measured f ≡ true
 
 -- wellFormed holds exactly of the bytes of well-formed types, and each is the bytes of one type alone
 abbrev pub WellFormedIsType : Type 0
@@ -134,5 +141,5 @@ TypeUnique = (e : Equivalence) (b : List ℕ) (f : CountingType) → IsType e b 
 -- within the limits the reduced type of two is well formed again
 abbrev pub ReduceIsType : Type 0
 ReduceIsType = (e : Equivalence) (a b : List ℕ) (f g : CountingType) → IsType e a f → IsType e b g →
-    typeSize * size (reduce Counting f g) ≤ maxLength → largestTotal Counting (reduce Counting f g) ≤ maxTotal →
+    typeSize * size (reduce Counting f g) ≤ maxLength → withinLimit (reduce Counting f g) ≡ true →
     IsType e (encode (reduce Counting f g)) (reduce Counting f g)

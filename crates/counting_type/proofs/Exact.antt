@@ -8,11 +8,11 @@ use lib.Dec.{eqb, ltb}
 use lib.ListN.{length, take}
 use Rattle.value_table.specs.Outcome.{Outcome}
 use Rattle.value_table.specs.Judged.{badLength, judged, messages}
-use Rattle.counting_theory.specs.Trie.{size, reduce, largestTotal}
+use Rattle.counting_theory.specs.Trie.{size, reduce}
 use Rattle.counting_theory.specs.Label.{Equivalence, Counting, CountingType}
 use Rattle.counting_theory.specs.Raw.{profileOf}
 use Rattle.counting_theory.specs.Encoding.{typeSize, typeOf}
-use Rattle.counting_theory.specs.WellFormed.{maxTotal, wellFormed, badTypeLength}
+use Rattle.counting_theory.specs.WellFormed.{withinLimit, wellFormed, badTypeLength}
 use Rattle.counting_theory.specs.Answers.{equivalenceOf, Written, turnedDown, arenaWith, stored, inferredFrom, inferredUnder, inferred, mergedUnder, merged}
 use Rattle.counting_theory.proofs.Encoding.Header.{length-encode}
 use Rattle.type_arena.proofs.Clear.{clearedFrom}
@@ -38,8 +38,8 @@ exact-merged first second equivalence n =
     go (some e) =
         exact-cond (not (wellFormed e first)) (turnedDown 8 0) _ refl
         (exact-cond (not (wellFormed e second)) (turnedDown 9 0) _ refl
-        (exact-cond (ltb maxTotal (largestTotal Counting (reduce Counting (typeOf e first) (typeOf e second)))) (turnedDown 10 0) _ refl
-        (exact-stored n (reduce Counting (typeOf e first) (typeOf e second)))))
+        (exact-cond (withinLimit (reduce Counting (typeOf e first) (typeOf e second))) _ (turnedDown 10 0)
+        (exact-stored n (reduce Counting (typeOf e first) (typeOf e second))) refl))
 
 exact-from : (o : Outcome) (e : Equivalence) (table : List ℕ) (n : ℕ) → Exact (inferredFrom o e table n)
 exact-from o e table n = go (o .number)

@@ -10,10 +10,11 @@ use Rattle.value_table.specs.Value.{maxDepth, recordKind}
 use Rattle.counting_type.specs.declared.addend.Level.{Level}
 use Rattle.counting_type.specs.declared.addend.Order.{Order}
 use Rattle.counting_type.specs.declared.addend.Order.the-variants.{Less, Same, More}
+use Rattle.counting_theory.specs.Payload.{join}
 use Rattle.counting_theory.specs.Trie.{size, reduce, largestBelow, largestTotal}
 use Rattle.counting_theory.specs.Label.{Equivalence, Counting, CountingType}
 use Rattle.counting_theory.specs.Place.{FieldTotals}
-use Rattle.counting_theory.specs.Encoding.{typeSize, typeKind, typeKey, typeSpan, typeCount, encode, typeOf, Tagged, Fitting}
+use Rattle.counting_theory.specs.Encoding.{typeSize, typeKind, typeKey, typeSpan, typePayload, encode, typeOf, Tagged, Fitting}
 use Rattle.counting_theory.specs.WellFormed.{maxTotal, Shallow}
 use Rattle.type_arena.specs.Arena.{under, headerOf}
 
@@ -79,7 +80,7 @@ mergedBytes e x y = encode (both e x y)
 -- the merge of their first addends, which have one label
 unfoldable pub joinedBytes : Equivalence → List ℕ → List ℕ → List ℕ
 joinedBytes e x y =
-    headerOf (typeKind x 0) (typeKey x 0) (1 + size (both e (body x) (body y))) (typeCount x 0 + typeCount y 0) ++ mergedBytes e (body x) (body y)
+    headerOf (typeKind x 0) (typeKey x 0) (1 + size (both e (body x) (body y))) (join (typePayload x 0) (typePayload y 0)) ++ mergedBytes e (body x) (body y)
 
 -- the merge of a and b is stored from byte k on, but for the tail t of a, which comes next
 pub record Ran (e : Equivalence) (a b out₀ : List ℕ) (k₀ : ℕ) (over₀ : Bool) (t out : List ℕ) (k : ℕ) (over : Bool) : Type 0 where

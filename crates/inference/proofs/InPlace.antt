@@ -12,7 +12,6 @@ pub mod Nodes
 pub mod Append
 pub mod Seeking
 pub mod Splits
-pub mod Times
 pub mod Placing
 pub mod Material
 pub mod Items

@@ -11,9 +11,10 @@ use Rattle.inference.specs.declared.inferring.Inferred.{Inferred}
 use Rattle.inference.specs.declared.inferring.Inferred.the-variants.{Records, Full}
 use Rattle.counting_theory.specs.Trie.{nil, append, size, _⊞_, lookup}
 use Rattle.counting_theory.specs.Label.{Equivalence, Label, Counting, CountingType}
+use Rattle.counting_theory.specs.Times.{times}
 use Rattle.counting_theory.specs.Raw.{raw, profileOf}
 use Rattle.counting_theory.specs.Encoding.{typeSize}
-use Rattle.inference.specs.Inferring.{numbersOf, TableRun, Holds, times}
+use Rattle.inference.specs.Inferring.{numbersOf, TableRun, Holds}
 
 -- where the slots begin in a working buffer of n bytes, behind those for the keys
 abbrev pub keyPart : ℕ → ℕ

@@ -3,6 +3,7 @@
 use mathlib.Core.Path.{_≡_}
 use mathlib.Core.Bool.{Bool, true, cond}
 use mathlib.Core.List.{List, [], _∷_, _++_}
+use mathlib.Core.Option.{Option, none, some}
 use Prim.Native.Nat.{ℕ, zero, suc, _+_, _*_, _≤_, _<_, Ordering, Ordering·lt as lt, Ordering·eq as eq, Ordering·gt as gt}
 use lib.Dec.{eqb, ltb}
 use lib.ListN.{length, take, drop}
@@ -22,6 +23,8 @@ use Rattle.inference.specs.declared.placing.Put.the-variants.{NoRoom, At
 use Rattle.inference.specs.declared.inferring.Inferred.{Inferred}
 use Rattle.inference.specs.declared.inferring.Inferred.the-variants.{Records, Full}
 use Rattle.inference.specs.declared.inferring.Item.{Item}
+use Rattle.counting_theory.specs.Payload.{Payload, one, oneField, join, copies}
+use Rattle.counting_theory.specs.Times.{times}
 use Rattle.counting_theory.specs.Trie.{nil, node, append, size, insert, add, Sorted}
 use Rattle.counting_theory.specs.Label.{Equivalence, Label, fieldKind, listed, labelOf, compareLabel, Counting, CountingType}
 use Rattle.counting_theory.specs.Raw.{ascending, raw}
@@ -100,10 +103,10 @@ spot l at (node k count c s) = spotHere (compareLabel l k) at (spot l (at + (1 +
 abbrev pub StandsAt : Label → CountingType → ℕ → Type 0
 StandsAt l f p = Here p ≡ spot l 0 f
 
--- each key fits its bytes
+-- each kind and key fits its bytes
 abbrev pub Keyed : CountingType → Type 0
 Keyed nil = Unit {0}
-Keyed (node l count c s) = (l .key < 65536) × Keyed c × Keyed s
+Keyed (node l a c s) = ((l .kind < 256) × (l .key < 65536)) × Keyed c × Keyed s
 
 -- f is a union or, where `field` is true, a record's run of fields, as inference makes them
 pub record Siblings (e : Equivalence) (field : Bool) (f : CountingType) : Type 0 where
@@ -150,42 +153,42 @@ pub record HeldRun (e : Equivalence) (field : Bool) (a : List ℕ) (n rest : ℕ
   pub free : List ℕ
   pub holds : Holds e field a n rest f q free
 
--- raw material with each count taken w times
-unfoldable pub times : ℕ → CountingType → CountingType
-times w nil = nil
-times w (node l n c s) = node l (w * n) (times w c) (times w s)
-
--- the siblings around the label l: those before it, its count, its children, and those after it
+-- the siblings around the label l: those before it, its payload if it stands there, its children, and those after it
 pub record Split : Type 0 where
   pub before : CountingType
-  pub count : ℕ
+  pub payload : Option Payload
   pub content : CountingType
   pub after : CountingType
 
-unfoldable pub splitHere : Ordering → Label → ℕ → CountingType → CountingType → Split → Split
-splitHere lt k count c s later = record { before = nil; count = 0; content = nil; after = node k count c s }
-splitHere eq k count c s later = record { before = nil; count = count; content = c; after = s }
-splitHere gt k count c s later = record { before = node k count c (later .before); count = later .count; content = later .content; after = later .after }
+unfoldable pub splitHere : Ordering → Label → Payload → CountingType → CountingType → Split → Split
+splitHere lt k a c s later = record { before = nil; payload = none; content = nil; after = node k a c s }
+splitHere eq k a c s later = record { before = nil; payload = some a; content = c; after = s }
+splitHere gt k a c s later = record { before = node k a c (later .before); payload = later .payload; content = later .content; after = later .after }
 
 unfoldable pub split : Label → CountingType → Split
-split l nil = record { before = nil; count = 0; content = nil; after = nil }
-split l (node k count c s) = splitHere (compareLabel l k) k count c s (split l s)
+split l nil = record { before = nil; payload = none; content = nil; after = nil }
+split l (node k a c s) = splitHere (compareLabel l k) k a c s (split l s)
 
--- w more are counted at l, in record p of the n records of siblings in b
-pub record Counted (x : Split) (l : Label) (w : ℕ) (q : List ℕ) (p n : ℕ) (b : List ℕ) : Type 0 where
+-- what was there, and more
+unfoldable pub grown : Option Payload → Payload → Payload
+grown none a = a
+grown (some b) a = join b a
+
+-- the payload a stands at l, in record p of the n records of siblings in b
+pub record Counted (x : Split) (l : Label) (a : Payload) (q : List ℕ) (p n : ℕ) (b : List ℕ) : Type 0 where
   pub place : p ≡ size (x .before)
   pub count : n ≡ size (x .before) + (1 + (size (x .content) + size (x .after)))
   pub free : List ℕ
-  pub bytes : b ≡ encode (x .before) ++ (header l (1 + size (x .content)) (x .count + w) ++ (encode (x .content) ++ (encode (x .after) ++ (q ++ free))))
+  pub bytes : b ≡ encode (x .before) ++ (header l (1 + size (x .content)) a ++ (encode (x .content) ++ (encode (x .after) ++ (q ++ free))))
 
 -- that, or b has fewer than the records that are needed
-abbrev pub CountedWithin : ℕ → Split → Label → ℕ → List ℕ → Put → List ℕ → Type 0
-CountedWithin needed x l w q (At p n) b = Counted x l w q p n b
-CountedWithin needed x l w q NoRoom b = length b < typeSize * needed
+abbrev pub CountedWithin : ℕ → Split → Label → Payload → List ℕ → Put → List ℕ → Type 0
+CountedWithin needed x l a q (At p n) b = Counted x l (grown (x .payload) a) q p n b
+CountedWithin needed x l a q NoRoom b = length b < typeSize * needed
 
 -- with `rest` records in use behind the siblings f, and none yet below the label
-abbrev pub PlacedAt : Label → ℕ → CountingType → List ℕ → ℕ → Put → List ℕ → Type 0
-PlacedAt l w f q rest r b = let x = split l f in CountedWithin (size (x .before) + (1 + (size (x .content) + size (x .after))) + rest) x l w q r b
+abbrev pub PlacedAt : Label → Payload → CountingType → List ℕ → ℕ → Put → List ℕ → Type 0
+PlacedAt l a f q rest r b = let x = split l f in CountedWithin (size (x .before) + (1 + (size (x .content) + size (x .after))) + rest) x l a q r b
 
 -- the siblings g are there, or there is too little room for them
 pub record Grown (g : CountingType) (q : List ℕ) (n : ℕ) (b : List ℕ) : Type 0 where
@@ -205,9 +208,13 @@ Added g q rest (Records n) b = Grown g q n b
 abbrev pub labelFor : Equivalence → ℕ → ℕ → Values → Label
 labelFor e kind key vs = labelOf e kind key (ascending (keys vs))
 
+-- what the item gives, w times
+abbrev pub itemPayload : ℕ → ℕ → Values → Payload
+itemPayload w kind vs = copies w (cond (eqb kind fieldKind) oneField (one (record { kind = kind }) vs))
+
 -- the siblings f with that item added w times
 abbrev pub withItem : Equivalence → ℕ → ℕ → ℕ → Values → CountingType → CountingType
-withItem e kind key w vs f = insert Counting (labelFor e kind key vs) w (add Counting (times w (raw e (eqb kind recordKind) vs))) f
+withItem e kind key w vs f = insert Counting (labelFor e kind key vs) (itemPayload w kind vs) (add Counting (times w (raw e (eqb kind recordKind) vs))) f
 
 -- a weight is at least 1, and no more than a table has bytes, also with the bytes of the run t for each
 pub record Weighed (w : ℕ) (t : List ℕ) : Type 0 where

@@ -12,10 +12,11 @@ use Rattle.inference.specs.declared.scalar_fields.Sought.{Sought}
 use Rattle.inference.specs.declared.scalar_fields.Sought.the-variants.{Field, Behind}
 use Rattle.counting_theory.specs.Trie.{size, add}
 use Rattle.counting_theory.specs.Label.{Equivalence, Label, fieldKind, Counting, CountingType}
+use Rattle.counting_theory.specs.Times.{times}
 use Rattle.counting_theory.specs.Raw.{raw}
 use Rattle.counting_theory.specs.Encoding.{typeSize, typeKey, encode}
 use Rattle.type_arena.specs.Arena.{under}
-use Rattle.inference.specs.Inferring.{Siblings, Holds, Starts, StandsAt, split, wanted, times, withItem, Grown}
+use Rattle.inference.specs.Inferring.{Siblings, Holds, Starts, StandsAt, split, wanted, withItem, Grown}
 
 -- what is left of the run vs from record i on, and the siblings g that it is to be added to, w times
 pub record Ran (e : Equivalence) (field : Bool) (w : ℕ) (vs : Values) (f : CountingType) (q a t : List ℕ) (m i from : ℕ) : Type 0 where
@@ -83,7 +84,7 @@ SoughtIn l f (Behind p) = Starts p f
 
 -- the fields f with one more of this scalar, w times
 abbrev pub withScalar : Equivalence → ℕ → ℕ → ℕ → CountingType → CountingType
-withScalar e key kind w f = withItem e fieldKind key w (value kind key none none) f
+withScalar e key kind w f = withItem e fieldKind key w (value (record { kind = kind }) key none none) f
 
 -- whether the scalar is counted in its field; if not, nothing has changed
 abbrev pub ScalarCounted : CountingType → List ℕ → ℕ → List ℕ → Bool → List ℕ → Type 0

@@ -16,7 +16,7 @@ ghost use Rattle.counting_theory.specs.Trie.{size};
 ghost use Rattle.counting_theory.specs.Label.{Equivalence, Label, CountingType};
 ghost use Rattle.counting_theory.specs.Encoding.{typeSize};
 ghost use Rattle.type_arena.specs.Arena.{under};
-ghost use Rattle.inference.specs.Inferring.{TableRun, SomeRun, wanted, Holds, Starts, StandsAt, HeldFrom, split, Counted, CountedWithin, PlacedAt, labelFor, withItem};
+ghost use Rattle.inference.specs.Inferring.{itemPayload, TableRun, SomeRun, wanted, Holds, Starts, StandsAt, HeldFrom, split, grown, Counted, CountedWithin, PlacedAt, labelFor, withItem};
 
 // The record where a label stands, and the number of records of its siblings; or that there is no room.
 pub enum Put {
@@ -28,7 +28,7 @@ pub enum Put {
 pub fn count_here(a: &mut [u8], p: usize, weight: usize)
     requires { ⌜ typeSize * p + typeSize ≤ length (now a) ⌝ }
     ensures { λ _. ⌜ ((e : Equivalence) (field : Bool) (n rest : ℕ) (l : Label) (f : CountingType) (q free : List ℕ) → Holds e field (now (a .entry)) n rest f q free → StandsAt l f p →
-        Counted (split l f) l weight q p n (now (a .exit))) ⌝ }
+        Counted (split l f) l (grown (split l f .payload) (record { count = weight })) q p n (now (a .exit))) ⌝ }
 {
     let o = type_record::SIZE * p;
     count_more(&mut a[o..], weight);
@@ -49,7 +49,7 @@ fn place(
 ) -> Put
     requires { ⌜ HeldFrom (under label) (now a) n rest from × (2 * keys ≤ length (now work)) ⌝ }
     ensures { λ r. ⌜ ((field : Bool) (f : CountingType) (q free : List ℕ) → Holds (under label) field (now (a .entry)) n rest f q free → Starts from f →
-        PlacedAt (wanted (under label) kind key keys (now (work .entry))) weight f q rest r (now (a .exit))) ⌝ }
+        PlacedAt (wanted (under label) kind key keys (now (work .entry))) (record { count = weight }) f q rest r (now (a .exit))) ⌝ }
 {
     match search(a, from, n, kind, key, work, keys, label) {
         Found::Here(p) => {
@@ -84,7 +84,7 @@ pub fn locate(
     requires { ⌜ HeldFrom (under label) (now a) n rest from × SomeRun (eqb kind recordKind) (now t) × (length (now a) ≤ 8 * length (now work)) × (1 ≤ weight) ⌝ }
     ensures { λ r. ⌜ ((field : Bool) (f : CountingType) (q free : List ℕ) (vs : Values) → Holds (under label) field (now (a .entry)) n rest f q free → Starts from f →
         TableRun (eqb kind recordKind) (now (t .entry)) vs →
-        CountedWithin (size (withItem (under label) kind key weight vs f) + rest) (split (labelFor (under label) kind key vs) f) (labelFor (under label) kind key vs) weight q r (now (a .exit))) ⌝ }
+        CountedWithin (size (withItem (under label) kind key weight vs f) + rest) (split (labelFor (under label) kind key vs) f) (labelFor (under label) kind key vs) (itemPayload weight kind vs) q r (now (a .exit))) ⌝ }
 {
     match list_label(t, kind, label, work) {
         Listed::TooMany => Put::NoRoom,

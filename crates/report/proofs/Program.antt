@@ -17,6 +17,8 @@ use Rattle.value_table.specs.Judged.{badLength, judged, messages}
 use Rattle.value_table.specs.Acceptance as table
 use Rattle.value_table.proofs.Fault.{length-fits}
 use Rattle.value_table.proofs.Acceptance.{accepts, placed}
+use Rattle.counting_theory.proofs.WellFormed.Limit.{totals-limit}
+use Rattle.counting_theory.proofs.WellFormed.Profile.{fits-run}
 use Rattle.counting_theory.specs.Trie.{size}
 use Rattle.counting_theory.specs.Label.{CountingType}
 use Rattle.counting_theory.specs.Raw.{profileOf}
@@ -55,7 +57,7 @@ module _ (b : List ℕ) (bytes : Bytes b) where
   type-of-table : judged b .number ≡ 0 → typeSize * size f ≤ maxLength → IsType houseDefault (encode f) (typeOf houseDefault (encode f))
   type-of-table z room =
       let t = accepted-table z in
-      let g = profile-type houseDefault (messages b) (t .valid) room (omega (arith, largest-values houseDefault (messages b), t .room)) in
+      let g = profile-type houseDefault (messages b) (t .valid) (fits-run (messages b) (t .room)) room (totals-limit f (omega (arith, largest-values houseDefault (messages b), t .room))) in
       rw (← type-unique houseDefault (encode f) f g) g
 
   printed-stored : judged b .number ≡ 0 → Printed accepted-type

@@ -8,6 +8,7 @@ use lib.Dec.{eqb}
 use lib.ListN.{length}
 use borrow.Author.Tests.{ne-eqb}
 use Rattle.value_table.specs.Value.{recordKind}
+use Rattle.counting_theory.specs.Payload.{Payload}
 use Rattle.counting_theory.specs.Trie.{nil, node, size, total}
 use Rattle.counting_theory.specs.Label.{Label, Counting, CountingType}
 use Rattle.counting_theory.specs.Encoding.{typeSize, typeKind, typeSpan, typeCount}
@@ -56,7 +57,7 @@ module _ {b : List ℕ} {p end : ℕ} (u : Union b p end) where
       go (node l a c s) e i =
           let x = holds-first houseDefault b p end false (u .depth) l a c s i in
           let n = x .is-node in
-          let w : total Counting (node l a c s) ≡ a + total Counting s = omega (arith, weight-addend l a (i .tagged .0 .kind-high)) in
+          let w : total Counting (node l a c s) ≡ a .count + total Counting s = omega (arith, weight-addend l a (i .tagged .0 .kind-high)) in
           let es = typed (x .in-next) in
           let t : total Counting (typeIn b p end) ≡ typeCount b p + total Counting (typeIn b (p + typeSpan b p) end) =
           rw (e, n .count-is, ← es) w in
@@ -93,7 +94,7 @@ module _ {b : List ℕ} {p end depth whole : ℕ} (r : Run b p end depth whole) 
       go nil i = refl
       go (node l a c s) i = absurd (omega (arith, i .ends))
 
-  first-node : (l : Label) (a : ℕ) (c s : CountingType) → typeIn b p end ≡ node l a c s → Holds houseDefault b p end (r .field) depth (node l a c s) →
+  first-node : (l : Label) (a : Payload) (c s : CountingType) → typeIn b p end ≡ node l a c s → Holds houseDefault b p end (r .field) depth (node l a c s) →
       Shares whole (node l a c s) → First b p end depth whole
   unfolding linesOf
   first-node l a c s e h sh =
@@ -107,7 +108,7 @@ module _ {b : List ℕ} {p end depth whole : ℕ} (r : Run b p end depth whole) 
       let inner : Holds houseDefault b (p + 1) (p + typeSpan b p) (holdsFields (r .field) l) (depthInside (holdsFields (r .field) l) depth) (typeIn b (p + 1) (p + typeSpan b p)) =
       rw (← ec) (x .in-children) in
       let d : depthIn b p depth ≡ depthInside (holdsFields (r .field) l) depth = rw (n .kind-is, z) refl in
-      let w : wholeIn b p ≡ wholeInside l a c = rw (n .kind-is, n .count-is, ← ec) refl in
+      let w : wholeIn b p ≡ wholeInside l (a .count) c = rw (n .kind-is, n .count-is, ← ec) refl in
       record {
         printable = record { here = omega (arith, r .within); count-low = rw (n .count-is) (sh .0); count-high = rw (n .count-is) (sh .1); limit = r .limit };
         span-low = low;

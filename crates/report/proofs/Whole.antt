@@ -9,6 +9,8 @@ use lib.ListN.{length}
 use borrow.Author.Tests.{leb-true}
 use Rattle.value_table.specs.Value.{recordKind, maxLength}
 use Rattle.value_table.proofs.Tests.{and-parts}
+use Rattle.counting_theory.proofs.WellFormed.Limit.{limit-totals}
+use Rattle.counting_theory.specs.Payload.{Payload}
 use Rattle.counting_theory.specs.Trie.{nil, node, total, largestBelow, largestTotal}
 use Rattle.counting_theory.specs.Label.{Label, Counting, CountingType}
 use Rattle.counting_theory.specs.Encoding.{typeRecords, Tagged}
@@ -31,11 +33,11 @@ abbrev Against : Bool → ℕ → CountingType → Type 0
 Against false whole f = total Counting f ≤ whole
 Against true whole f = fieldsOf houseDefault whole f ≡ true
 
-against-parts : (field : Bool) (whole : ℕ) (l : Label) (a : ℕ) (c s : CountingType) → Shape houseDefault field l c → Against field whole (node l a c s) →
-    (a ≤ whole) × Against field whole s
+against-parts : (field : Bool) (whole : ℕ) (l : Label) (a : Payload) (c s : CountingType) → Shape houseDefault field l c → Against field whole (node l a c s) →
+    (a .count ≤ whole) × Against field whole s
 unfolding total fieldsOf
 against-parts false whole l a c s h i = let w = weight-addend l a (h .kind-high) in (omega arith, omega arith)
-against-parts true whole l a c s h i = let p = and-parts (leb a whole) (fieldsOf houseDefault whole s) i in (leb-true a whole (p .0), p .1)
+against-parts true whole l a c s h i = let p = and-parts (leb (a .count) whole) (fieldsOf houseDefault whole s) i in (leb-true (a .count) whole (p .0), p .1)
 
 shares : (field : Bool) (whole : ℕ) (f : CountingType) → Tagged houseDefault field f → counted f ≡ true → fieldCounts houseDefault f ≡ true →
     largestBelow Counting f ≤ maxTotal → whole ≤ maxTotal → Against field whole f → Shares whole f
@@ -50,10 +52,10 @@ shares field whole (node l a c s) t m n g h i =
     (λ inside w u. shares inside w c u (y .1) (z .1) (omega arith)) in
     (y .0, j .0, inner .0, inner .1, shares field whole s (p .2) (y .2) (z .2) (omega arith) h (j .1))
   where
-    go : (inside : Bool) → (inside ≡ true → fieldsOf houseDefault a c ≡ true) → Tagged houseDefault inside c → a ≤ maxTotal → total Counting c ≤ maxTotal →
+    go : (inside : Bool) → (inside ≡ true → fieldsOf houseDefault (a .count) c ≡ true) → Tagged houseDefault inside c → a .count ≤ maxTotal → total Counting c ≤ maxTotal →
         ((field : Bool) (w : ℕ) → Tagged houseDefault field c → w ≤ maxTotal → Against field w c → Shares w c) →
-        (cond inside a (total Counting c) ≤ maxTotal) × Shares (cond inside a (total Counting c)) c
-    go true d u v w k = (v, k true a u v (d refl))
+        (cond inside (a .count) (total Counting c) ≤ maxTotal) × Shares (cond inside (a .count) (total Counting c)) c
+    go true d u v w k = (v, k true (a .count) u v (d refl))
     go false d u v w k = (w, k false (total Counting c) u w (omega arith))
 
 module _ {b : List ℕ} {f : CountingType} (t : IsType houseDefault b f) where
@@ -65,11 +67,11 @@ module _ {b : List ℕ} {f : CountingType} (t : IsType houseDefault b f) where
 
   whole-shares : Shares (total Counting f) f
   unfolding largestTotal
-  whole-shares = shares false (total Counting f) f (t .tagged) (t .counts) (t .fields) (omega (arith, t .limit)) (omega (arith, t .limit)) (omega arith)
+  whole-shares = shares false (total Counting f) f (t .tagged) (t .counts) (t .fields) (omega (arith, limit-totals f (t .limit))) (omega (arith, limit-totals f (t .limit))) (omega arith)
 
   whole-limit : total Counting f ≤ maxTotal
   unfolding largestTotal
-  whole-limit = omega (arith, t .limit)
+  whole-limit = omega (arith, limit-totals f (t .limit))
 
   pub whole-short : length b ≤ maxLength
   whole-short = rw (t .bytes) (omega (arith, length-encode f, t .room))

@@ -19,14 +19,14 @@ wholeInside l count inner = cond (eqb (l .kind) recordKind) count (total Countin
 -- The lines of a union, or of the fields of a record, in the order of the records. A field has its record's depth.
 unfoldable pub linesOf : (width depth whole : ℕ) → CountingType → List ℕ
 linesOf width depth whole nil = []
-linesOf width depth whole (node l count inner next) =
-    lineOf depth (l .kind) (l .key) width count (share count whole)
-    ++ (linesOf width (depthInside (eqb (l .kind) recordKind) depth) (wholeInside l count inner) inner ++ linesOf width depth whole next)
+linesOf width depth whole (node l a inner next) =
+    lineOf depth (l .kind) (l .key) width (a .count) (share (a .count) whole)
+    ++ (linesOf width (depthInside (eqb (l .kind) recordKind) depth) (wholeInside l (a .count) inner) inner ++ linesOf width depth whole next)
 
 -- the largest count printed, inner addends and fields included
 unfoldable pub largestCount : CountingType → ℕ
 largestCount nil = 0
-largestCount (node l count inner next) = max count (max (largestCount inner) (largestCount next))
+largestCount (node l a inner next) = max (a .count) (max (largestCount inner) (largestCount next))
 
 -- counts are padded to the digits of the largest one
 unfoldable pub report : CountingType → List ℕ

@@ -36,8 +36,8 @@ largestFrom b (suc k) i = max (typeCount b i) (largestFrom b k (i + 1))
 -- each count is at least 1 and at most what its share is against, which keeps the limit
 abbrev pub Shares : ℕ → CountingType → Type 0
 Shares whole nil = Unit {0}
-Shares whole (node l count inner next) =
-    (1 ≤ count) × (count ≤ whole) × (wholeInside l count inner ≤ maxTotal) × Shares (wholeInside l count inner) inner × Shares whole next
+Shares whole (node l a inner next) =
+    (1 ≤ a .count) × (a .count ≤ whole) × (wholeInside l (a .count) inner ≤ maxTotal) × Shares (wholeInside l (a .count) inner) inner × Shares whole next
 
 -- records i to end are a union
 pub record Union (b : List ℕ) (i end : ℕ) : Type 0 where

@@ -10,7 +10,10 @@ use lib.ListN.{length, set, drop, getD, drop-of-length-le}
 use lib.Seq.{sets, sets-eq, set-comm, set-out, drop-cons}
 use Rattle.value_table.specs.Number.{bytesOf}
 use Rattle.value_table.proofs.Number.{length-bytesOf}
-use Rattle.counting_theory.specs.Encoding.{typeSize, header}
+use Rattle.value_table.specs.Format.{recordBytes}
+use Rattle.value_table.proofs.Format.{length-record}
+use Rattle.counting_theory.specs.Payload.{Payload, numbers}
+use Rattle.counting_theory.specs.Encoding.{typeFormat, typeSize, header}
 use Rattle.type_arena.specs.Arena.{headerOf}
 
 pub sets-append : (xs ys l : List ℕ) (i : ℕ) → sets l i (xs ++ ys) ≡ sets (sets l i xs) (i + length xs) ys
@@ -43,19 +46,18 @@ pub sets-bytes : (v w n : ℕ) (l : List ℕ) (i : ℕ) → sets (sets l i (byte
 sets-bytes v w n l i =
     rw (bytesOf-add v w n, sets-append (bytesOf v n) (bytesOf w (n / 256 ^ v)) l i, length-bytesOf v n) refl
 
-pub length-headerOf : (kind key span count : ℕ) → length (headerOf kind key span count) ≡ typeSize
-unfolding header bytesOf
-length-headerOf kind key span count = refl
+pub length-headerOf : (kind key span : ℕ) (a : Payload) → length (headerOf kind key span a) ≡ typeSize
+unfolding header
+length-headerOf kind key span a = length-record typeFormat _
 
 -- a type record in its four numbers, the first with the zero byte behind the kind
 pub sets-record : (kind key span count : ℕ) (l : List ℕ) (at : ℕ) → kind < 256 →
     sets (sets (sets (sets l at (bytesOf 2 kind)) (at + 2) (bytesOf 2 key)) (at + 4) (bytesOf 4 span)) (at + 8) (bytesOf 8 count)
-    ≡ sets l at (headerOf kind key span count)
-unfolding header bytesOf
+    ≡ sets l at (headerOf kind key span (record { count = count }))
+unfolding header bytesOf recordBytes numbers
 sets-record kind key span count l at h =
-    let low : kind % 256 ≡ kind = omega arith in
     let high : kind / 256 % 256 ≡ 0 = omega arith in
-    rw (low, high) (simp towards-suc)
+    rw high (simp towards-suc)
 
 sets-whole : (vs l : List ℕ) → length l ≡ length vs → sets l 0 vs ≡ vs
 sets-whole vs l h = sets-eq vs l 0 (omega arith) ∙ rw (zero-add, drop-of-length-le l {i = length vs} (omega arith)) (append-nil vs)

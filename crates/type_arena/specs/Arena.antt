@@ -5,6 +5,7 @@ use Prim.Native.Nat.{ℕ, zero, suc, _+_, _*_, _-_, _≤_, _<_}
 use lib.Dec.{ltb}
 use lib.ListN.{length}
 use Rattle.value_table.specs.Value.{maxLength}
+use Rattle.counting_theory.specs.Payload.{Payload}
 use Rattle.counting_theory.specs.Label.{Equivalence, byKind, byLabel, Label, labelOf}
 use Rattle.counting_theory.specs.Encoding.{typeSize, typeKind, typeKey, typeSpan, header}
 
@@ -47,5 +48,5 @@ pub record FieldsInside (b : List ℕ) (p : ℕ) : Type 0 where
   pub short : length b ≤ maxLength
 
 -- the bytes of a type record
-abbrev pub headerOf : ℕ → ℕ → ℕ → ℕ → List ℕ
-headerOf kind key span count = header (record { kind = kind; key = key; keys = [] }) span count
+abbrev pub headerOf : ℕ → ℕ → ℕ → Payload → List ℕ
+headerOf kind key span a = header (record { kind = kind; key = key; keys = [] }) span a

@@ -45,7 +45,7 @@ pub fn store64(out: &mut [u8], at: usize, v: usize)
 // Stores a type record where there is room for it.
 pub fn store_record(out: &mut [u8], at: usize, kind: u8, key: usize, span: usize, count: usize)
     requires { ⌜ at + typeSize ≤ length (now out) ⌝ }
-    ensures { λ _. ⌜ now (out .exit) ≡ sets (now (out .entry)) at (headerOf kind key span count) ⌝ }
+    ensures { λ _. ⌜ now (out .exit) ≡ sets (now (out .entry)) at (headerOf kind key span (record { count = count })) ⌝ }
 {
     store16(out, at, kind as usize);
     store16(out, at + 2, key);
@@ -82,7 +82,7 @@ pub fn put_bytes(src: &[u8], out: &mut [u8], at: usize)
 // Stores a type record, as far as there is room.
 pub fn put_record(out: &mut [u8], at: usize, kind: u8, key: usize, span: usize, count: usize)
     requires { ⌜ at + typeSize < 2 ^ 64 ⌝ }
-    ensures { λ _. ⌜ now (out .exit) ≡ sets (now (out .entry)) at (headerOf kind key span count) ⌝ }
+    ensures { λ _. ⌜ now (out .exit) ≡ sets (now (out .entry)) at (headerOf kind key span (record { count = count })) ⌝ }
 {
     if at + type_record::SIZE <= out.len() {
         store_record(out, at, kind, key, span, count);

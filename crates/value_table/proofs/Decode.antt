@@ -14,12 +14,12 @@ pub decode-run : (b : List ℕ) → length b ≤ maxLength → (k i end : ℕ) (
     size vs ≤ k → Run b i end field before depth vs → decode b k i end ≡ vs
 unfolding decode size
 decode-run b short zero i end field before depth none h r = refl
-decode-run b short zero i end field before depth (value kind key c s) h r = absurd (omega arith)
+decode-run b short zero i end field before depth (value head key c s) h r = absurd (omega arith)
 decode-run b short (suc k) i end field before depth none h r = rw (le-ltb i end (omega (arith, r .ends)), decode) refl
-decode-run b short (suc k) i end field before depth (value kind key c s) h r =
+decode-run b short (suc k) i end field before depth (value head key c s) h r =
     let some : i < end = omega (arith, r .ends) in
     let after : List ℕ = before ++ (keyAt b i ∷ []) in
-    let f = run-first b i end field before after depth (λ e. refl) (value kind key c s) short some r in
+    let f = run-first b i end field before after depth (λ e. refl) (value head key c s) short some r in
     rw (
       lt-ltb i end some,
       decode,

@@ -1,5 +1,6 @@
 -- The laws behind the promises; a folder for each function's proof.
 pub mod Number
+pub mod Format
 pub mod Header
 pub mod Tests
 pub mod Keys

@@ -50,3 +50,11 @@ numberAt-add (suc v) w b p h =
     let t = rw e at (numberAt-add v w b (p + 1) (omega arith)) in
     let q : 256 ^ suc v * numberAt w b (p + suc v) ≡ 256 * (256 ^ v * numberAt w b (p + suc v)) = rw (pow-suc, mul-comm (256 ^ v) 256, mul-assoc) refl in
     rw suc-add (omega (arith, t, q, numberAt-suc (v + w) b p (omega arith), numberAt-suc v b p (omega arith)))
+
+-- a number of one byte
+pub numberAt-one : (b : List ℕ) (p : ℕ) → numberAt 1 b p ≡ getD b p 0
+unfolding numberAt numberOf
+numberAt-one [] zero = refl
+numberAt-one [] (suc p) = refl
+numberAt-one (x ∷ b) zero = omega arith
+numberAt-one (x ∷ b) (suc p) = numberAt-one b p

@@ -4,12 +4,13 @@ use mathlib.Core.Bool.{Bool, true, false}
 use mathlib.Core.List.{List, [], _∷_, _++_, append-assoc, append-nil}
 use Prim.Native.Nat.{ℕ, suc, _+_, _*_, _^_, _≤_, _<_}
 use native.Mathlib.Omega.{arith}
-use lib.Dec.{eqb}
+use lib.Dec.{eqb, lit<}
 use lib.ListN.{length, drop, length-append, length-drop}
 use lib.Seq.{drop-drop, drop-at}
 use borrow.Author.Tests.{eq-eqb, eqb-true}
 use Rattle.value_table.specs.Number.{Bytes}
-use Rattle.value_table.specs.Value.{recordSize, recordKind, maxLength, kindAt, keyAt, spanAt, header, Values, none, value, size, keys, encode, Distinct, KeyFits, ValidAt}
+use Rattle.value_table.specs.Format.{Fits}
+use Rattle.value_table.specs.Value.{recordSize, recordKind, maxLength, valueFormat, Head, headAt, recordNumbers, Proper, kindAt, keyAt, spanAt, header, Values, none, value, size, keys, encode, Distinct, KeyFits, ValidAt}
 use Rattle.value_table.proofs.Header.{Fields, length-encode, header-read, header-written}
 use Rattle.value_table.proofs.Keys.{distinct-new}
 use Rattle.value_table.proofs.Fault.{Faultless}
@@ -36,11 +37,16 @@ key-below : (field : Bool) (key : ℕ) → KeyFits field key → key < 65536
 key-below true key h = h .1
 key-below false key h = omega arith
 
+-- the numbers of a value's record fit
+pub value-fits : (field : Bool) (depth : ℕ) (head : Head) (key : ℕ) (content : Values) → Proper field depth head key content → 1 + size content < 2 ^ 32 →
+    Fits valueFormat (recordNumbers head key (1 + size content))
+value-fits field depth head key content p h = (omega (arith, p .kind-high), (lit< tt, (key-below field key (p .keyed), (h, tt))))
+
 -- a run that is not empty: its first value is read at record i, and the records behind hold the content and then the other values
 pub record First (b : List ℕ) (i end : ℕ) (field : Bool) (before after : List ℕ) (depth : ℕ) (vs : Values) : Type 0 where
   pub content : Values
   pub next : Values
-  pub is-value : vs ≡ value (kindAt b i) (keyAt b i) content next
+  pub is-value : vs ≡ value (headAt b i) (keyAt b i) content next
   pub faultless : Faultless b i end field before depth
   pub in-content : Run b (i + 1) (i + spanAt b i) (eqb (kindAt b i) recordKind) [] (suc depth) content
   pub in-next : Run b (i + spanAt b i) end field after depth next
@@ -49,7 +55,7 @@ pub record First (b : List ℕ) (i end : ℕ) (field : Bool) (before after : Lis
 module _ (b : List ℕ) (i end : ℕ) (field : Bool) (before after : List ℕ) (depth : ℕ) (grown : field ≡ true → after ≡ before ++ (keyAt b i ∷ [])) where
   pub run-value : (c s : Values) → Bytes b → recordSize * (i + 1) ≤ length b → Faultless b i end field before depth →
       Run b (i + 1) (i + spanAt b i) (eqb (kindAt b i) recordKind) [] (suc depth) c →
-      Run b (i + spanAt b i) end field after depth s → Run b i end field before depth (value (kindAt b i) (keyAt b i) c s)
+      Run b (i + spanAt b i) end field after depth s → Run b i end field before depth (value (headAt b i) (keyAt b i) c s)
   unfolding encode size keys ValidAt
   run-value c s bytes fits f content next =
       let e : 1 + size c ≡ spanAt b i = omega (arith, content .ends) in
@@ -74,20 +80,21 @@ module _ (b : List ℕ) (i end : ℕ) (field : Bool) (before after : List ℕ) (
   pub run-first : (vs : Values) → length b ≤ maxLength → i < end → Run b i end field before depth vs → First b i end field before after depth vs
   unfolding encode size keys ValidAt
   run-first none short some r = absurd (omega (arith, r .ends))
-  run-first (value kind key c s) short some r =
+  run-first (value head key c s) short some r =
       let last : List ℕ = encode s ++ drop (recordSize * end) b in
       let rest : List ℕ = encode c ++ last in
-      let e : drop (recordSize * i) b ≡ header kind key (1 + size c) ++ rest = r .bytes ∙ simp append-assoc in
+      let e : drop (recordSize * i) b ≡ header head key (1 + size c) ++ rest = r .bytes ∙ simp append-assoc in
       let small : 1 + size c < 2 ^ 32 = omega (arith, length-encode c, simp (length-append, length-drop) at (ap length e)) in
-      let f : Fields b i kind 0 key (1 + size c) rest = header-read b i kind key (1 + size c) rest (key-below field key (r .valid .0 .keyed)) small e in
+      let fit : Fits valueFormat (recordNumbers head key (1 + size c)) = value-fits field depth head key c (r .valid .0) small in
+      let f : Fields b i head 0 key (1 + size c) rest = header-read b i head key (1 + size c) rest fit e in
       let p : recordSize * (i + spanAt b i) ≡ recordSize * (i + 1) + recordSize * size c = omega (arith, f .span-is) in
       let behind : drop (recordSize * (i + spanAt b i)) b ≡ last = rw (p, ← drop-drop, f .rest-is) (drop-at (encode c) last (recordSize * size c) (length-encode c)) in
-      let own : Run b i end field before depth (value (kindAt b i) (keyAt b i) c s) = rw (← (f .kind-is), ← (f .key-is)) at r in
+      let own : Run b i end field before depth (value (headAt b i) (keyAt b i) c s) = rw (← (f .head-is), ← (f .key-is)) at r in
       let proper = own .valid .0 in
       record {
         content = c;
         next = s;
-        is-value = rw (f .kind-is, f .key-is) refl;
+        is-value = rw (f .head-is, f .key-is) refl;
         faultless =
             record {
               kind-low = proper .kind-low;

@@ -5,7 +5,7 @@ use mathlib.Core.List.{List, [], _∷_, _++_}
 use Prim.Native.Nat.{ℕ, zero, suc, _+_, _%_}
 use lib.ListN.{length}
 use lib.Dec.{eqb, leb, ltb}
-use Rattle.value_table.specs.Value.{recordSize, maxLength, maxDepth, recordKind, arrayKind, lastScalar, records, kindAt, zeroAt, keyAt, spanAt, member, Values, none, value}
+use Rattle.value_table.specs.Value.{recordSize, maxLength, maxDepth, recordKind, arrayKind, lastScalar, records, headAt, kindAt, zeroAt, keyAt, spanAt, member, Values, none, value}
 use Rattle.value_table.specs.Outcome.{Outcome, accepted, refused}
 
 -- A value whose content is being passed: its kind, the record after its last, and the keys of its fields or elements so far.
@@ -102,7 +102,7 @@ unfoldable pub decode : List ℕ → ℕ → ℕ → ℕ → Values
 decode b zero i end = none
 decode b (suc k) i end =
     elim (ltb i end) [
-      | true ↦ value (kindAt b i) (keyAt b i) (decode b k (i + 1) (i + spanAt b i)) (decode b k (i + spanAt b i) end)
+      | true ↦ value (headAt b i) (keyAt b i) (decode b k (i + 1) (i + spanAt b i)) (decode b k (i + spanAt b i) end)
       | false ↦ none
     ]
 

@@ -3,13 +3,17 @@ use mathlib.Core.Path.{_≡_}
 use mathlib.Core.Bool.{Bool, true, false, _||_}
 use mathlib.Core.List.{List, [], _∷_, _++_}
 use Prim.Native.Nat.{ℕ, suc, _+_, _*_, _/_, _≤_, _<_}
-use lib.ListN.{length, getD}
+use lib.ListN.{length}
 use lib.Dec.{eqb}
-use Rattle.value_table.specs.Number.{bytesOf, numberAt}
+use Rattle.value_table.specs.Format.{Format, widthOf, fieldAt, recordBytes}
+
+-- the fields of a value record: kind, zero, key and span
+abbrev pub valueFormat : Format
+valueFormat = 1 ∷ 1 ∷ 2 ∷ 4 ∷ []
 
 -- bytes of a value record, the most bytes of a table, and the largest depth
 abbrev pub recordSize : ℕ
-recordSize = 8
+recordSize = widthOf valueFormat
 
 abbrev pub maxLength : ℕ
 maxLength = 65536
@@ -32,43 +36,53 @@ abbrev pub records : List ℕ → ℕ
 records b = length b / recordSize
 
 unfoldable pub kindAt : List ℕ → ℕ → ℕ
-kindAt b i = getD b (recordSize * i) 0
+kindAt = fieldAt valueFormat 0
 
 unfoldable pub zeroAt : List ℕ → ℕ → ℕ
-zeroAt b i = getD b (recordSize * i + 1) 0
+zeroAt = fieldAt valueFormat 1
 
 unfoldable pub keyAt : List ℕ → ℕ → ℕ
-keyAt b i = numberAt 2 b (recordSize * i + 2)
+keyAt = fieldAt valueFormat 2
 
 unfoldable pub spanAt : List ℕ → ℕ → ℕ
-spanAt b i = numberAt 4 b (recordSize * i + 4)
+spanAt = fieldAt valueFormat 3
 
-unfoldable pub header : ℕ → ℕ → ℕ → List ℕ
-header kind key span = kind ∷ 0 ∷ (bytesOf 2 key ++ bytesOf 4 span)
+-- What a record tells of its value beside its key and its place.
+pub record Head : Type 0 where
+  pub kind : ℕ
+
+abbrev pub headAt : List ℕ → ℕ → Head
+headAt b i = record { kind = kindAt b i }
+
+abbrev pub recordNumbers : Head → ℕ → ℕ → List ℕ
+recordNumbers head key span = head .kind ∷ 0 ∷ key ∷ span ∷ []
+
+unfoldable pub header : Head → ℕ → ℕ → List ℕ
+header head key span = recordBytes valueFormat (recordNumbers head key span)
 
 -- A run of values: messages, the fields of a record, or the elements of an array. The content of a value is such a run.
 pub data Values : Type 0 where
   none : Values
-  value : (kind key : ℕ) (content next : Values) → Values
+  value : (head : Head) (key : ℕ) (content next : Values) → Values
 
 -- the value records of a run
 unfoldable pub size : Values → ℕ
 size none = 0
-size (value kind key content next) = 1 + size content + size next
+size (value head key content next) = 1 + size content + size next
 
 -- the values of a run, without those inside them
 unfoldable pub count : Values → ℕ
 count none = 0
-count (value kind key content next) = 1 + count next
+count (value head key content next) = 1 + count next
 
 unfoldable pub keys : Values → List ℕ
 keys none = []
-keys (value kind key content next) = key ∷ keys next
+keys (value head key content next) = key ∷ keys next
 
 -- in preorder: a value, then its fields or elements
 unfoldable pub encode : Values → List ℕ
 encode none = []
-encode (value kind key content next) = header kind key (1 + size content) ++ (encode content ++ encode next)
+encode (value head key content next) = header head key (1 + size content) ++ (encode content ++ encode next)
 
 unfoldable pub member : ℕ → List ℕ → Bool
 member k [] = false
@@ -84,18 +98,18 @@ KeyFits true key = (1 ≤ key) × (key < 65536)
 KeyFits false key = key ≡ 0
 
 -- What is asked of one value; `field` says whether it is the value of a record's field.
-pub record Proper (field : Bool) (depth kind key : ℕ) (content : Values) : Type 0 where
-  pub kind-low : 1 ≤ kind
-  pub kind-high : kind ≤ arrayKind
-  pub scalar : kind ≤ lastScalar → content ≡ none
+pub record Proper (field : Bool) (depth : ℕ) (head : Head) (key : ℕ) (content : Values) : Type 0 where
+  pub kind-low : 1 ≤ head .kind
+  pub kind-high : head .kind ≤ arrayKind
+  pub scalar : head .kind ≤ lastScalar → content ≡ none
   pub keyed : KeyFits field key
-  pub distinct : kind ≡ recordKind → Distinct (keys content)
+  pub distinct : head .kind ≡ recordKind → Distinct (keys content)
   pub shallow : depth ≤ maxDepth
 
 unfoldable pub ValidAt : Bool → ℕ → Values → Type 0
 ValidAt field depth none = Unit {0}
-ValidAt field depth (value kind key content next) =
-    Proper field depth kind key content × ValidAt (eqb kind recordKind) (suc depth) content × ValidAt field depth next
+ValidAt field depth (value head key content next) =
+    Proper field depth head key content × ValidAt (eqb (head .kind) recordKind) (suc depth) content × ValidAt field depth next
 
 -- messages have depth 1 and are no fields
 abbrev pub Valid : Values → Type 0

@@ -30,11 +30,11 @@ module _ (eq : Equivalence) where
       rw (
         lt-ltb i end (omega arith),
         decode,
-        decode-run b k (i + 1) (i + typeSpan b i) (holdsFields field l) c (r .1) (fit .3) (omega arith) (f .in-children) (omega (arith, f .span-is)),
-        decode-run b k (i + typeSpan b i) end field s (r .2) (fit .4) (omega arith) (f .in-next) (omega (arith, f .span-is)),
+        decode-run b k (i + 1) (i + typeSpan b i) (holdsFields field l) c (r .1) (fit .1) (omega arith) (f .in-children) (omega (arith, f .span-is)),
+        decode-run b k (i + typeSpan b i) end field s (r .2) (fit .2) (omega arith) (f .in-next) (omega (arith, f .span-is)),
         f .kind-is,
         f .key-is,
-        f .count-is,
+        f .payload-is,
         ← shape-label eq field l c (r .0),
       )
       refl

@@ -5,6 +5,7 @@ use mathlib.Core.List.{List, [], _∷_}
 use mathlib.Core.Option.{none, some}
 use Prim.Native.Nat.{ℕ, Ordering, Ordering·lt as lt, Ordering·eq as eq, Ordering·gt as gt}
 use native.Mathlib.Omega.{arith}
+use Rattle.counting_theory.specs.Payload.{Payload}
 use Rattle.counting_theory.specs.Order.{flip, IsOrder}
 use Rattle.counting_theory.specs.Trie.{nil, node, atEnd, lookup, SameMap, Before, Sorted}
 use Rattle.counting_theory.specs.Label.{Label, compareLabel, Counting, CountingType}
@@ -16,16 +17,16 @@ open IsOrder label-order using (compare-refl, compare-eq, compare-flip)
 
 module _ (l : Label) where
   abbrev pub Has : CountingType → Type 0
-  Has f = (a : ℕ) × (c : CountingType) × Addend l a c f
+  Has f = (a : Payload) × (c : CountingType) × Addend l a c f
 
   -- what the map of f says of an addend with label l, and where there is none
-  abbrev pub Found : ℕ → CountingType → CountingType → Type 0
+  abbrev pub Found : Payload → CountingType → CountingType → Type 0
   Found a c f = (q : List Label) → lookup Counting f (l ∷ q) ≡ atEnd a (lookup Counting c q) q
 
   abbrev pub Missing : CountingType → Type 0
   Missing f = (q : List Label) → lookup Counting f (l ∷ q) ≡ none
 
-  addend-after : (k : Label) (a : ℕ) (c f : CountingType) → Before Counting k f → Sorted Counting f → Addend l a c f → compareLabel k l ≡ lt
+  addend-after : (k : Label) (a : Payload) (c f : CountingType) → Before Counting k f → Sorted Counting f → Addend l a c f → compareLabel k l ≡ lt
   addend-after k a c nil e u m = absurd m
   addend-after k a c (node x b d s) e u (inl z) = rw (z .0) e
   addend-after k a c (node x b d s) e u (inr m) = addend-after k a c s (before-trans counting-laws k x s e (u .0)) (u .2) m
@@ -37,18 +38,18 @@ module _ (l : Label) where
       let z : _≡_ {A = ℕ} 0 1 = cc in
       omega arith
 
-  pub addend-sorted : (a : ℕ) (c f : CountingType) → Sorted Counting f → Addend l a c f → Sorted Counting c
+  pub addend-sorted : (a : Payload) (c f : CountingType) → Sorted Counting f → Addend l a c f → Sorted Counting c
   addend-sorted a c nil u m = absurd m
   addend-sorted a c (node x b d s) u (inl z) = rw (z .2) (u .1)
   addend-sorted a c (node x b d s) u (inr m) = addend-sorted a c s (u .2) m
 
-  pub addend-found : (a : ℕ) (c f : CountingType) → Sorted Counting f → Addend l a c f → Found a c f
+  pub addend-found : (a : Payload) (c f : CountingType) → Sorted Counting f → Addend l a c f → Found a c f
   addend-found a c nil u m q = absurd m
   addend-found a c (node x b d s) u (inl z) q = rw (z .0, z .1, z .2) (lookup-head counting-laws x b d s q u)
   addend-found a c (node x b d s) u (inr m) q =
       lookup-next counting-laws l x b d s q (compare-flip x l ∙ ap flip (addend-after x a c s (u .0) (u .2) m)) ∙ addend-found a c s (u .2) m q
 
-  pub found-unique : (a b : ℕ) (c d f : CountingType) → Sorted Counting f → Sorted Counting c → Found a c f → Addend l b d f → (a ≡ b) × (c ≡ d)
+  pub found-unique : (a b : Payload) (c d f : CountingType) → Sorted Counting f → Sorted Counting c → Found a c f → Addend l b d f → (a ≡ b) × (c ≡ d)
   unfolding atEnd
   found-unique a b c d f u v h m = (let z : some a ≡ some b = sym (h []) ∙ i [] in cc, canonical counting-laws v (addend-sorted b d f u m) same)
     where
@@ -74,7 +75,7 @@ module _ (l : Label) where
   unfolding atEnd
   missing-not f u h m = some-none (sym (addend-found (m .0) (m .1) f u (m .2) []) ∙ h [])
 
-  pub found-addend : (a : ℕ) (c f : CountingType) → Sorted Counting f → Sorted Counting c → Found a c f → Addend l a c f
+  pub found-addend : (a : Payload) (c f : CountingType) → Sorted Counting f → Sorted Counting c → Found a c f → Addend l a c f
   unfolding atEnd
   found-addend a c f u v h = go (find f u)
     where

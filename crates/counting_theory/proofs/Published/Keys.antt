@@ -4,6 +4,7 @@ use mathlib.Core.Bool.{true}
 use mathlib.Core.Logic.{inl, inr, _↔_}
 use Prim.Native.Nat.{ℕ, Ordering, Ordering·lt as less, Ordering·eq as same, Ordering·gt as greater}
 use native.Mathlib.Omega.{arith}
+use Rattle.counting_theory.specs.Payload.{Payload}
 use Rattle.counting_theory.specs.Trie.{nil, node, Before, Sorted}
 use Rattle.counting_theory.specs.Label.{Equivalence, Label, fieldLabel, compareLabel, Counting, CountingType}
 use Rattle.counting_theory.specs.Encoding.{siblingKeys, Tagged}
@@ -16,11 +17,11 @@ before-no-key : (l : Label) (f : CountingType) → l ≡ fieldLabel (l .key) →
 before-no-key l f z e u = before-not (fieldLabel (l .key)) f (rw z at e) u
 
 -- a key behind the first field of one list is behind the first field of the other
-later-key : (l m : Label) (a b : ℕ) (c d s t : CountingType) → l ≡ m → l ≡ fieldLabel (l .key) → Before Counting l s → Sorted Counting s →
+later-key : (l m : Label) (a b : Payload) (c d s t : CountingType) → l ≡ m → l ≡ fieldLabel (l .key) → Before Counting l s → Sorted Counting s →
     (k : ℕ) → (HasKey k (node l a c s) → HasKey k (node m b d t)) → HasKey k s → HasKey k t
 later-key l m a b c d s t y z e u k h i = let j = h (i .0, i .1, inr (i .2)) in go (j .0) (j .1) (j .2)
   where
-    go : (x : ℕ) (g : CountingType) → Addend (fieldLabel k) x g (node m b d t) → HasKey k t
+    go : (x : Payload) (g : CountingType) → Addend (fieldLabel k) x g (node m b d t) → HasKey k t
     go x g (inl w) =
         let r : k ≡ l .key = key-eq (w .0 ∙ sym y) in
         absurd (before-no-key l s z e u (rw r at i))
@@ -28,7 +29,7 @@ later-key l m a b c d s t y z e u k h i = let j = h (i .0, i .1, inr (i .2)) in 
 
 module _ (eq : Equivalence) where
   pub keys-has : (c d : CountingType) → Tagged eq true c → Tagged eq true d → siblingKeys c ≡ siblingKeys d →
-      (k a : ℕ) (g : CountingType) → Addend (fieldLabel k) a g c → HasKey k d
+      (k : ℕ) (a : Payload) (g : CountingType) → Addend (fieldLabel k) a g c → HasKey k d
   unfolding siblingKeys
   keys-has nil d p q e k x g i = absurd i
   keys-has (node l a c s) nil p q e k x g i = let z : _≡_ {A = ℕ} 0 1 = cc in absurd (omega arith)

@@ -6,6 +6,7 @@ use Prim.Native.Nat.{ℕ}
 use native.Mathlib.Omega.{arith}
 use borrow.Author.Tests.{eqb-true, eq-eqb}
 use Rattle.value_table.specs.Value.{recordKind}
+use Rattle.counting_theory.specs.Payload.{Payload}
 use Rattle.counting_theory.specs.Trie.{nil, node, Sorted}
 use Rattle.counting_theory.specs.Label.{Equivalence, byKind, byLabel, Label, listed, Counting, CountingType}
 use Rattle.counting_theory.specs.Encoding.{siblingKeys, Tagged}
@@ -21,13 +22,13 @@ record Sibling (eq : Equivalence) (field : Bool) (l : Label) (c : CountingType) 
   inside : Tagged eq (holdsFields field l) c
   sorted : Sorted Counting c
 
-addend-parts : (eq : Equivalence) (field : Bool) (l : Label) (a : ℕ) (c f : CountingType) → Tagged eq field f → Addend l a c f →
+addend-parts : (eq : Equivalence) (field : Bool) (l : Label) (a : Payload) (c f : CountingType) → Tagged eq field f → Addend l a c f →
     Shape eq field l c × Tagged eq (holdsFields field l) c
 addend-parts eq field l a c nil p i = absurd i
 addend-parts eq field l a c (node x b d s) p (inl z) = let r = tagged-parts eq field x b d s p in rw (z .0, z .2) (r .0, r .1)
 addend-parts eq field l a c (node x b d s) p (inr i) = addend-parts eq field l a c s (tagged-parts eq field x b d s p .2) i
 
-addend-sibling : (eq : Equivalence) (field : Bool) (l : Label) (a : ℕ) (c f : CountingType) → Tagged eq field f → Sorted Counting f → Addend l a c f → Sibling eq field l c
+addend-sibling : (eq : Equivalence) (field : Bool) (l : Label) (a : Payload) (c f : CountingType) → Tagged eq field f → Sorted Counting f → Addend l a c f → Sibling eq field l c
 addend-sibling eq field l a c f p u i =
     let r = addend-parts eq field l a c f p i in
     record { shape = r .0; inside = r .1; sorted = addend-sorted l a c f u i }

@@ -3,7 +3,7 @@ use mathlib.Core.Path.{refl, sym}
 use mathlib.Core.Bool.{Bool}
 use mathlib.Core.Logic.{_⊎_, inl, inr}
 use mathlib.Core.List.{_∷_}
-use Prim.Native.Nat.{ℕ, _+_}
+use Rattle.counting_theory.specs.Payload.{Payload, join}
 use Rattle.counting_theory.specs.Trie.{nil, node, _⊞_ as joinOption, lookup, reduce, Sorted}
 use Rattle.counting_theory.specs.Label.{Equivalence, Label, Counting, CountingType}
 use Rattle.counting_theory.specs.Encoding.{Tagged}
@@ -32,10 +32,10 @@ module _ (eq : Equivalence) where
 
   module _ (field : Bool) (f g : CountingType) (p : Tagged eq field f) (q : Tagged eq field g) (u : Sorted Counting f) (v : Sorted Counting g) where
     -- an addend of f stands alone in g exactly if g has no addend with its label
-    missing-alone : (l : Label) (a : ℕ) (c : CountingType) → Addend l a c f → Missing l g → Alone eq l c g
+    missing-alone : (l : Label) (a : Payload) (c : CountingType) → Addend l a c f → Missing l g → Alone eq l c g
     missing-alone l a c i h m b d j r = missing-not l g v h (b, d, rw (labels-relate eq field f g p q u v l m a b c d i j .1 r) j)
 
-    alone-missing : (l : Label) (a : ℕ) (c : CountingType) → Addend l a c f → Alone eq l c g → Missing l g
+    alone-missing : (l : Label) (a : Payload) (c : CountingType) → Addend l a c f → Alone eq l c g → Missing l g
     alone-missing l a c i h = go (find l g v)
       where
         go : Has l g ⊎ Missing l g → Missing l g
@@ -47,14 +47,14 @@ module _ (eq : Equivalence) where
     w = sorted-reduce counting-laws f g u v
 
     module _ (l : Label) where
-      merged-addend : (a₁ a₂ : ℕ) (c₁ c₂ : CountingType) → Addend l a₁ c₁ f → Addend l a₂ c₂ g → Addend l (a₁ + a₂) (reduce Counting c₁ c₂) (reduce Counting f g)
+      merged-addend : (a₁ a₂ : Payload) (c₁ c₂ : CountingType) → Addend l a₁ c₁ f → Addend l a₂ c₂ g → Addend l (join a₁ a₂) (reduce Counting c₁ c₂) (reduce Counting f g)
       merged-addend a₁ a₂ c₁ c₂ i j =
-          found-addend l (a₁ + a₂) (reduce Counting c₁ c₂) (reduce Counting f g) w
+          found-addend l (join a₁ a₂) (reduce Counting c₁ c₂) (reduce Counting f g) w
           (sorted-reduce counting-laws c₁ c₂ (addend-sorted l a₁ c₁ f u i) (addend-sorted l a₂ c₂ g v j))
           (λ x. rw (lookup-reduce counting-laws f g (l ∷ x), lookup-reduce counting-laws c₁ c₂ x, addend-found l a₁ c₁ f u i x, addend-found l a₂ c₂ g v j x)
           (sym (atEnd-join counting-laws a₁ a₂ (lookup Counting c₁ x) (lookup Counting c₂ x) x)))
 
-      to-addend : (a : ℕ) (c : CountingType) → ReduceAddend eq f g l a c → Addend l a c (reduce Counting f g)
+      to-addend : (a : Payload) (c : CountingType) → ReduceAddend eq f g l a c → Addend l a c (reduce Counting f g)
       unfolding joinOption
       to-addend a c (merged m a₁ a₂ c₁ c₂ i j r x y) =
           let e = labels-relate eq field f g p q u v l m a₁ a₂ c₁ c₂ i j .1 r in
@@ -66,11 +66,11 @@ module _ (eq : Equivalence) where
           found-addend l a c (reduce Counting f g) w (addend-sorted l a c g v i)
           (λ x. rw (lookup-reduce counting-laws f g (l ∷ x), addend-found l a c g v i x, alone-missing field g f q p v u l a c i h x) refl)
 
-      some-addend : Has l f ⊎ Missing l f → Has l g ⊎ Missing l g → ((a : ℕ) × (c : CountingType) × ReduceAddend eq f g l a c) ⊎ Missing l (reduce Counting f g)
+      some-addend : Has l f ⊎ Missing l f → Has l g ⊎ Missing l g → ((a : Payload) × (c : CountingType) × ReduceAddend eq f g l a c) ⊎ Missing l (reduce Counting f g)
       unfolding joinOption
       some-addend (inl i) (inl j) =
           inl (
-            i .0 + j .0,
+            join (i .0) (j .0),
             reduce Counting (i .1) (j .1),
             merged l (i .0) (j .0) (i .1) (j .1) (i .2) (j .2)
                 (labels-relate eq field f g p q u v l l (i .0) (j .0) (i .1) (j .1) (i .2) (j .2) .0 refl) refl refl,
@@ -79,10 +79,10 @@ module _ (eq : Equivalence) where
       some-addend (inr n) (inl j) = inl (j .0, j .1, second (j .2) (missing-alone field g f q p v u l (j .0) (j .1) (j .2) n))
       some-addend (inr n) (inr n′) = inr (λ x. rw (lookup-reduce counting-laws f g (l ∷ x), n x, n′ x) refl)
 
-      from-addend : (a : ℕ) (c : CountingType) → Addend l a c (reduce Counting f g) → ReduceAddend eq f g l a c
+      from-addend : (a : Payload) (c : CountingType) → Addend l a c (reduce Counting f g) → ReduceAddend eq f g l a c
       from-addend a c i = go (some-addend (find l f u) (find l g v))
         where
-          go : ((b : ℕ) × (d : CountingType) × ReduceAddend eq f g l b d) ⊎ Missing l (reduce Counting f g) → ReduceAddend eq f g l a c
+          go : ((b : Payload) × (d : CountingType) × ReduceAddend eq f g l b d) ⊎ Missing l (reduce Counting f g) → ReduceAddend eq f g l a c
           go (inl n) =
               let x = addend-sorted l a c (reduce Counting f g) w i in
               let y = addend-found l a c (reduce Counting f g) w i in

@@ -5,6 +5,7 @@ use mathlib.Core.List.{_∷_}
 use Prim.Native.Nat.{ℕ, compare, Ordering, Ordering·lt as less, Ordering·eq as same, Ordering·gt as greater}
 use lib.Dec.{isLe, isEq}
 use Rattle.value_table.specs.Value.{member}
+use Rattle.counting_theory.specs.Payload.{oneField}
 use Rattle.counting_theory.specs.Trie.{nil, node, reduceStep, reduceNode, reduce}
 use Rattle.counting_theory.specs.Label.{Equivalence, fieldLabel, compareLabel, Counting, CountingType}
 use Rattle.counting_theory.specs.Raw.{insertKey}
@@ -26,15 +27,15 @@ module _ (eq : Equivalence) where
 
   -- a new field takes the place of its key
   pub keys-insert : (k : ℕ) (c g : CountingType) → Tagged eq true g → member k (siblingKeys g) ≡ false →
-      siblingKeys (reduce Counting (node (fieldLabel k) 1 c nil) g) ≡ insertKey k (siblingKeys g)
+      siblingKeys (reduce Counting (node (fieldLabel k) oneField c nil) g) ≡ insertKey k (siblingKeys g)
   unfolding siblingKeys insertKey member reduce reduceNode reduceStep
   keys-insert k c nil p h = refl
   keys-insert k c (node m b d t) p h =
       rw (ap (compareLabel (fieldLabel k)) (p .0) ∙ compare-fields k (m .key)) (go (compare k (m .key)) h (keys-insert k c t (p .2)))
     where
       go : (o : Ordering) → (isEq o || member k (siblingKeys t)) ≡ false →
-          (member k (siblingKeys t) ≡ false → siblingKeys (reduce Counting (node (fieldLabel k) 1 c nil) t) ≡ insertKey k (siblingKeys t)) →
-          siblingKeys (reduceStep Counting o (fieldLabel k) 1 c (reduce Counting c) (reduce Counting nil) m b d t (reduce Counting (node (fieldLabel k) 1 c nil) t))
+          (member k (siblingKeys t) ≡ false → siblingKeys (reduce Counting (node (fieldLabel k) oneField c nil) t) ≡ insertKey k (siblingKeys t)) →
+          siblingKeys (reduceStep Counting o (fieldLabel k) oneField c (reduce Counting c) (reduce Counting nil) m b d t (reduce Counting (node (fieldLabel k) oneField c nil) t))
           ≡ cond (isLe o) (k ∷ (m .key ∷ siblingKeys t)) (m .key ∷ insertKey k (siblingKeys t))
       go less h i = refl
       go same h i = cc

@@ -5,6 +5,7 @@ use mathlib.Core.List.{List, []}
 use Prim.Native.Nat.{ℕ}
 use lib.Dec.{eqb}
 use Rattle.value_table.specs.Value.{recordKind}
+use Rattle.counting_theory.specs.Payload.{Payload}
 use Rattle.counting_theory.specs.Trie.{node}
 use Rattle.counting_theory.specs.Label.{Equivalence, byKind, byLabel, Label, fieldKind, listed, labelOf, fieldLabel, CountingType}
 use Rattle.counting_theory.specs.Encoding.{siblingKeys, AddendShape, Tagged}
@@ -43,11 +44,11 @@ listed-cong eq kind xs ys h = listed-change eq kind ys ys xs (λ t e. h t) refl
 abbrev pub Parts : Equivalence → Bool → Label → CountingType → CountingType → Type 0
 Parts eq field l c s = Shape eq field l c × Tagged eq (holdsFields field l) c × Tagged eq field s
 
-pub tagged-parts : (eq : Equivalence) (field : Bool) (l : Label) (a : ℕ) (c s : CountingType) → Tagged eq field (node l a c s) → Parts eq field l c s
+pub tagged-parts : (eq : Equivalence) (field : Bool) (l : Label) (a : Payload) (c s : CountingType) → Tagged eq field (node l a c s) → Parts eq field l c s
 tagged-parts eq true l a c s h = h
 tagged-parts eq false l a c s h = h
 
-pub parts-tagged : (eq : Equivalence) (field : Bool) (l : Label) (a : ℕ) (c s : CountingType) → Parts eq field l c s → Tagged eq field (node l a c s)
+pub parts-tagged : (eq : Equivalence) (field : Bool) (l : Label) (a : Payload) (c s : CountingType) → Parts eq field l c s → Tagged eq field (node l a c s)
 parts-tagged eq true l a c s h = h
 parts-tagged eq false l a c s h = h
 

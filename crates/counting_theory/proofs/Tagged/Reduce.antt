@@ -1,7 +1,8 @@
 -- The merge of two types is a type.
 use mathlib.Core.Path.{_≡_, refl, sym, _∙_}
 use mathlib.Core.Bool.{Bool, true, false}
-use Prim.Native.Nat.{ℕ, _+_, Ordering, Ordering·lt as less, Ordering·eq as same, Ordering·gt as greater}
+use Prim.Native.Nat.{Ordering, Ordering·lt as less, Ordering·eq as same, Ordering·gt as greater}
+use Rattle.counting_theory.specs.Payload.{Payload, join}
 use Rattle.counting_theory.specs.Trie.{nil, node, reduceStep, reduceNode, reduce}
 use Rattle.counting_theory.specs.Label.{Equivalence, Label, listed, compareLabel, Counting, CountingType}
 use Rattle.counting_theory.specs.Encoding.{siblingKeys, Tagged}
@@ -25,7 +26,7 @@ module _ (eq : Equivalence) where
         scalar = λ k. rw (h .scalar k, i .scalar k) refl;
       }
 
-  module _ (field : Bool) (l : Label) (a : ℕ) (c s : CountingType) (p : Parts eq field l c s) where
+  module _ (field : Bool) (l : Label) (a : Payload) (c s : CountingType) (p : Parts eq field l c s) where
     abbrev merge : CountingType → CountingType
     merge = reduceNode Counting l a c (reduce Counting c) (reduce Counting s)
 
@@ -44,7 +45,7 @@ module _ (eq : Equivalence) where
         go less e i = parts-tagged eq field l a c (reduce Counting s (node k b d t)) (p .0, p .1, hs (node k b d t) q)
         go same e i =
             let r′ : Parts eq field l d t = rw (label-order .compare-eq e) r in
-            parts-tagged eq field l (a + b) (reduce Counting c d) (reduce Counting s t) (shape-reduce field l c d (p .0) (r′ .0) (p .1) (r′ .1), hc d (r′ .1), hs t (r′ .2))
+            parts-tagged eq field l (join a b) (reduce Counting c d) (reduce Counting s t) (shape-reduce field l c d (p .0) (r′ .0) (p .1) (r′ .1), hc d (r′ .1), hs t (r′ .2))
         go greater e i = parts-tagged eq field k b d (merge t) (r .0, r .1, i)
 
   pub tagged-reduce : (field : Bool) (f g : CountingType) → Tagged eq field f → Tagged eq field g → Tagged eq field (reduce Counting f g)

@@ -2,16 +2,17 @@
 use mathlib.Core.Path.{_≡_, refl, _∙_, ap}
 use mathlib.Core.Bool.{Bool, true, false, cond}
 use mathlib.Core.List.{List, [], _∷_}
+use Rattle.counting_theory.specs.Payload.{oneField}
 use Rattle.counting_theory.specs.Trie.{lookup}
 use Rattle.counting_theory.specs.Label.{Equivalence, Label, fieldLabel, Counting, CountingType}
 use Rattle.counting_theory.specs.Raw.{raw, profileOf}
-use Rattle.counting_theory.specs.Place.{Value, valuesOf, elements, under, sameLabel, ofClass, Reached, values, field, follow, countReached, countFrom, valuesAt, present, Counts}
+use Rattle.counting_theory.specs.Place.{Value, valuesOf, elements, under, sameLabel, ofClass, Reached, values, field, follow, having, payloadReached, payloadFrom, payloadAt, Counts}
 use Rattle.counting_theory.proofs.Label.{counting-laws}
 use Rattle.counting_theory.proofs.Trie.Canonical.{lookup-root}
 use Rattle.counting_theory.proofs.Trie.Profile.{lookup-profile}
 use Rattle.counting_theory.proofs.Values.Every.{EachValid, valid-class, valid-values, valid-elements, valid-under}
 use Rattle.counting_theory.proofs.Values.Labels.{same-label}
-use Rattle.counting_theory.proofs.Values.Tally.{tally}
+use Rattle.counting_theory.proofs.Values.Tally.{tally, gathered-same}
 use Rattle.counting_theory.proofs.Values.Raw.{contents, rawOf, raw-values, lookup-class}
 use Rattle.counting_theory.proofs.Values.Contents.{contents-field, contents-element}
 use Rattle.counting_theory.proofs.Values.Having.{length-having}
@@ -28,10 +29,10 @@ module _ (e : Equivalence) where
   below (field k M) = rawOf e (under k M)
 
   abbrev Step : Reached → Reached → Label → Type 0
-  Step r s l = ValidReached s × ((q : List Label) → lookup Counting (below r) (l ∷ q) ≡ tally (countReached s) (lookup Counting (below s) q) q)
+  Step r s l = ValidReached s × ((q : List Label) → lookup Counting (below r) (l ∷ q) ≡ tally (payloadReached s) (lookup Counting (below s) q) q)
 
   step : (r : Reached) (l : Label) → ValidReached r → Step r (follow e r l) l
-  unfolding follow countReached
+  unfolding follow payloadReached
   step (field k M) l h = (valid-class e l (under k M) (valid-under k M h), λ q. lookup-class e l q (under k M))
   step (values M) l h = go (sameLabel l (fieldLabel (l .key))) refl
     where
@@ -39,17 +40,17 @@ module _ (e : Equivalence) where
       go true i = (
         h,
         λ q. ap (λ (m : Label). lookup Counting (contents e M) (m ∷ q)) (same-label l (fieldLabel (l .key)) i)
-            ∙ rw (← length-having (l .key) M h) (contents-field e (l .key) q M h),
+            ∙ rw (← gathered-same oneField (under (l .key) M) (having (l .key) M) (length-having (l .key) M h)) (contents-field e (l .key) q M h),
       )
       go false i = (valid-class e l (elements M) (valid-elements M h), λ q. contents-element e l q M h i ∙ lookup-class e l q (elements M))
 
-  counts-from : (q : List Label) (r : Reached) → ValidReached r → tally (countReached r) (lookup Counting (below r) q) q ≡ present (countFrom e r q)
-  unfolding tally countFrom
+  counts-from : (q : List Label) (r : Reached) → ValidReached r → tally (payloadReached r) (lookup Counting (below r) q) q ≡ payloadFrom e r q
+  unfolding tally payloadFrom
   counts-from [] r h = refl
   counts-from (l ∷ q) r h = let s = step r l h in s .1 q ∙ counts-from q (follow e r l) (s .0)
 
-  counts-raw : (M : List Value) → EachValid M → (q : List Label) → lookup Counting (rawOf e M) q ≡ present (valuesAt e M q)
-  unfolding valuesAt countReached
+  counts-raw : (M : List Value) → EachValid M → (q : List Label) → lookup Counting (rawOf e M) q ≡ payloadAt e M q
+  unfolding payloadAt payloadReached
   counts-raw M h [] = lookup-root counting-laws (rawOf e M)
   counts-raw M h (l ∷ q) = lookup-class e l q M ∙ counts-from q (values (ofClass e l M)) (valid-class e l M h)
 

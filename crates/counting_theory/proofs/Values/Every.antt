@@ -17,8 +17,8 @@ pub record ValidValue (v : Value) : Type 0 where
   pub field : Bool
   pub depth : ℕ
   pub key : ℕ
-  pub proper : Proper field depth (v .kind) key (v .content)
-  pub inner : ValidAt (eqb (v .kind) recordKind) (suc depth) (v .content)
+  pub proper : Proper field depth (v .head) key (v .content)
+  pub inner : ValidAt (eqb (v .head .kind) recordKind) (suc depth) (v .content)
 
 abbrev pub EachValid : List Value → Type 0
 EachValid M = Every ValidValue M
@@ -64,16 +64,16 @@ module _ (field : Bool) (depth : ℕ) where
   pub valid-values : (c : Values) → ValidAt field depth c → EachValid (valuesOf c)
   unfolding valuesOf ValidAt
   valid-values none h = tt
-  valid-values (value kind key content next) h =
+  valid-values (value head key content next) h =
       (record { field = field; depth = depth; key = key; proper = h .0; inner = h .1 }, valid-values next (h .2))
 
   valid-with : (k : ℕ) (c : Values) → ValidAt field depth c → EachValid (valuesWith k c)
   unfolding valuesWith ValidAt
   valid-with k none h = tt
-  valid-with k (value kind key content next) h = go (eqb k key) (valid-with k next (h .2))
+  valid-with k (value head key content next) h = go (eqb k key) (valid-with k next (h .2))
     where
       go : (b : Bool) → EachValid (valuesWith k next) →
-          EachValid (cond b (record { kind = kind; content = content } ∷ valuesWith k next) (valuesWith k next))
+          EachValid (cond b (record { head = head; content = content } ∷ valuesWith k next) (valuesWith k next))
       go true i = (record { field = field; depth = depth; key = key; proper = h .0; inner = h .1 }, i)
       go false i = i
 
@@ -81,10 +81,10 @@ pub valid-elements : (M : List Value) → EachValid M → EachValid (elements M)
 unfolding elements
 valid-elements =
     every-flatMap ValidValue elementsOf
-    (λ v h. every-cond ValidValue (eqb (v .kind) arrayKind) (valuesOf (v .content)) (valid-values _ _ (v .content) (h .inner)))
+    (λ v h. every-cond ValidValue (eqb (v .head .kind) arrayKind) (valuesOf (v .content)) (valid-values _ _ (v .content) (h .inner)))
 
 pub valid-under : (k : ℕ) (M : List Value) → EachValid M → EachValid (under k M)
 unfolding under
 valid-under k =
     every-flatMap ValidValue (fieldOf k)
-    (λ v h. every-cond ValidValue (eqb (v .kind) recordKind) (valuesWith k (v .content)) (valid-with _ _ k (v .content) (h .inner)))
+    (λ v h. every-cond ValidValue (eqb (v .head .kind) recordKind) (valuesWith k (v .content)) (valid-with _ _ k (v .content) (h .inner)))

@@ -15,17 +15,17 @@ use Rattle.counting_theory.proofs.Values.Every.{Every, ValidValue, Each
 with-none : (k : ℕ) (c : Values) → member k (keys c) ≡ false → valuesWith k c ≡ []
 unfolding keys member valuesWith
 with-none k none h = refl
-with-none k (value kind key content next) h =
+with-none k (value head key content next) h =
     let p = or-parts (eqb k key) (member k (keys next)) h in
     rw (p .0) (with-none k next (p .1))
 
 length-with : (k : ℕ) (c : Values) → Distinct (keys c) → length (valuesWith k c) ≡ cond (member k (keys c)) 1 0
 unfolding keys member Distinct valuesWith
 length-with k none d = refl
-length-with k (value kind key content next) d = go (eqb k key) refl (length-with k next (d .1))
+length-with k (value head key content next) d = go (eqb k key) refl (length-with k next (d .1))
   where
     v : Value
-    v = record { kind = kind; content = content }
+    v = record { head = head; content = content }
 
     go : (b : Bool) → eqb k key ≡ b → length (valuesWith k next) ≡ cond (member k (keys next)) 1 0 →
         length (cond b (v ∷ valuesWith k next) (valuesWith k next)) ≡ cond (b || member k (keys next)) 1 0
@@ -47,9 +47,9 @@ pub length-having : (k : ℕ) (M : List Value) → EachValid M → length (under
 unfolding under having
 length-having k M m = length-select (fieldOf k) _ M (every-map ValidValue _ one M m)
   where
-    one : (v : Value) → ValidValue v → length (fieldOf k v) ≡ cond (eqb (v .kind) recordKind && member k (keys (v .content))) 1 0
-    one v p = go (eqb (v .kind) recordKind) refl
+    one : (v : Value) → ValidValue v → length (fieldOf k v) ≡ cond (eqb (v .head .kind) recordKind && member k (keys (v .content))) 1 0
+    one v p = go (eqb (v .head .kind) recordKind) refl
       where
-        go : (b : Bool) → eqb (v .kind) recordKind ≡ b → length (cond b (valuesWith k (v .content)) []) ≡ cond (b && member k (keys (v .content))) 1 0
-        go true e = length-with k (v .content) (p .proper .distinct (eqb-true (v .kind) recordKind e))
+        go : (b : Bool) → eqb (v .head .kind) recordKind ≡ b → length (cond b (valuesWith k (v .content)) []) ≡ cond (b && member k (keys (v .content))) 1 0
+        go true e = length-with k (v .content) (p .proper .distinct (eqb-true (v .head .kind) recordKind e))
         go false e = refl

@@ -2,8 +2,9 @@
 use mathlib.Core.Path.{_≡_, refl, sym, _∙_, ap}
 use mathlib.Core.Bool.{Bool, true, false, true≢false}
 use mathlib.Core.List.{List, _∷_}
-use Prim.Native.Nat.{ℕ, Ordering, Ordering·lt as lt, Ordering·eq as eq, Ordering·gt as gt}
+use Prim.Native.Nat.{Ordering, Ordering·lt as lt, Ordering·eq as eq, Ordering·gt as gt}
 use lib.Dec.{isEq}
+use Rattle.counting_theory.specs.Payload.{Payload}
 use Rattle.counting_theory.specs.Trie.{node, atEnd, whenEqual, _⊞_ as joinOption, lookupNode, lookup}
 use Rattle.counting_theory.specs.Label.{Label, compareLabel, Counting, CountingType}
 use Rattle.counting_theory.specs.Place.{sameLabel}
@@ -32,7 +33,7 @@ module _ (l m : Label) where
   labels-differ h z = true≢false (sym (rw z (same-refl m)) ∙ h)
 
   -- a node with another label gives nothing
-  pub lookup-other : (a : ℕ) (c s : CountingType) (q : List Label) → sameLabel l m ≡ false →
+  pub lookup-other : (a : Payload) (c s : CountingType) (q : List Label) → sameLabel l m ≡ false →
       lookup Counting (node m a c s) (l ∷ q) ≡ lookup Counting s (l ∷ q)
   unfolding lookup lookupNode whenEqual joinOption
   lookup-other a c s q = go (compareLabel l m)

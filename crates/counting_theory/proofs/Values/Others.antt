@@ -57,7 +57,7 @@ module _ (test : Value → Bool) where
 
 module _ (e : Equivalence) (l : Label) where
   abbrev hasClass : Value → Bool
-  hasClass v = sameLabel l (classOf e (v .kind) (v .content))
+  hasClass v = sameLabel l (classOf e (v .head .kind) (v .content))
 
   unfoldable pub others : List Value → List Value
   others M = select (λ v. not (hasClass v)) M

@@ -4,15 +4,16 @@ use mathlib.Core.Logic.{inl, inr}
 use mathlib.Core.Bool.{Bool, true, false}
 use mathlib.Core.List.{List, [], _∷_, flatMap}
 use mathlib.Core.Option.{none as absent, some}
-use Prim.Native.Nat.{ℕ, zero, suc}
+use Prim.Native.Nat.{ℕ}
 use native.Mathlib.Omega.{arith}
 use lib.ListN.{length}
 use borrow.Author.Tests.{ne-eqb}
 use Rattle.value_table.specs.Value.{recordKind, arrayKind}
+use Rattle.counting_theory.specs.Payload.{Payload, oneField}
 use Rattle.counting_theory.specs.Trie.{nil, node, atEnd, lookup, SameMap, Sorted}
 use Rattle.counting_theory.specs.Label.{Equivalence, Label, fieldLabel, Counting, CountingType}
 use Rattle.counting_theory.specs.Raw.{classOf, raw, profileOf}
-use Rattle.counting_theory.specs.Place.{Value, valuesOf, elementsOf, elements, under, sameLabel, select, ofClass, present}
+use Rattle.counting_theory.specs.Place.{Value, valuesOf, elementsOf, elements, under, sameLabel, select, ofClass, _⊞_, gathered, valuePayload, countOf}
 use Rattle.counting_theory.specs.Published.{Addend, HasKey}
 use Rattle.counting_theory.specs.Meaning.{OfKind, Means, Sound}
 use Rattle.counting_theory.proofs.Label.{counting-laws}
@@ -22,18 +23,15 @@ use Rattle.counting_theory.proofs.Trie.Profile.{lookup-profile}
 use Rattle.counting_theory.proofs.Published.Addends.{addend-found}
 use Rattle.counting_theory.proofs.Values.Every.{EachValid, valid-class, valid-values, valid-elements, valid-under}
 use Rattle.counting_theory.proofs.Values.Labels.{same-refl, same-label, lookup-other}
-use Rattle.counting_theory.proofs.Values.Tally.{tally}
+use Rattle.counting_theory.proofs.Values.Tally.{tally, some-joined, number-gathered}
 use Rattle.counting_theory.proofs.Values.Raw.{contents, rawOf, raw-values, rawOf-append, lookup-class}
 use Rattle.counting_theory.proofs.Values.Contents.{inside-other, contents-field, contents-element}
 use Rattle.counting_theory.proofs.Values.Others.{others, class-perm, valid-others, class-kind, others-same, others-other}
 
-present-none : (M : List Value) → present (length M) ≡ absent → M ≡ []
-present-none [] h = refl
-present-none (v ∷ M) h = absurd (some-none h)
-
-present-some : (n a : ℕ) → present n ≡ some a → n ≡ a
-present-some zero a h = cc
-present-some (suc n) a h = cc
+gathered-none : (a : Payload) (M : List Value) → gathered (λ v. a) M ≡ absent → M ≡ []
+unfolding gathered
+gathered-none a [] h = refl
+gathered-none a (v ∷ M) h = absurd (some-none (sym (some-joined a (gathered (λ v. a) M) .1) ∙ h))
 
 elements-none : (M : List Value) → OfKind recordKind M → elements M ≡ []
 unfolding elements flatMap
@@ -56,22 +54,25 @@ module _ (e : Equivalence) where
   unfolding contents rawOf elements flatMap
   contents-arrays [] h k = refl
   contents-arrays (v ∷ M) h k =
-      rw (inside-other e v (h .0) (ne-eqb (v .kind) recordKind (λ z. omega arith)), contents-arrays M (h .1) (k .1), rawOf-append e (elementsOf v) (elements M)) refl
+      rw (inside-other e v (h .0) (ne-eqb (v .head .kind) recordKind (λ z. omega arith)), contents-arrays M (h .1) (k .1), rawOf-append e (elementsOf v) (elements M)) refl
 
   no-values : (M : List Value) → SameMap Counting nil (rawOf e M) → M ≡ []
-  unfolding lookup tally ofClass select
+  unfolding lookup tally ofClass select gathered
   no-values [] h = refl
   no-values (v ∷ M) h = absurd (some-none (sym has ∙ sym (h (l ∷ []))))
     where
       l : Label
-      l = classOf e (v .kind) (v .content)
+      l = classOf e (v .head .kind) (v .content)
 
-      has : lookup Counting (rawOf e (v ∷ M)) (l ∷ []) ≡ some (suc (length (ofClass e l M)))
-      has = lookup-class e l [] (v ∷ M) ∙ rw (same-refl l) refl
+      more : (b : Payload) × (some (valuePayload v) ⊞ gathered valuePayload (ofClass e l M) ≡ some b)
+      more = some-joined (valuePayload v) (gathered valuePayload (ofClass e l M))
+
+      has : lookup Counting (rawOf e (v ∷ M)) (l ∷ []) ≡ some (more .0)
+      has = lookup-class e l [] (v ∷ M) ∙ rw (same-refl l) (more .1)
 
   -- f has the map of M; or (field ≡ true) each field of f has that of its values
   abbrev Agrees : Bool → CountingType → List Value → Type 0
-  Agrees true f M = (l : Label) (a : ℕ) (d : CountingType) → Addend l a d f → SameMap Counting d (rawOf e (under (l .key) M))
+  Agrees true f M = (l : Label) (a : Payload) (d : CountingType) → Addend l a d f → SameMap Counting d (rawOf e (under (l .key) M))
   Agrees false f M = SameMap Counting f (rawOf e M)
 
   -- the children c of a node have the map of the contents of its values M
@@ -94,13 +95,15 @@ module _ (e : Equivalence) where
 
     no-other-keys : (k : ℕ) → ¬ HasKey k c → under k M ≡ []
     unfolding tally
-    no-other-keys k n = present-none (under k M) (sym (contents-field e k [] M v) ∙ sym (h (fieldLabel k ∷ [])) ∙ no-key k c n [])
+    no-other-keys k n = gathered-none oneField (under k M) (sym (contents-field e k [] M v) ∙ sym (h (fieldLabel k ∷ [])) ∙ no-key k c n [])
 
   -- the first node has the values of its class, its siblings have the others
-  module _ (l : Label) (a : ℕ) (c s : CountingType) (u : Sorted Counting (node l a c s)) (M : List Value) (h : SameMap Counting (node l a c s) (rawOf e M)) where
-    class-count : length (ofClass e l M) ≡ a
+  module _ (l : Label) (a : Payload) (c s : CountingType) (u : Sorted Counting (node l a c s)) (M : List Value) (h : SameMap Counting (node l a c s) (rawOf e M)) where
+    class-count : length (ofClass e l M) ≡ a .count
     unfolding tally atEnd
-    class-count = present-some _ a (sym (lookup-class e l [] M) ∙ sym (h (l ∷ [])) ∙ lookup-head counting-laws l a c s [] u)
+    class-count =
+        sym (number-gathered .0 (ofClass e l M))
+        ∙ ap countOf (sym (lookup-class e l [] M) ∙ sym (h (l ∷ [])) ∙ lookup-head counting-laws l a c s [] u)
 
     class-contents : SameMap Counting c (contents e (ofClass e l M))
     unfolding tally atEnd

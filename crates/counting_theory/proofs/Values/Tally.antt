@@ -1,41 +1,66 @@
--- Counts as a trie holds them, at the end of a path or below it.
-use mathlib.Core.Path.{_≡_, refl, _∙_, ap}
-use mathlib.Core.List.{List, [], _∷_}
-use mathlib.Core.Option.{Option, none}
-use Prim.Native.Nat.{ℕ, zero, suc, _+_}
-use native.Mathlib.Nat.{zero-add, suc-add, add-zero}
+-- What some values give together, as a trie holds it at the end of a path or below it.
+use mathlib.Core.Path.{_≡_, refl, sym, _∙_, ap}
+use mathlib.Core.List.{List, [], _∷_, _++_}
+use mathlib.Core.Option.{Option, none, some}
+use Prim.Native.Nat.{ℕ}
 use native.Mathlib.Omega.{arith}
+use lib.ListN.{length}
+use Rattle.counting_theory.specs.Payload.{Payload, one, oneField, join}
 use Rattle.counting_theory.specs.Trie.{atEnd, _⊞_ as joinOption}
-use Rattle.counting_theory.specs.Label.{Label, Counting}
-use Rattle.counting_theory.specs.Place.{present}
+use Rattle.counting_theory.specs.Label.{Label}
+use Rattle.counting_theory.specs.Place.{Value, _⊞_, gathered, valuePayload, countOf, NumberGathered}
+use Rattle.counting_theory.proofs.Payload.{count-join, count-one, count-field}
+use Rattle.counting_theory.proofs.Label.{counting-laws}
+use Rattle.counting_theory.proofs.Trie.Join.{⊞-assoc}
 
-infixr 66 _⊞_
-abbrev pub _⊞_ : Option ℕ → Option ℕ → Option ℕ
-x ⊞ y = joinOption Counting x y
+-- x at a path's end, else what stands below
+unfoldable pub tally : Option Payload → Option Payload → List Label → Option Payload
+tally x below [] = x
+tally x below (l ∷ q) = below
 
--- n at a path's end, else what stands below
-unfoldable pub tally : ℕ → Option ℕ → List Label → Option ℕ
-tally n below [] = present n
-tally n below (x ∷ q) = below
-
-present-add : (m n : ℕ) → present (m + n) ≡ present m ⊞ present n
-unfolding joinOption
-present-add zero n = rw (zero-add n) refl
-present-add (suc m) zero = rw (add-zero (suc m)) refl
-present-add (suc m) (suc n) = rw (suc-add m (suc n)) refl
-
-pub tally-join : (m n : ℕ) (x y : Option ℕ) (q : List Label) → tally (m + n) (x ⊞ y) q ≡ tally m x q ⊞ tally n y q
+pub tally-join : (x x′ y y′ : Option Payload) (q : List Label) → tally (x ⊞ x′) (y ⊞ y′) q ≡ tally x y q ⊞ tally x′ y′ q
 unfolding tally
-tally-join m n x y [] = present-add m n
-tally-join m n x y (z ∷ q) = refl
+tally-join x x′ y y′ [] = refl
+tally-join x x′ y y′ (z ∷ q) = refl
 
 -- one more
-pub tally-suc : (n : ℕ) (x y : Option ℕ) (q : List Label) → tally (suc n) (x ⊞ y) q ≡ atEnd 1 x q ⊞ tally n y q
+pub tally-suc : (a : Payload) (x y z : Option Payload) (q : List Label) → tally (some a ⊞ x) (y ⊞ z) q ≡ atEnd a y q ⊞ tally x z q
 unfolding tally atEnd
-tally-suc n x y [] = ap present (let z : suc n ≡ 1 + n = omega arith in z) ∙ present-add 1 n
-tally-suc n x y (z ∷ q) = refl
+tally-suc a x y z [] = refl
+tally-suc a x y z (l ∷ q) = refl
 
-pub tally-zero : (q : List Label) → tally 0 none q ≡ none
+pub tally-none : (q : List Label) → tally none none q ≡ none
 unfolding tally
-tally-zero [] = refl
-tally-zero (x ∷ q) = refl
+tally-none [] = refl
+tally-none (x ∷ q) = refl
+
+pub some-joined : (a : Payload) (x : Option Payload) → (b : Payload) × (some a ⊞ x ≡ some b)
+unfolding joinOption
+some-joined a none = (a, refl)
+some-joined a (some b) = (join a b, refl)
+
+module _ (give : Value → Payload) where
+  pub gathered-append : (M N : List Value) → gathered give (M ++ N) ≡ gathered give M ⊞ gathered give N
+  unfolding gathered joinOption
+  gathered-append [] N = refl
+  gathered-append (v ∷ M) N = ap (λ x. some (give v) ⊞ x) (gathered-append M N) ∙ sym (⊞-assoc counting-laws (some (give v)) (gathered give M) (gathered give N))
+
+  count-gathered : ((v : Value) → give v .count ≡ 1) → (M : List Value) → countOf (gathered give M) ≡ length M
+  unfolding gathered joinOption
+  count-gathered h [] = refl
+  count-gathered h (v ∷ M) = more (gathered give M) (count-gathered h M)
+    where
+      more : (x : Option Payload) → countOf x ≡ length M → countOf (some (give v) ⊞ x) ≡ length (v ∷ M)
+      more none i = omega (arith, h v)
+      more (some b) i = omega (arith, h v, count-join (give v) b)
+
+-- where all give the same, only their number matters
+pub gathered-same : (a : Payload) (M N : List Value) → length M ≡ length N → gathered (λ v. a) M ≡ gathered (λ v. a) N
+unfolding gathered
+gathered-same a [] [] h = refl
+gathered-same a [] (w ∷ N) h = absurd (omega arith)
+gathered-same a (v ∷ M) [] h = absurd (omega arith)
+gathered-same a (v ∷ M) (w ∷ N) h = ap (λ x. some a ⊞ x) (gathered-same a M N (omega arith))
+
+pub number-gathered : NumberGathered
+number-gathered = (count-gathered valuePayload (λ v. count-one (v .head) (v .content)), count-gathered (λ v. oneField) (λ v. count-field))

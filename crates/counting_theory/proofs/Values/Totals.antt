@@ -6,16 +6,18 @@ use native.Mathlib.Omega.{arith}
 use lib.Dec.{eqb}
 use borrow.Author.Tests.{ne-eqb}
 use Rattle.value_table.specs.Value.{Values, none, value, recordKind, ValidAt, Valid}
+use Rattle.counting_theory.specs.Payload.{Payload}
 use Rattle.counting_theory.specs.Trie.{nil, node, insertStep, insert, add, reduce, Sorted, total}
 use Rattle.counting_theory.specs.Label.{Equivalence, Label, fieldKind, compareLabel, Counting, CountingType}
 use Rattle.counting_theory.specs.Raw.{raw, profileOf}
 use Rattle.counting_theory.specs.Place.{FieldTotals}
+use Rattle.counting_theory.proofs.Payload.{count-join, count-one, count-field}
 use Rattle.counting_theory.proofs.Label.{label-order, counting-laws}
 use Rattle.counting_theory.proofs.Trie.Growth.{total-add}
 use Rattle.counting_theory.proofs.Trie.Profile.{reduce-add}
 
 -- the node l a c is inserted, and g adds its children c
-module _ (l : Label) (a : ℕ) (c : CountingType) (g : CountingType → CountingType) (field : l .kind ≡ fieldKind → a ≡ total Counting c)
+module _ (l : Label) (a : Payload) (c : CountingType) (g : CountingType → CountingType) (field : l .kind ≡ fieldKind → a .count ≡ total Counting c)
     (adds : (d : CountingType) → total Counting (g d) ≡ total Counting c + total Counting d)
     (keeps : (d : CountingType) → FieldTotals d → FieldTotals (g d)) where
   insert-totals : (f : CountingType) → FieldTotals f → FieldTotals (insert Counting l a g f)
@@ -25,7 +27,7 @@ module _ (l : Label) (a : ℕ) (c : CountingType) (g : CountingType → Counting
     where
       go : (o : Ordering) → compareLabel l k ≡ o → FieldTotals (insert Counting l a g s) → FieldTotals (insertStep Counting o l a g k b d s (insert Counting l a g s))
       go lt e i = (λ j. omega (arith, field j, adds nil), keeps nil tt, h)
-      go eq e i = (λ j. omega (arith, field (ap (λ (m : Label). m .kind) (label-order .compare-eq e) ∙ j), h .0 j, adds d), keeps d (h .1), h .2)
+      go eq e i = (λ j. omega (arith, count-join b a, field (ap (λ (m : Label). m .kind) (label-order .compare-eq e) ∙ j), h .0 j, adds d), keeps d (h .1), h .2)
       go gt e i = (h .0, h .1, i)
 
 add-totals : (r f : CountingType) → FieldTotals r → FieldTotals f → FieldTotals (add Counting r f)
@@ -38,13 +40,13 @@ add-totals (node l a c s) f h i =
 raw-totals : (e : Equivalence) (field : Bool) (depth : ℕ) (c : Values) → ValidAt field depth c → FieldTotals (raw e field c)
 unfolding raw ValidAt total
 raw-totals e field depth none h = tt
-raw-totals e true depth (value kind key content next) h = (
-  λ i. rw (ne-eqb kind fieldKind (λ z. omega arith)) refl,
-  (λ i. omega arith, raw-totals e (eqb kind recordKind) (suc depth) content (h .1), tt),
+raw-totals e true depth (value head key content next) h = (
+  λ i. rw (ne-eqb (head .kind) fieldKind (λ z. omega arith)) (omega (arith, count-field, count-one head content)),
+  (λ i. omega arith, raw-totals e (eqb (head .kind) recordKind) (suc depth) content (h .1), tt),
   raw-totals e true depth next (h .2),
 )
-raw-totals e false depth (value kind key content next) h =
-    (λ i. omega arith, raw-totals e (eqb kind recordKind) (suc depth) content (h .1), raw-totals e false depth next (h .2))
+raw-totals e false depth (value head key content next) h =
+    (λ i. omega arith, raw-totals e (eqb (head .kind) recordKind) (suc depth) content (h .1), raw-totals e false depth next (h .2))
 
 pub profile-totals : (e : Equivalence) (messages : Values) → Valid messages → FieldTotals (profileOf e messages)
 unfolding profileOf

@@ -13,15 +13,16 @@ use Rattle.value_table.specs.Acceptance.{Table}
 use Rattle.value_table.proofs.Acceptance.{accepts}
 use Rattle.value_table.proofs.Header.{length-encode as table-length}
 use Rattle.value_table.proofs.Fault.{length-fits}
-use Rattle.counting_theory.specs.Trie.{reduce, largestTotal}
+use Rattle.counting_theory.specs.Trie.{reduce}
 use Rattle.counting_theory.specs.Label.{Equivalence, byKind, byLabel, Counting, CountingType}
 use Rattle.counting_theory.specs.Raw.{profileOf}
 use Rattle.counting_theory.specs.Encoding.{typeSize, encode, typeOf}
-use Rattle.counting_theory.specs.WellFormed.{maxTotal, wellFormed, badTypeLength, IsType}
+use Rattle.counting_theory.specs.WellFormed.{withinLimit, wellFormed, badTypeLength, IsType}
 use Rattle.counting_theory.specs.Answers.{numberOf, equivalenceOf, houseDefault, inferred, inferredDefault, merged, mergedTypes}
 use Rattle.counting_theory.specs.Ways.{Accepted}
 use Rattle.counting_theory.proofs.Encoding.Header.{length-encode}
 use Rattle.counting_theory.proofs.Encoding.Bytes.{bytes-encode}
+use Rattle.counting_theory.proofs.WellFormed.Limit.{totals-limit}
 use Rattle.counting_theory.proofs.WellFormed.Whole.{type-unique, well-formed-type}
 use Rattle.counting_theory.proofs.Ways.Weights.{largest-values}
 
@@ -43,8 +44,8 @@ module _ (e : Equivalence) (n : ℕ) (allowed : badTypeLength n ≡ false) (b : 
   unfolding inferred
   inferred-profile arena work i j =
       let f = profileOf e (messages b) in
-      let low : largestTotal Counting f ≤ maxTotal = omega (arith, largest-values e (messages b), accepted-table b a .room) in
-      rw (i, j, accepted-length b a, allowed, eq-eqb n n refl, equivalence-of e, a .1 .1, le-ltb maxTotal (largestTotal Counting f) low) refl
+      let low : withinLimit f ≡ true = totals-limit f (omega (arith, largest-values e (messages b), accepted-table b a .room)) in
+      rw (i, j, accepted-length b a, allowed, eq-eqb n n refl, equivalence-of e, a .1 .1, low) refl
 
   pub default-profile : houseDefault ≡ e → (arena work : ℕ) → arena ≡ n → work ≡ n → inferredDefault b arena work ≡ mergedTypes (profileOf e (messages b)) n
   default-profile h arena work i j = ap (λ x. inferred b (numberOf x) arena work) h ∙ inferred-profile arena work i j
@@ -59,7 +60,7 @@ module _ (e : Equivalence) where
   encode-formed : (f : CountingType) → IsType e (encode f) f → wellFormed e (encode f) ≡ true
   encode-formed f t =
       let u : IsType e (encode f) (typeOf e (encode f)) = rw (← type-unique e (encode f) f t) t in
-      well-formed-type e (encode f) (bytes-encode e false f (t .tagged)) (encode-length f t) .1 u
+      well-formed-type e (encode f) (bytes-encode f) (encode-length f t) .1 u
 
   pub merged-types : (f g : CountingType) (n arena : ℕ) → badTypeLength n ≡ false → arena ≡ n → IsType e (encode f) f → IsType e (encode g) g →
       merged (encode f) (encode g) (numberOf e) arena ≡ mergedTypes (reduce Counting f g) n

@@ -19,6 +19,8 @@ use Rattle.counting_theory.specs.Ways.{Call, infer, inferDefault, merge,
 use Rattle.counting_theory.proofs.Trie.Canonical.{some-none}
 use Rattle.counting_theory.proofs.WellFormed.Closed.{profile-type}
 use Rattle.counting_theory.proofs.WellFormed.Whole.{type-length}
+use Rattle.counting_theory.proofs.WellFormed.Profile.{EachFits, fits-run}
+use Rattle.counting_theory.proofs.Ways.Same.{fits-join}
 use Rattle.counting_theory.proofs.Ways.Join.{reduce-join, valid-join}
 use Rattle.counting_theory.proofs.Ways.Pull.{Pulled, pulled}
 use Rattle.counting_theory.proofs.Ways.Calls.{accepted-table, inferred-profile, default-profile, merged-types}
@@ -46,6 +48,7 @@ module _ (e : Equivalence) (n : ℕ) where
   record HandType : Type 0 where
     inputs : Values
     valid : Valid inputs
+    fits : EachFits inputs
     within : WithinLimits n (profileOf e inputs)
 
   abbrev handBytes : HandType → List ℕ
@@ -56,7 +59,7 @@ module _ (e : Equivalence) (n : ℕ) where
 
   module _ (allowed : badTypeLength n ≡ false) (t : CountingType) where
     hand-type : (x : HandType) → IsType e (handBytes x) (profileOf e (x .inputs))
-    hand-type x = profile-type e (x .inputs) (x .valid) (omega (arith, type-length n allowed)) (x .within .0)
+    hand-type x = profile-type e (x .inputs) (x .valid) (x .fits) (omega (arith, type-length n allowed)) (x .within .0)
 
     merged-hand : (x y : HandType) (arena : ℕ) → arena ≡ n → merged (handBytes x) (handBytes y) (numberOf e) arena ≡ mergedTypes (profileOf e (joinValues (x .inputs) (y .inputs))) n
     merged-hand x y arena fixed =
@@ -77,21 +80,21 @@ module _ (e : Equivalence) (n : ℕ) where
     RunEnds calls hand = Whole e t (planMessages calls) (map handRaw hand) → EndsOn hand (run e calls (map handBytes hand))
 
     -- a call that writes the profile of ms
-    call-ends : (calls : List Call) (hand : List HandType) (ms : Values) (arena work : List ℕ) → Valid ms → length arena ≡ n →
+    call-ends : (calls : List Call) (hand : List HandType) (ms : Values) (arena work : List ℕ) → Valid ms → EachFits ms → length arena ≡ n →
         Whole e t (planMessages calls) (raw e false ms ∷ map handRaw hand) → ((x : HandType) → RunEnds calls (x ∷ hand)) →
         let w = mergedTypes (profileOf e ms) n in
         Ends n t (goOn w (leaves w arena work) (λ b. run e calls (b ∷ map handBytes hand)))
-    call-ends calls hand ms arena work valid fixed w later =
+    call-ends calls hand ms arena work valid fits fixed w later =
         written-ends n t (profileOf e ms) arena work fixed (λ b. run e calls (b ∷ map handBytes hand))
         (whole-part e t (planMessages calls) ms (map handRaw hand) w)
-        (λ h. later (record { inputs = ms; valid = valid; within = h }) w)
+        (λ h. later (record { inputs = ms; valid = valid; fits = fits; within = h }) w)
 
     read-ends : (calls : List Call) (hand : List HandType) (source arena work : List ℕ) → Accepted source → length arena ≡ n →
         Whole e t (joinValues (messages source) (planMessages calls)) (map handRaw hand) → ((x : HandType) → RunEnds calls (x ∷ hand)) →
         let w = mergedTypes (profileOf e (messages source)) n in
         Ends n t (goOn w (leaves w arena work) (λ b. run e calls (b ∷ map handBytes hand)))
     read-ends calls hand source arena work a fixed w =
-        call-ends calls hand (messages source) arena work (accepted-table source a .valid) fixed
+        call-ends calls hand (messages source) arena work (accepted-table source a .valid) (fits-run (messages source) (accepted-table source a .room)) fixed
         (whole-read e t (messages source) (planMessages calls) (map handRaw hand) w)
 
     merge-ends : (calls : List Call) (hand : List HandType) (i j : ℕ) (arena : List ℕ) (p : Pulled handBytes i hand) (q : Pulled handBytes j (p .others)) →
@@ -102,7 +105,8 @@ module _ (e : Equivalence) (n : ℕ) where
         let y = q .entry in
         let same = Permᴰ·map handRaw (List·Permᴰ·trans (p .same) (List·Permᴰ·cons refl (q .same))) in
         rw (run-merge e i j arena calls _ _ _ _ _ (p .found) (q .found), merged-hand x y (length arena) fixed)
-        (call-ends calls (q .others) (joinValues (x .inputs) (y .inputs)) arena [] (valid-join (x .inputs) (y .inputs) (x .valid) (y .valid)) fixed
+        (call-ends calls (q .others) (joinValues (x .inputs) (y .inputs)) arena [] (valid-join (x .inputs) (y .inputs) (x .valid) (y .valid))
+        (fits-join (x .inputs) (y .inputs) (x .fits) (y .fits)) fixed
         (whole-merged e t (planMessages calls) (x .inputs) (y .inputs) _ _ same w) later)
 
     run-ends : (calls : List Call) (hand : List HandType) → AllAllowed e n calls → atHand calls (length hand) ≡ some 1 → RunEnds calls hand

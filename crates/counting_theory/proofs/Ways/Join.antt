@@ -3,6 +3,7 @@ use mathlib.Core.Path.{_≡_, refl, sym, _∙_, ap}
 use mathlib.Core.Bool.{false}
 use lib.Dec.{eqb}
 use Rattle.value_table.specs.Value.{recordKind, Values, none, value, ValidAt, Valid}
+use Rattle.counting_theory.specs.Payload.{one}
 use Rattle.counting_theory.specs.Trie.{node, append, profile, reduce}
 use Rattle.counting_theory.specs.Label.{Equivalence, Counting}
 use Rattle.counting_theory.specs.Raw.{classOf, raw, profileOf}
@@ -14,7 +15,7 @@ module _ (e : Equivalence) where
   pub raw-join : (vs ws : Values) → raw e false (joinValues vs ws) ≡ append (raw e false vs) (raw e false ws)
   unfolding raw joinValues append
   raw-join none ws = refl
-  raw-join (value kind key content next) ws = ap (node (classOf e kind content) 1 (raw e (eqb kind recordKind) content)) (raw-join next ws)
+  raw-join (value head key content next) ws = ap (node (classOf e (head .kind) content) (one head content) (raw e (eqb (head .kind) recordKind) content)) (raw-join next ws)
 
   pub reduce-join : (vs ws : Values) → reduce Counting (profileOf e vs) (profileOf e ws) ≡ profileOf e (joinValues vs ws)
   unfolding profileOf
@@ -23,4 +24,4 @@ module _ (e : Equivalence) where
 pub valid-join : (vs ws : Values) → Valid vs → Valid ws → Valid (joinValues vs ws)
 unfolding ValidAt joinValues
 valid-join none ws h i = i
-valid-join (value kind key content next) ws h i = (h .0, h .1, valid-join next ws (h .2) i)
+valid-join (value head key content next) ws h i = (h .0, h .1, valid-join next ws (h .2) i)

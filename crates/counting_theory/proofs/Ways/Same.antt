@@ -4,7 +4,7 @@ use mathlib.Core.Bool.{false}
 use mathlib.Core.List.{List, [], _∷_, map, Permᴰ·map}
 use Prim.Native.Nat.{ℕ, _*_, _≤_}
 use native.Mathlib.Omega.{arith}
-use Rattle.value_table.specs.Value.{recordSize, maxLength, Values, none, value, ValidAt, Valid}
+use Rattle.value_table.specs.Value.{Head, Values, none, value, ValidAt, Valid}
 use Rattle.value_table.specs.Value as table
 use Rattle.value_table.specs.Judged.{messages}
 use Rattle.value_table.proofs.Acceptance.{unique}
@@ -14,36 +14,27 @@ use Rattle.counting_theory.specs.Raw.{raw, profileOf}
 use Rattle.counting_theory.specs.Ways.{Call, infer, inferDefault, merge, AllAllowed, joinValues, planMessages, messageBytes, occurrences, Accepted}
 use Rattle.counting_theory.proofs.Label.{counting-laws}
 use Rattle.counting_theory.proofs.Trie.Profile.{profile-perm}
+use Rattle.counting_theory.proofs.WellFormed.Profile.{EachFits, fits-run}
 use Rattle.counting_theory.proofs.Ways.Join.{valid-join}
 use Rattle.counting_theory.proofs.Ways.Calls.{accepted-table}
 use Rattle.counting_theory.proofs.Ways.Occurrences.{perm-occurs}
 
--- each message fits a table
-abbrev pub Fits : Values → Type 0
-Fits none = Unit {0}
-Fits (value kind key content next) = (recordSize * table.size (value kind key content none) ≤ maxLength) × Fits next
-
-fits-table : (ms : Values) → recordSize * table.size ms ≤ maxLength → Fits ms
-unfolding table.size
-fits-table none h = tt
-fits-table (value kind key content next) h = (omega arith, fits-table next (omega arith))
-
-fits-join : (vs ws : Values) → Fits vs → Fits ws → Fits (joinValues vs ws)
+pub fits-join : (vs ws : Values) → EachFits vs → EachFits ws → EachFits (joinValues vs ws)
 unfolding joinValues
 fits-join none ws h i = i
-fits-join (value kind key content next) ws h i = (h .0, fits-join next ws (h .1) i)
+fits-join (value head key content next) ws h i = (h .0, fits-join next ws (h .1) i)
 
 -- messages that come from accepted tables
 pub record FromTables (ms : Values) : Type 0 where
   pub valid : Valid ms
-  pub fits : Fits ms
+  pub fits : EachFits ms
 
 from-join : (b : List ℕ) (rest : Values) → Accepted b → FromTables rest → FromTables (joinValues (messages b) rest)
 from-join b rest a h =
     let t = accepted-table b a in
     record {
       valid = valid-join (messages b) rest (t .valid) (h .valid);
-      fits = fits-join (messages b) rest (fits-table (messages b) (t .room)) (h .fits);
+      fits = fits-join (messages b) rest (fits-run (messages b) (t .room)) (h .fits);
     }
 
 pub plan-messages : (e : Equivalence) (n : ℕ) (plan : List Call) → AllAllowed e n plan → FromTables (planMessages plan)
@@ -54,21 +45,21 @@ plan-messages e n (inferDefault source arena work ∷ calls) h = from-join sourc
 plan-messages e n (merge i j arena ∷ calls) h = plan-messages e n calls (h .1)
 
 -- a message is read back from its bytes
-read-message : (kind key : ℕ) (content next : Values) → Valid (value kind key content next) → Fits (value kind key content next) →
-    messages (table.encode (value kind key content none)) ≡ value kind key content none
-unfolding ValidAt
-read-message kind key content next h i =
-    sym (unique _ _ _ (record { bytes = refl; valid = (h .0, h .1, tt); room = i .0; counted = refl }))
+read-message : (head : Head) (key : ℕ) (content next : Values) → Valid (value head key content next) → EachFits (value head key content next) →
+    messages (table.encode (value head key content none)) ≡ value head key content none
+unfolding ValidAt table.size
+read-message head key content next h i =
+    sym (unique _ _ _ (record { bytes = refl; valid = (h .0, h .1, tt); room = omega (arith, i .0); counted = refl }))
 
 module _ (e : Equivalence) where
   abbrev rawOfBytes : List ℕ → CountingType
   rawOfBytes b = raw e false (messages b)
 
-  raw-messages : (ms : Values) → Valid ms → Fits ms → concat (map rawOfBytes (messageBytes ms)) ≡ raw e false ms
+  raw-messages : (ms : Values) → Valid ms → EachFits ms → concat (map rawOfBytes (messageBytes ms)) ≡ raw e false ms
   unfolding ValidAt messageBytes concat
   raw-messages none h i = unfold raw in refl
-  raw-messages (value kind key content next) h i =
-      rw (read-message kind key content next h i, raw-messages next (h .2) (i .1)) (unfold raw append in refl)
+  raw-messages (value head key content next) h i =
+      rw (read-message head key content next h i, raw-messages next (h .2) (i .1)) (unfold raw append in refl)
 
   pub same-profile : (vs ws : Values) → FromTables vs → FromTables ws → ((m : List ℕ) → occurrences m (messageBytes vs) ≡ occurrences m (messageBytes ws)) →
       profileOf e vs ≡ profileOf e ws

@@ -4,11 +4,13 @@ use mathlib.Core.Bool.{Bool, true, false, cond}
 use Prim.Native.Nat.{ℕ, _+_, _≤_, Ordering, Ordering·lt as lt, Ordering·eq as eq, Ordering·gt as gt}
 use native.Mathlib.Omega.{arith}
 use lib.Dec.{eqb}
-use Rattle.value_table.specs.Value.{recordKind, Values, none, value}
+use Rattle.value_table.specs.Value.{Head, recordKind, Values, none, value}
 use Rattle.value_table.specs.Value as table
+use Rattle.counting_theory.specs.Payload.{one}
 use Rattle.counting_theory.specs.Trie.{nil, node, TrieOps, TrieLaws, Trie, insertStep, insert, add, total, largestBelow, largestTotal}
 use Rattle.counting_theory.specs.Label.{Equivalence, fieldKind, Counting}
 use Rattle.counting_theory.specs.Raw.{raw, profileOf}
+use Rattle.counting_theory.proofs.Payload.{count-one}
 use Rattle.counting_theory.proofs.Label.{counting-laws}
 
 module _ (T : TrieOps) where
@@ -56,17 +58,17 @@ module _ {T : TrieOps} (W : TrieLaws T) where
   unfolding largestTotal
   largest-le f = omega (arith, total-le f, below-le f)
 
-one-at-most : (t : Bool) → cond t 0 1 ≤ 1
-one-at-most true = omega arith
-one-at-most false = omega arith
+one-at-most : (t : Bool) (head : Head) (content : Values) → cond t 0 (one head content .count) ≤ 1
+one-at-most true head content = omega arith
+one-at-most false head content = omega (arith, count-one head content)
 
 weights-raw : (e : Equivalence) (field : Bool) (vs : Values) → weights Counting (raw e field vs) ≤ table.size vs
 unfolding raw weights table.size
 weights-raw e field none = omega arith
-weights-raw e true (value kind key content next) =
-    omega (arith, one-at-most (eqb kind fieldKind), weights-raw e (eqb kind recordKind) content, weights-raw e true next)
-weights-raw e false (value kind key content next) =
-    omega (arith, one-at-most (eqb kind fieldKind), weights-raw e (eqb kind recordKind) content, weights-raw e false next)
+weights-raw e true (value head key content next) =
+    omega (arith, one-at-most (eqb (head .kind) fieldKind) head content, weights-raw e (eqb (head .kind) recordKind) content, weights-raw e true next)
+weights-raw e false (value head key content next) =
+    omega (arith, one-at-most (eqb (head .kind) fieldKind) head content, weights-raw e (eqb (head .kind) recordKind) content, weights-raw e false next)
 
 pub largest-values : (e : Equivalence) (messages : Values) → largestTotal Counting (profileOf e messages) ≤ table.size messages
 unfolding profileOf weights

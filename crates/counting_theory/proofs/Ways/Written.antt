@@ -1,6 +1,6 @@
 -- A call that writes f, no larger than the profile t of all the messages: the way ends there, as t says, or goes on.
-use mathlib.Core.Path.{_≡_, refl, ap}
-use mathlib.Core.Bool.{Bool, true, false, cond}
+use mathlib.Core.Path.{_≡_, refl, sym, _∙_, ap}
+use mathlib.Core.Bool.{Bool, true, false, cond, true≢false}
 use mathlib.Core.List.{List, [], _∷_}
 use mathlib.Core.Logic.{inl, inr}
 use Prim.Native.Nat.{ℕ, _*_, _-_, _<_}
@@ -9,12 +9,17 @@ use lib.Dec.{ltb}
 use lib.ListN.{length}
 use borrow.Author.Tests.{ltb-true, ltb-false}
 use Rattle.value_table.specs.Outcome.{accepted}
-use Rattle.counting_theory.specs.Trie.{size, largestTotal, NoLarger}
+use Rattle.counting_theory.specs.Trie.{size, NoLarger}
 use Rattle.counting_theory.specs.Label.{Counting, CountingType}
 use Rattle.counting_theory.specs.Encoding.{typeSize, encode}
-use Rattle.counting_theory.specs.WellFormed.{maxTotal}
+use Rattle.counting_theory.specs.WellFormed.{withinLimit}
 use Rattle.counting_theory.specs.Answers.{Left, leaves, Written, turnedDown, zeros, mergedTypes}
 use Rattle.counting_theory.specs.Ways.{goOn, WithinLimits, Ends}
+use Rattle.counting_theory.proofs.WellFormed.Limit.{limit-part}
+
+not-true : (b : Bool) → ¬ (b ≡ true) → b ≡ false
+not-true true h = absurd (h refl)
+not-true false h = refl
 
 -- what comes after the call that wrote f: nothing, and f is all, or the calls that end as t says
 abbrev pub After : ℕ → CountingType → CountingType → List Left → Type 0
@@ -32,20 +37,20 @@ module _ (n : ℕ) (t f : CountingType) (arena work : List ℕ) (fixed : length 
   module _ (rest : List ℕ → List Left) (part : NoLarger Counting f t) (later : WithinLimits n f → After n t f (rest (encode f))) where
     pub written-ends : Ends n t (goOn (mergedTypes f n) (leaves (mergedTypes f n) arena work) rest)
     unfolding goOn
-    written-ends = go (ltb maxTotal (largestTotal Counting f)) (ltb n (typeSize * size f)) refl refl
+    written-ends = go (withinLimit f) (ltb n (typeSize * size f)) refl refl
       where
         blank : zeros (length arena - 0) ≡ zeros n
         blank = let k : length arena - 0 ≡ n = omega arith in ap zeros k
 
-        go : (a b : Bool) → ltb maxTotal (largestTotal Counting f) ≡ a → ltb n (typeSize * size f) ≡ b →
-            let w = cond a (turnedDown 10 0) (cond b (turnedDown 11 0) taken) in
+        go : (a b : Bool) → withinLimit f ≡ a → ltb n (typeSize * size f) ≡ b →
+            let w = cond a (cond b (turnedDown 11 0) taken) (turnedDown 10 0) in
             Ends n t (goOn w (leaves w arena work) rest)
-        go true b i j =
-            let over : maxTotal < largestTotal Counting t = omega (arith, ltb-true maxTotal (largestTotal Counting f) i) in
-            inr (λ h. omega arith, (inl (refl, over), blank))
-        go false true i j =
+        go false b i j =
+            let over : ¬ (withinLimit t ≡ true) = λ h. true≢false (sym (limit-part f t part h) ∙ i) in
+            inr (λ h. over (h .0), (inl (refl, not-true (withinLimit t) over), blank))
+        go true true i j =
             let over : n < typeSize * size t = omega (arith, ltb-true n (typeSize * size f) j) in
-            inr (λ h. omega arith, (inr (refl, over), blank))
-        go false false i j =
-            let h : WithinLimits n f = (ltb-false _ _ i, ltb-false _ _ j) in
+            inr (λ h. omega (arith, h .1), (inr (refl, over), blank))
+        go true false i j =
+            let h : WithinLimits n f = (i, ltb-false _ _ j) in
             accepted-ends h (rest (encode f)) (later h)

@@ -1,28 +1,28 @@
 -- Profiles and merges within the limits are well-formed types.
-use mathlib.Core.Path.{refl}
-use mathlib.Core.Bool.{false}
+use mathlib.Core.Path.{_≡_, refl}
+use mathlib.Core.Bool.{true, false}
 use mathlib.Core.List.{List}
 use Prim.Native.Nat.{ℕ, _*_, _≤_}
 use Rattle.value_table.specs.Value.{maxLength, Values, Valid}
-use Rattle.counting_theory.specs.Trie.{size, reduce, largestTotal}
+use Rattle.counting_theory.specs.Trie.{size, reduce}
 use Rattle.counting_theory.specs.Label.{Equivalence, Counting, CountingType}
 use Rattle.counting_theory.specs.Raw.{raw, profileOf}
 use Rattle.counting_theory.specs.Encoding.{typeSize, encode}
-use Rattle.counting_theory.specs.WellFormed.{maxTotal, IsType, ReduceIsType}
+use Rattle.counting_theory.specs.WellFormed.{withinLimit, IsType, ReduceIsType}
 use Rattle.counting_theory.proofs.Trie.Sorted.{sorted-profile, sorted-reduce}
 use Rattle.counting_theory.proofs.Label.{counting-laws}
 use Rattle.counting_theory.proofs.Tagged.Profile.{tagged-profile}
 use Rattle.counting_theory.proofs.Tagged.Reduce.{tagged-reduce}
 use Rattle.counting_theory.proofs.Values.Totals.{profile-totals, reduce-totals}
-use Rattle.counting_theory.proofs.WellFormed.Nodes.{EachNode, each-node, each-shallow, each-counted, each-fieldCounts}
+use Rattle.counting_theory.proofs.WellFormed.Nodes.{EachNode, each-node, each-shallow, each-counted, each-fieldCounts, each-measured}
 use Rattle.counting_theory.proofs.WellFormed.Reduce.{each-reduce}
-use Rattle.counting_theory.proofs.WellFormed.Profile.{each-profile}
+use Rattle.counting_theory.proofs.WellFormed.Profile.{EachFits, each-profile}
 
-pub profile-type : (e : Equivalence) (messages : Values) → Valid messages → typeSize * size (profileOf e messages) ≤ maxLength →
-    largestTotal Counting (profileOf e messages) ≤ maxTotal → IsType e (encode (profileOf e messages)) (profileOf e messages)
+pub profile-type : (e : Equivalence) (messages : Values) → Valid messages → EachFits messages → typeSize * size (profileOf e messages) ≤ maxLength →
+    withinLimit (profileOf e messages) ≡ true → IsType e (encode (profileOf e messages)) (profileOf e messages)
 unfolding profileOf
-profile-type e messages valid room limit =
-    let each : EachNode e false 1 (profileOf e messages) = each-profile e messages valid in
+profile-type e messages valid fits room limit =
+    let each : EachNode e false 1 (profileOf e messages) = each-profile e messages valid fits in
     record {
       bytes = refl;
       room = room;
@@ -33,10 +33,11 @@ profile-type e messages valid room limit =
       limit = limit;
       totals = profile-totals e messages valid;
       fields = each-fieldCounts e false 1 (profileOf e messages) each;
+      payloads = each-measured e false 1 (profileOf e messages) each;
     }
 
 type-nodes : {e : Equivalence} {b : List ℕ} {f : CountingType} → IsType e b f → EachNode e false 1 f
-type-nodes {e} {f = f} t = each-node e false 1 f (t .shallow) (t .counts) (t .fields)
+type-nodes {e} {f = f} t = each-node e false 1 f (t .shallow) (t .counts) (t .fields) (t .payloads)
 
 pub reduce-type : ReduceIsType
 reduce-type e a b f g t u room limit =
@@ -51,4 +52,5 @@ reduce-type e a b f g t u room limit =
       limit = limit;
       totals = reduce-totals f g (t .sorted) (u .sorted) (t .totals) (u .totals);
       fields = each-fieldCounts e false 1 (reduce Counting f g) each;
+      payloads = each-measured e false 1 (reduce Counting f g) each;
     }

@@ -7,10 +7,12 @@ use lib.Dec.{eqb, leb, isEq}
 use borrow.Author.Tests.{leb-true, le-leb, eqb-true, eq-eqb}
 use Rattle.value_table.specs.Value.{member, recordKind}
 use Rattle.value_table.proofs.Tests.{and-parts}
+use Rattle.counting_theory.specs.Payload.{Payload, oneField, join}
 use Rattle.counting_theory.specs.Trie.{nil, node, reduceStep, reduceNode, reduce}
 use Rattle.counting_theory.specs.Label.{Equivalence, byKind, byLabel, Label, listed, fieldLabel, compareLabel, Counting, CountingType}
 use Rattle.counting_theory.specs.Encoding.{siblingKeys, Tagged}
 use Rattle.counting_theory.specs.WellFormed.{fieldCount, fieldsOf}
+use Rattle.counting_theory.proofs.Payload.{count-join, count-field}
 use Rattle.counting_theory.proofs.Label.{label-order, compare-fields}
 use Rattle.counting_theory.proofs.WellFormed.Tests.{both}
 
@@ -18,34 +20,34 @@ fields-grow : (a b : ℕ) (c : CountingType) → a ≤ b → fieldsOf byKind a c
 unfolding fieldsOf
 fields-grow a b nil h i = refl
 fields-grow a b (node l x c s) h i =
-    let p = and-parts (leb x a) (fieldsOf byKind a s) i in
-    both (le-leb x b (omega (arith, leb-true x a (p .0)))) (fields-grow a b s h (p .1))
+    let p = and-parts (leb (x .count) a) (fieldsOf byKind a s) i in
+    both (le-leb (x .count) b (omega (arith, leb-true (x .count) a (p .0)))) (fields-grow a b s h (p .1))
 
-module _ (a b : ℕ) (l : Label) (x : ℕ) (c s : CountingType) (own : x ≤ a)
+module _ (a b : ℕ) (l : Label) (x : Payload) (c s : CountingType) (own : x .count ≤ a)
     (next : (t : CountingType) → fieldsOf byKind b t ≡ true → fieldsOf byKind (a + b) (reduce Counting s t) ≡ true) where
   abbrev merge : CountingType → CountingType
   merge = reduceNode Counting l x c (reduce Counting c) (reduce Counting s)
 
   kind-reduceNode : (g : CountingType) → fieldsOf byKind b g ≡ true → fieldsOf byKind (a + b) (merge g) ≡ true
   unfolding fieldsOf reduceNode reduceStep
-  kind-reduceNode nil i = both (le-leb x (a + b) (omega arith)) (next nil refl)
+  kind-reduceNode nil i = both (le-leb (x .count) (a + b) (omega arith)) (next nil refl)
   kind-reduceNode (node k y d t) i = go (compareLabel l k) (kind-reduceNode t (p .1))
     where
-      p : (leb y b ≡ true) × (fieldsOf byKind b t ≡ true)
-      p = and-parts (leb y b) (fieldsOf byKind b t) i
+      p : (leb (y .count) b ≡ true) × (fieldsOf byKind b t ≡ true)
+      p = and-parts (leb (y .count) b) (fieldsOf byKind b t) i
 
       go : (o : Ordering) → fieldsOf byKind (a + b) (merge t) ≡ true →
           fieldsOf byKind (a + b) (reduceStep Counting o l x c (reduce Counting c) (reduce Counting s) k y d t (merge t)) ≡ true
-      go lt j = both (le-leb x (a + b) (omega arith)) (next (node k y d t) i)
-      go eq j = both (le-leb (x + y) (a + b) (omega (arith, leb-true y b (p .0)))) (next t (p .1))
-      go gt j = both (le-leb y (a + b) (omega (arith, leb-true y b (p .0)))) j
+      go lt j = both (le-leb (x .count) (a + b) (omega arith)) (next (node k y d t) i)
+      go eq j = both (le-leb (join x y .count) (a + b) (omega (arith, count-join x y, leb-true (y .count) b (p .0)))) (next t (p .1))
+      go gt j = both (le-leb (y .count) (a + b) (omega (arith, leb-true (y .count) b (p .0)))) j
 
 kind-reduce : (a b : ℕ) (c d : CountingType) → fieldsOf byKind a c ≡ true → fieldsOf byKind b d ≡ true → fieldsOf byKind (a + b) (reduce Counting c d) ≡ true
 unfolding reduce fieldsOf
 kind-reduce a b nil d h i = fields-grow b (a + b) d (omega arith) i
 kind-reduce a b (node l x c s) d h i =
-    let p = and-parts (leb x a) (fieldsOf byKind a s) h in
-    kind-reduceNode a b l x c s (leb-true x a (p .0)) (λ t. kind-reduce a b s t (p .1)) d i
+    let p = and-parts (leb (x .count) a) (fieldsOf byKind a s) h in
+    kind-reduceNode a b l x c s (leb-true (x .count) a (p .0)) (λ t. kind-reduce a b s t (p .1)) d i
 
 -- under label both have the same fields
 label-reduce : (a b : ℕ) (c d : CountingType) → Tagged byLabel true c → Tagged byLabel true d → siblingKeys c ≡ siblingKeys d →
@@ -59,9 +61,9 @@ label-reduce a b (node l x c s) (node m y d t) p q e h i =
     let r : siblingKeys s ≡ siblingKeys t = cc in
     let z : l ≡ m = p .0 ∙ ap fieldLabel k ∙ sym (q .0) in
     let o : compareLabel l m ≡ eq = ap (compareLabel l) (sym z) ∙ label-order .compare-refl l in
-    let u = and-parts (eqb x a) (fieldsOf byLabel a s) h in
-    let v = and-parts (eqb y b) (fieldsOf byLabel b t) i in
-    rw o (both (eq-eqb (x + y) (a + b) (omega (arith, eqb-true x a (u .0), eqb-true y b (v .0)))) (label-reduce a b s t (p .2) (q .2) r (u .1) (v .1)))
+    let u = and-parts (eqb (x .count) a) (fieldsOf byLabel a s) h in
+    let v = and-parts (eqb (y .count) b) (fieldsOf byLabel b t) i in
+    rw o (both (eq-eqb (join x y .count) (a + b) (omega (arith, count-join x y, eqb-true (x .count) a (u .0), eqb-true (y .count) b (v .0)))) (label-reduce a b s t (p .2) (q .2) r (u .1) (v .1)))
 
 pub fields-reduce : (e : Equivalence) (a b : ℕ) (c d : CountingType) → Tagged e true c → Tagged e true d →
     listed e recordKind (siblingKeys c) ≡ listed e recordKind (siblingKeys d) →
@@ -70,24 +72,24 @@ unfolding listed
 fields-reduce byKind a b c d p q e h i = kind-reduce a b c d h i
 fields-reduce byLabel a b c d p q e h i = label-reduce a b c d p q e h i
 
-once : (e : Equivalence) → fieldCount e 1 1 ≡ true
-once byKind = refl
-once byLabel = refl
+once : (e : Equivalence) → fieldCount e (oneField .count) 1 ≡ true
+once byKind = rw count-field refl
+once byLabel = rw count-field refl
 
 -- a new field of a single record
 pub fields-insert : (e : Equivalence) (k : ℕ) (c g : CountingType) → Tagged e true g → member k (siblingKeys g) ≡ false →
-    fieldsOf e 1 g ≡ true → fieldsOf e 1 (reduce Counting (node (fieldLabel k) 1 c nil) g) ≡ true
+    fieldsOf e 1 g ≡ true → fieldsOf e 1 (reduce Counting (node (fieldLabel k) oneField c nil) g) ≡ true
 unfolding siblingKeys member reduce reduceNode reduceStep fieldsOf
 fields-insert e k c nil p h i = both (once e) refl
 fields-insert e k c (node m b d t) p h i =
     rw (ap (compareLabel (fieldLabel k)) (p .0) ∙ compare-fields k (m .key)) (go (compare k (m .key)) h (λ j. fields-insert e k c t (p .2) j (u .1)))
   where
-    u : (fieldCount e b 1 ≡ true) × (fieldsOf e 1 t ≡ true)
-    u = and-parts (fieldCount e b 1) (fieldsOf e 1 t) i
+    u : (fieldCount e (b .count) 1 ≡ true) × (fieldsOf e 1 t ≡ true)
+    u = and-parts (fieldCount e (b .count) 1) (fieldsOf e 1 t) i
 
     go : (o : Ordering) → (isEq o || member k (siblingKeys t)) ≡ false →
-        (member k (siblingKeys t) ≡ false → fieldsOf e 1 (reduce Counting (node (fieldLabel k) 1 c nil) t) ≡ true) →
-        fieldsOf e 1 (reduceStep Counting o (fieldLabel k) 1 c (reduce Counting c) (reduce Counting nil) m b d t (reduce Counting (node (fieldLabel k) 1 c nil) t)) ≡ true
+        (member k (siblingKeys t) ≡ false → fieldsOf e 1 (reduce Counting (node (fieldLabel k) oneField c nil) t) ≡ true) →
+        fieldsOf e 1 (reduceStep Counting o (fieldLabel k) oneField c (reduce Counting c) (reduce Counting nil) m b d t (reduce Counting (node (fieldLabel k) oneField c nil) t)) ≡ true
     go lt h j = both (once e) i
     go eq h j = cc
     go gt h j = both (u .0) (j h)

@@ -6,12 +6,13 @@ use Prim.Native.Nat.{ℕ, _+_, _*_, _≤_, _<_}
 use native.Mathlib.Omega.{arith}
 use lib.ListN.{length, drop}
 use Rattle.value_table.specs.Number.{Bytes}
+use Rattle.counting_theory.specs.Payload.{Payload}
 use Rattle.counting_theory.specs.Trie.{nil, node, size}
 use Rattle.counting_theory.specs.Label.{Equivalence, Label, listed, labelOf, CountingType}
-use Rattle.counting_theory.specs.Encoding.{typeSize, typeKind, typeKey, typeSpan, typeCount, encode, siblingKeys, Tagged, Fitting}
+use Rattle.counting_theory.specs.Encoding.{typeSize, typeKind, typeKey, typeSpan, typePayload, encode, siblingKeys, Tagged, Fitting}
 use Rattle.counting_theory.specs.WellFormed.{Shallow}
 use Rattle.counting_theory.proofs.Tagged.Parts.{holdsFields, Shape, listed-field, tagged-parts, parts-tagged}
-use Rattle.counting_theory.proofs.Encoding.Header.{typeKey-below, typeSpan-below, typeCount-below, header-written}
+use Rattle.counting_theory.proofs.Encoding.Header.{typeKey-below, header-fits, header-written}
 use Rattle.counting_theory.proofs.Encoding.Node.{NodeAt, node-read}
 use Rattle.counting_theory.proofs.WellFormed.Nodes.{Placed, depthUnder, shallow-parts, parts-shallow}
 use Rattle.counting_theory.proofs.WellFormed.Record.{OwnRecord, TypeRecord}
@@ -56,7 +57,7 @@ module _ (e : Equivalence) (b : List ℕ) (i : ℕ) (c : CountingType) where
   module _ (end : ℕ) (field : Bool) (depth : ℕ) (s : CountingType) where
     pub holds-node : Bytes b → typeSize * end ≤ length b → TypeRecord b i end field depth →
         Holds e b (i + 1) (i + typeSpan b i) (holdsFields field labelWith) (depthUnder field labelWith depth) c →
-        Holds e b (i + typeSpan b i) end field depth s → Holds e b i end field depth (node labelWith (typeCount b i) c s)
+        Holds e b (i + typeSpan b i) end field depth s → Holds e b i end field depth (node labelWith (typePayload b i) c s)
     unfolding encode size Fitting
     holds-node bytes room r children next =
         let n : typeSpan b i ≡ 1 + size c = omega (arith, children .ends) in
@@ -66,19 +67,19 @@ module _ (e : Equivalence) (b : List ℕ) (i : ℕ) (c : CountingType) where
           bytes = header-written b i bytes fits (r .zeroed) (listed e (typeKind b i) (siblingKeys c)) ∙ rw (children .bytes, next .bytes, n) (simp append-assoc);
           ends = omega (arith, next .ends);
           tagged =
-              parts-tagged e field labelWith (typeCount b i) c s (record-shape field depth (r .own) n, children .tagged, next .tagged);
+              parts-tagged e field labelWith (typePayload b i) c s (record-shape field depth (r .own) n, children .tagged, next .tagged);
           shallow =
-              parts-shallow field depth labelWith (typeCount b i) c s (record-placed field depth (r .own) key, children .shallow, next .shallow);
-          fitting = (key, rw (← n) (typeSpan-below b i bytes fits), typeCount-below b i bytes fits, children .fitting, next .fitting);
+              parts-shallow field depth labelWith (typePayload b i) c s (record-placed field depth (r .own) key, children .shallow, next .shallow);
+          fitting = (rw (← n) (header-fits b i bytes fits (r .zeroed) (listed e (typeKind b i) (siblingKeys c))), children .fitting, next .fitting);
         }
 
 -- a type that is not empty: its first record, and what the records behind hold
-pub record First (e : Equivalence) (b : List ℕ) (i end : ℕ) (field : Bool) (depth : ℕ) (l : Label) (a : ℕ) (c s : CountingType) : Type 0 where
+pub record First (e : Equivalence) (b : List ℕ) (i end : ℕ) (field : Bool) (depth : ℕ) (l : Label) (a : Payload) (c s : CountingType) : Type 0 where
   pub is-node : NodeAt b i end l a c s
   pub in-children : Holds e b (i + 1) (i + typeSpan b i) (holdsFields field l) (depthUnder field l depth) c
   pub in-next : Holds e b (i + typeSpan b i) end field depth s
 
-module _ (e : Equivalence) (b : List ℕ) (i end : ℕ) (field : Bool) (depth : ℕ) (l : Label) (a : ℕ) (c s : CountingType) where
+module _ (e : Equivalence) (b : List ℕ) (i end : ℕ) (field : Bool) (depth : ℕ) (l : Label) (a : Payload) (c s : CountingType) where
   pub holds-first : Holds e b i end field depth (node l a c s) → First e b i end field depth l a c s
   unfolding size Fitting
   holds-first h =
@@ -88,7 +89,7 @@ module _ (e : Equivalence) (b : List ℕ) (i end : ℕ) (field : Bool) (depth : 
       record {
         is-node = n;
         in-children =
-            record { bytes = n .in-children; ends = omega (arith, n .span-is); tagged = p .1; shallow = q .1; fitting = h .fitting .3 };
+            record { bytes = n .in-children; ends = omega (arith, n .span-is); tagged = p .1; shallow = q .1; fitting = h .fitting .1 };
         in-next =
-            record { bytes = n .in-next; ends = omega (arith, n .span-is, h .ends); tagged = p .2; shallow = q .2; fitting = h .fitting .4 };
+            record { bytes = n .in-next; ends = omega (arith, n .span-is, h .ends); tagged = p .2; shallow = q .2; fitting = h .fitting .2 };
       }

@@ -8,10 +8,11 @@ use lib.Dec.{eqb}
 use lib.ListN.{length}
 use borrow.Author.Tests.{eqb-true, eq-eqb, ne-eqb}
 use Rattle.value_table.specs.Number.{Bytes}
+use Rattle.counting_theory.specs.Payload.{Payload}
 use Rattle.counting_theory.specs.Trie.{nil, node, size, total}
 use Rattle.counting_theory.specs.Label.{Equivalence, Label, fieldKind, Counting, CountingType}
 use Rattle.counting_theory.specs.Place.{FieldTotals}
-use Rattle.counting_theory.specs.Encoding.{typeSize, typeKind, typeSpan, typeCount}
+use Rattle.counting_theory.specs.Encoding.{typeSize, typeKind, typeSpan, typePayload}
 use Rattle.counting_theory.specs.WellFormed.{typeRecord, holdsFields as fieldsInside, depthInside, laidOut, counted}
 use Rattle.counting_theory.proofs.Label.{kind-eq, key-eq}
 use Rattle.counting_theory.proofs.Tagged.Parts.{holdsFields, Shape, tagged-parts}
@@ -32,8 +33,8 @@ size-total nil h = h
 size-total (node l a c s) h = omega arith
 
 module _ (e : Equivalence) (b : List ℕ) where
-  own-held : (i end : ℕ) (field : Bool) (depth : ℕ) (l : Label) (a : ℕ) (c s : CountingType) → NodeAt b i end l a c s → Shape e field l c →
-      Placed field depth l → 1 ≤ a → (l .kind ≡ fieldKind → a ≡ total Counting c) → OwnRecord b i field depth
+  own-held : (i end : ℕ) (field : Bool) (depth : ℕ) (l : Label) (a : Payload) (c s : CountingType) → NodeAt b i end l a c s → Shape e field l c →
+      Placed field depth l → 1 ≤ a .count → (l .kind ≡ fieldKind → a .count ≡ total Counting c) → OwnRecord b i field depth
   own-held i end true depth l a c s n h p m t =
       record {
         kind-is = n .kind-is ∙ kind-eq h;
@@ -50,8 +51,8 @@ module _ (e : Equivalence) (b : List ℕ) where
       }
 
   -- the first record of a type whose counts are at least 1, and those of fields the totals of their unions
-  pub record-held : (i end : ℕ) (field : Bool) (depth : ℕ) (l : Label) (a : ℕ) (c s : CountingType) → Holds e b i end field depth (node l a c s) →
-      1 ≤ a → (l .kind ≡ fieldKind → a ≡ total Counting c) → TypeRecord b i end field depth
+  pub record-held : (i end : ℕ) (field : Bool) (depth : ℕ) (l : Label) (a : Payload) (c s : CountingType) → Holds e b i end field depth (node l a c s) →
+      1 ≤ a .count → (l .kind ≡ fieldKind → a .count ≡ total Counting c) → TypeRecord b i end field depth
   unfolding size
   record-held i end field depth l a c s h m t =
       let n = holds-first e b i end field depth l a c s h .is-node in
@@ -85,7 +86,7 @@ module _ (e : Equivalence) (b : List ℕ) where
 
   pub holds-record : (i end : ℕ) (field : Bool) (depth : ℕ) (c s : CountingType) → Bytes b → typeSize * end ≤ length b → TypeRecord b i end field depth →
       Holds e b (i + 1) (i + typeSpan b i) (fieldsInside b i field) (depthInside (fieldsInside b i field) depth) c →
-      Holds e b (i + typeSpan b i) end field depth s → Holds e b i end field depth (node (labelWith e b i c) (typeCount b i) c s)
+      Holds e b (i + typeSpan b i) end field depth s → Holds e b i end field depth (node (labelWith e b i c) (typePayload b i) c s)
   holds-record i end field depth c s bytes room r x y =
       holds-node e b i c end field depth s bytes room r (rw (inside-label b i field (labelWith e b i c) refl) at x) y
 
@@ -107,4 +108,4 @@ module _ (e : Equivalence) (b : List ℕ) where
           let r = type-record b i end field depth (p .0) in
           let x = hc (omega (arith, r .span-fits)) (p .1) in
           let y = hs (p .2) in
-          (node (labelWith e b i (x .0)) (typeCount b i) (x .0) (y .0), holds-record i end field depth (x .0) (y .0) bytes room r (x .1) (y .1))
+          (node (labelWith e b i (x .0)) (typePayload b i) (x .0) (y .0), holds-record i end field depth (x .0) (y .0) bytes room r (x .1) (y .1))

@@ -1,41 +1,45 @@
 -- What is asked of each node holds in the merge of two types.
 use mathlib.Core.Path.{_≡_, refl, sym, _∙_}
 use mathlib.Core.Bool.{Bool, true, false}
-use Prim.Native.Nat.{ℕ, _+_, Ordering, Ordering·lt as lt, Ordering·eq as eq, Ordering·gt as gt}
+use Prim.Native.Nat.{ℕ, Ordering, Ordering·lt as lt, Ordering·eq as eq, Ordering·gt as gt}
 use native.Mathlib.Omega.{arith}
 use lib.Dec.{eqb}
 use borrow.Author.Tests.{eqb-true}
 use Rattle.value_table.specs.Value.{recordKind}
-use Rattle.counting_theory.specs.Trie.{nil, node, reduceStep, reduceNode, reduce}
+use Rattle.counting_theory.specs.Payload.{Payload, join}
+use Rattle.counting_theory.specs.Trie.{nil, node, total, reduceStep, reduceNode, reduce}
 use Rattle.counting_theory.specs.Label.{Equivalence, Label, listed, compareLabel, Counting, CountingType}
 use Rattle.counting_theory.specs.Encoding.{siblingKeys, Tagged}
 use Rattle.counting_theory.specs.WellFormed.{fieldsOf}
-use Rattle.counting_theory.proofs.Label.{kind-eq, label-order}
+use Rattle.counting_theory.proofs.Payload.{count-join, proper-join}
+use Rattle.counting_theory.proofs.Label.{kind-eq, label-order, counting-laws}
+use Rattle.counting_theory.proofs.Trie.Sizes.{total-reduce}
 use Rattle.counting_theory.proofs.Tagged.Parts.{holdsFields, Shape, Parts, tagged-parts, shape-keys}
 use Rattle.counting_theory.proofs.WellFormed.Nodes.{depthUnder, Own, EachNode}
 use Rattle.counting_theory.proofs.WellFormed.Fields.{fields-reduce}
 
 module _ (e : Equivalence) where
   -- two records of one class
-  record-reduce : (field : Bool) (l : Label) (a b : ℕ) (c d : CountingType) → Shape e field l c → Shape e field l d →
+  record-reduce : (field : Bool) (l : Label) (a b : Payload) (c d : CountingType) → Shape e field l c → Shape e field l d →
       Tagged e (holdsFields field l) c → Tagged e (holdsFields field l) d → eqb (l .kind) recordKind ≡ true →
-      fieldsOf e a c ≡ true → fieldsOf e b d ≡ true → fieldsOf e (a + b) (reduce Counting c d) ≡ true
-  record-reduce true l a b c d x y p q t = absurd (omega (arith, kind-eq x, eqb-true (l .kind) recordKind t))
-  record-reduce false l a b c d x y p q t =
+      fieldsOf e (a .count) c ≡ true → fieldsOf e (b .count) d ≡ true → fieldsOf e (join a b .count) (reduce Counting c d) ≡ true
+  record-reduce true l a b c d x y p q t f g = absurd (omega (arith, kind-eq x, eqb-true (l .kind) recordKind t))
+  record-reduce false l a b c d x y p q t f g =
       let keys : listed e (l .kind) (siblingKeys c) ≡ listed e (l .kind) (siblingKeys d) = sym (shape-keys e false l c x) ∙ shape-keys e false l d y in
-      fields-reduce e a b c d (rw t at p) (rw t at q) (rw (eqb-true (l .kind) recordKind t) at keys)
+      rw (count-join a b) (fields-reduce e (a .count) (b .count) c d (rw t at p) (rw t at q) (rw (eqb-true (l .kind) recordKind t) at keys) f g)
 
-  own-reduce : (field : Bool) (depth : ℕ) (l : Label) (a b : ℕ) (c d : CountingType) → Shape e field l c → Shape e field l d →
+  own-reduce : (field : Bool) (depth : ℕ) (l : Label) (a b : Payload) (c d : CountingType) → Shape e field l c → Shape e field l d →
       Tagged e (holdsFields field l) c → Tagged e (holdsFields field l) d →
-      Own e field depth l a c → Own e field depth l b d → Own e field depth l (a + b) (reduce Counting c d)
+      Own e field depth l a c → Own e field depth l b d → Own e field depth l (join a b) (reduce Counting c d)
   own-reduce field depth l a b c d x y p q h i =
       record {
         placed = h .placed;
-        positive = omega (arith, h .positive);
+        positive = omega (arith, count-join a b, h .positive);
         fields = λ t. record-reduce field l a b c d x y p q t (h .fields t) (i .fields t);
+        payload = rw (total-reduce counting-laws c d) (proper-join (l .kind) a b (total Counting c) (total Counting d) (h .positive) (i .positive) (h .payload) (i .payload));
       }
 
-  module _ (field : Bool) (depth : ℕ) (l : Label) (a : ℕ) (c s : CountingType) (p : Parts e field l c s) (h : EachNode e field depth (node l a c s)) where
+  module _ (field : Bool) (depth : ℕ) (l : Label) (a : Payload) (c s : CountingType) (p : Parts e field l c s) (h : EachNode e field depth (node l a c s)) where
     abbrev merge : CountingType → CountingType
     merge = reduceNode Counting l a c (reduce Counting c) (reduce Counting s)
 

@@ -1,14 +1,15 @@
 -- The rules of a type as tests, and what they say.
 use mathlib.Core.Path.{_≡_, refl, ap}
 use mathlib.Core.Bool.{true, _&&_}
-use Prim.Native.Nat.{_≤_, Ordering, Ordering·lt as lt, Ordering·eq as eq, Ordering·gt as gt}
+use Prim.Native.Nat.{Ordering, Ordering·lt as lt, Ordering·eq as eq, Ordering·gt as gt}
 use lib.Dec.{eqb}
-use borrow.Author.Tests.{leb-true, le-leb, eqb-true, eq-eqb}
-use Rattle.counting_theory.specs.Trie.{nil, node, Before, Sorted, total, largestTotal}
+use borrow.Author.Tests.{eqb-true, eq-eqb}
+use Rattle.value_table.proofs.Tests.{and-parts}
+use Rattle.counting_theory.specs.Trie.{nil, node, Before, Sorted, total}
 use Rattle.counting_theory.specs.Label.{Equivalence, Label, fieldKind, compareLabel, Counting, CountingType}
 use Rattle.counting_theory.specs.Place.{FieldTotals}
-use Rattle.counting_theory.specs.WellFormed.{maxTotal, counted, withinLimit, isLt, precedes, ascends, fieldTotals, fieldCounts, obeys}
-use Rattle.counting_theory.proofs.WellFormed.Tests.{three-parts, three, implied, implies}
+use Rattle.counting_theory.specs.WellFormed.{counted, withinLimit, isLt, precedes, ascends, fieldTotals, fieldCounts, measured, obeys}
+use Rattle.counting_theory.proofs.WellFormed.Tests.{both, three-parts, three, implied, implies}
 
 pub isLt-true : (o : Ordering) → isLt o ≡ true → o ≡ lt
 isLt-true lt h = refl
@@ -40,7 +41,7 @@ unfolding fieldTotals
 totals-hold nil h = tt
 totals-hold (node l a c s) h =
     let p = three-parts _ (fieldTotals c) (fieldTotals s) h in (
-      λ k. eqb-true a (total Counting c) (implied (eqb (l .kind) fieldKind) (eqb a (total Counting c)) (p .0) (eq-eqb (l .kind) fieldKind k)),
+      λ k. eqb-true (a .count) (total Counting c) (implied (eqb (l .kind) fieldKind) (eqb (a .count) (total Counting c)) (p .0) (eq-eqb (l .kind) fieldKind k)),
       totals-hold c (p .1),
       totals-hold s (p .2),
     )
@@ -49,31 +50,32 @@ totals-test : (f : CountingType) → FieldTotals f → fieldTotals f ≡ true
 unfolding fieldTotals
 totals-test nil h = refl
 totals-test (node l a c s) h =
-    three (implies (eqb (l .kind) fieldKind) (eqb a (total Counting c)) (λ k. eq-eqb a (total Counting c) (h .0 (eqb-true (l .kind) fieldKind k))))
+    three (implies (eqb (l .kind) fieldKind) (eqb (a .count) (total Counting c)) (λ k. eq-eqb (a .count) (total Counting c) (h .0 (eqb-true (l .kind) fieldKind k))))
     (totals-test c (h .1)) (totals-test s (h .2))
 
 pub record Rules (e : Equivalence) (f : CountingType) : Type 0 where
   pub counts : counted f ≡ true
-  pub limit : largestTotal Counting f ≤ maxTotal
+  pub limit : withinLimit f ≡ true
   pub sorted : Sorted Counting f
   pub totals : FieldTotals f
   pub fields : fieldCounts e f ≡ true
+  pub payloads : measured f ≡ true
 
 module _ (e : Equivalence) (f : CountingType) where
   pub obeys-rules : obeys e f ≡ true → Rules e f
-  unfolding withinLimit
   obeys-rules h =
-      let p = three-parts (counted f && withinLimit f && ascends f) (fieldTotals f) (fieldCounts e f) h in
+      let m = and-parts (counted f && withinLimit f && ascends f && fieldTotals f && fieldCounts e f) (measured f) h in
+      let p = three-parts (counted f && withinLimit f && ascends f) (fieldTotals f) (fieldCounts e f) (m .0) in
       let q = three-parts (counted f) (withinLimit f) (ascends f) (p .0) in
       record {
         counts = q .0;
-        limit = leb-true (largestTotal Counting f) maxTotal (q .1);
+        limit = q .1;
         sorted = ascends-sorted f (q .2);
         totals = totals-hold f (p .1);
         fields = p .2;
+        payloads = m .1;
       }
 
   pub rules-obeys : Rules e f → obeys e f ≡ true
-  unfolding withinLimit
   rules-obeys r =
-      three (three (r .counts) (le-leb (largestTotal Counting f) maxTotal (r .limit)) (sorted-ascends f (r .sorted))) (totals-test f (r .totals)) (r .fields)
+      both (three (three (r .counts) (r .limit) (sorted-ascends f (r .sorted))) (totals-test f (r .totals)) (r .fields)) (r .payloads)

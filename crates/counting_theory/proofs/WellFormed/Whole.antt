@@ -51,7 +51,7 @@ module _ (e : Equivalence) (b : List ℕ) (f : CountingType) where
       }
 
   pub type-rules : IsType e b f → Rules e f
-  type-rules t = record { counts = t .counts; limit = t .limit; sorted = t .sorted; totals = t .totals; fields = t .fields }
+  type-rules t = record { counts = t .counts; limit = t .limit; sorted = t .sorted; totals = t .totals; fields = t .fields; payloads = t .payloads }
 
   pub holds-type : badTypeLength (length b) ≡ false → HoldsWhole → Rules e f → IsType e b f
   holds-type fits h r =
@@ -67,6 +67,7 @@ module _ (e : Equivalence) (b : List ℕ) (f : CountingType) where
         limit = r .limit;
         totals = r .totals;
         fields = r .fields;
+        payloads = r .payloads;
       }
 
 pub type-unique : TypeUnique

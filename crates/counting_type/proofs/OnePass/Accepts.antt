@@ -12,7 +12,7 @@ use Rattle.value_table.specs.Number.{Bytes}
 use Rattle.value_table.proofs.Tests.{and-parts}
 use Rattle.counting_theory.specs.Trie.{nil, node, size, total, largestBelow}
 use Rattle.counting_theory.specs.Label.{Equivalence, CountingType}
-use Rattle.counting_theory.specs.Encoding.{typeSize, typeSpan, typeCount}
+use Rattle.counting_theory.specs.Encoding.{typeSize, typeSpan, typePayload}
 use Rattle.counting_theory.specs.WellFormed.{maxTotal, counted, fieldsOf, fieldCounts}
 use Rattle.counting_type.specs.Checker.{Run, addends, fields, totalOf, fits, after, content, checkRun}
 use Rattle.counting_theory.proofs.WellFormed.Nodes.{counted-parts}
@@ -87,7 +87,7 @@ module _ (e : Equivalence) (b : List ℕ) where
         let c = x .type in
         let s = y .type in
         let l = labelWith e b p c in
-        let a = typeCount b p in
+        let a = typePayload b p in
         let m = content-starts b p r in
         let n = after-goes-on b p r in
         let h : HoldsRun p end r (node l a c s) =

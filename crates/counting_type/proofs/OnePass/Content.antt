@@ -8,6 +8,7 @@ use native.Mathlib.Omega.{arith}
 use lib.Dec.{eqb, lit≤}
 use borrow.Author.Tests.{eqb-true, eq-eqb}
 use Rattle.value_table.specs.Value.{recordKind}
+use Rattle.counting_theory.specs.Payload.{Payload}
 use Rattle.counting_theory.specs.Trie.{nil, node, total}
 use Rattle.counting_theory.specs.Label.{Equivalence, Label, CountingType}
 use Rattle.counting_theory.specs.Encoding.{typeKind, typeCount}
@@ -56,7 +57,7 @@ module _ (e : Equivalence) (b : List ℕ) (p : ℕ) where
   total-follows (addends depth last sum) h = h .2
   total-follows (fields depth ofRecord lastKey) h = lit≤ tt
 
-  pub sum-node : (end : ℕ) (l : Label) (a : ℕ) (c s : CountingType) (r : Run) → Holds e b p end (isFields r) (depthOf r) (node l a c s) →
+  pub sum-node : (end : ℕ) (l : Label) (a : Payload) (c s : CountingType) (r : Run) → Holds e b p end (isFields r) (depthOf r) (node l a c s) →
       sumOf (after b p r) s ≡ sumOf r (node l a c s)
   unfolding total
   sum-node end l a c s (addends depth last sum) h =

@@ -5,6 +5,7 @@ use mathlib.Core.List.{List, _∷_}
 use Prim.Native.Nat.{ℕ, zero, suc, _+_, _-_}
 use native.Mathlib.Omega.{arith}
 use lib.Dec.{ltb}
+use Rattle.counting_theory.specs.Payload.{Payload}
 use Rattle.counting_theory.specs.Trie.{node}
 use Rattle.counting_theory.specs.Label.{Equivalence, Label, CountingType}
 use Rattle.counting_theory.specs.Encoding.{typeKey, typeSpan, siblingKeys, decode}
@@ -25,7 +26,7 @@ module _ (e : Equivalence) (b : List ℕ) where
       go false z h = rw (z, keysFrom, decode) refl
 
   -- the label of a record whose children are held behind it
-  pub label-held : (p end : ℕ) (field : Bool) (depth : ℕ) (l : Label) (a : ℕ) (c s : CountingType) → Holds e b p end field depth (node l a c s) → labelAt e b p ≡ l
+  pub label-held : (p end : ℕ) (field : Bool) (depth : ℕ) (l : Label) (a : Payload) (c s : CountingType) → Holds e b p end field depth (node l a c s) → labelAt e b p ≡ l
   unfolding labelAt
   label-held p end field depth l a c s h =
       let x = holds-first e b p end field depth l a c s h in

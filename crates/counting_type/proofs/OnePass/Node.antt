@@ -8,6 +8,7 @@ use lib.Dec.{eqb}
 use borrow.Author.Tests.{eqb-true, ne-eqb}
 use Rattle.value_table.specs.Value.{recordKind}
 use Rattle.value_table.proofs.Tests.{and-parts}
+use Rattle.counting_theory.specs.Payload.{Payload}
 use Rattle.counting_theory.specs.Trie.{node, total}
 use Rattle.counting_theory.specs.Label.{Equivalence, Label, fieldLabel, compareLabel, CountingType}
 use Rattle.counting_theory.specs.Encoding.{typeKey, typeSpan}
@@ -24,7 +25,7 @@ use Rattle.counting_type.proofs.OnePass.Keys.{label-held}
 use Rattle.counting_type.proofs.OnePass.Ruled.{NodeRuled, ruled-node, ruled-parts}
 use Rattle.counting_type.proofs.OnePass.Rest.{sumOf, Totals, Rest, total-positive, inside-told, inside-holds}
 
-module _ (e : Equivalence) (b : List ℕ) (p end : ℕ) (l : Label) (a : ℕ) (c s : CountingType) where
+module _ (e : Equivalence) (b : List ℕ) (p end : ℕ) (l : Label) (a : Payload) (c s : CountingType) where
   -- what the first record, its content and the records behind are asked
   pub record Parts (r : Run) : Type 0 where
     pub follows : Follows e b p r
@@ -37,7 +38,7 @@ module _ (e : Equivalence) (b : List ℕ) (p end : ℕ) (l : Label) (a : ℕ) (c
   rest-node (addends depth last sum) h g x =
       let n = holds-first e b p end false depth l a c s h .is-node in
       let label = label-held e b p end false depth l a c s h in
-      let inner = inside-told e b p depth a c (eqb (l .kind) recordKind) (h .tagged .1) (rw (n .kind-is, n .count-is) at (x .inside .beside)) in
+      let inner = inside-told e b p depth (a .count) c (eqb (l .kind) recordKind) (h .tagged .1) (rw (n .kind-is, n .count-is) at (x .inside .beside)) in
       let own : NodeRuled e l a c s =
       record {
         positive = omega (arith, n .count-is, x .follows .1);
@@ -77,7 +78,7 @@ module _ (e : Equivalence) (b : List ℕ) (p end : ℕ) (l : Label) (a : ℕ) (c
       let label = label-held e b p end false depth l a c s h in
       let (own, ruledC, ruledS) = ruled-parts e l a c s (x .ruled) in
       let weight = weight-addend l a (h .tagged .0 .kind-high) in
-      let inner = inside-holds e b p depth a c (eqb (l .kind) recordKind) _ (h .tagged .1) (h .shallow .1) (own .within) (own .fields-of) in
+      let inner = inside-holds e b p depth (a .count) c (eqb (l .kind) recordKind) _ (h .tagged .1) (h .shallow .1) (own .within) (own .fields-of) in
       record {
         follows = (λ z. rw label (x .beside .0 z), omega (arith, n .count-is, own .positive), omega (arith, n .count-is, x .beside .1));
         totals = tt;
@@ -88,9 +89,9 @@ module _ (e : Equivalence) (b : List ℕ) (p end : ℕ) (l : Label) (a : ℕ) (c
       let n = holds-first e b p end true depth l a c s h .is-node in
       let label : fieldLabel (typeKey b p) ≡ l = ap fieldLabel (n .key-is) ∙ sym (h .tagged .0) in
       let (own, ruledC, ruledS) = ruled-parts e l a c s (x .ruled) in
-      let counts = and-parts (fieldCount e a ofRecord) (fieldsOf e ofRecord s) (x .beside .1) in
+      let counts = and-parts (fieldCount e (a .count) ofRecord) (fieldsOf e ofRecord s) (x .beside .1) in
       let key = sym (compare-fields lastKey (typeKey b p)) ∙ ap (compareLabel (fieldLabel lastKey)) label ∙ x .beside .0 in
-      let inner = inside-holds e b p depth a c false (depth + 1) (h .tagged .1) (h .shallow .2) (own .within) (λ z. absurd (true≢false (sym z))) in
+      let inner = inside-holds e b p depth (a .count) c false (depth + 1) (h .tagged .1) (h .shallow .2) (own .within) (λ z. absurd (true≢false (sym z))) in
       record {
         follows = (compare-less lastKey (typeKey b p) key, rw (n .count-is) (counts .0));
         totals = omega (arith, n .count-is, own .field-total (kind-eq (h .tagged .0)));

@@ -7,6 +7,7 @@ use native.Mathlib.Omega.{arith}
 use lib.Dec.{eqb}
 use borrow.Author.Tests.{le-leb}
 use Rattle.value_table.specs.Value.{recordKind}
+use Rattle.counting_theory.specs.Payload.{Payload}
 use Rattle.counting_theory.specs.Trie.{node, Before, Sorted, total, largestBelow}
 use Rattle.counting_theory.specs.Label.{Equivalence, Label, fieldKind, Counting, CountingType}
 use Rattle.counting_theory.specs.Place.{FieldTotals}
@@ -21,23 +22,23 @@ pub record Ruled (e : Equivalence) (f : CountingType) : Type 0 where
   pub totals : FieldTotals f
   pub fields : fieldCounts e f ≡ true
 
-pub record NodeRuled (e : Equivalence) (l : Label) (a : ℕ) (c s : CountingType) : Type 0 where
-  pub positive : 1 ≤ a
+pub record NodeRuled (e : Equivalence) (l : Label) (a : Payload) (c s : CountingType) : Type 0 where
+  pub positive : 1 ≤ a .count
   pub before : Before Counting l s
   pub within : total Counting c ≤ maxTotal
-  pub field-total : l .kind ≡ fieldKind → a ≡ total Counting c
-  pub fields-of : eqb (l .kind) recordKind ≡ true → fieldsOf e a c ≡ true
+  pub field-total : l .kind ≡ fieldKind → a .count ≡ total Counting c
+  pub fields-of : eqb (l .kind) recordKind ≡ true → fieldsOf e (a .count) c ≡ true
 
-module _ (e : Equivalence) (l : Label) (a : ℕ) (c s : CountingType) where
+module _ (e : Equivalence) (l : Label) (a : Payload) (c s : CountingType) where
   pub ruled-node : NodeRuled e l a c s → Ruled e c → Ruled e s → Ruled e (node l a c s)
   unfolding largestBelow counted fieldCounts
   ruled-node n x y =
       record {
-        counts = three (le-leb 1 a (n .positive)) (x .counts) (y .counts);
+        counts = three (le-leb 1 (a .count) (n .positive)) (x .counts) (y .counts);
         below = omega (arith, n .within, x .below, y .below);
         sorted = (n .before, x .sorted, y .sorted);
         totals = (n .field-total, x .totals, y .totals);
-        fields = three (implies (eqb (l .kind) recordKind) (fieldsOf e a c) (n .fields-of)) (x .fields) (y .fields);
+        fields = three (implies (eqb (l .kind) recordKind) (fieldsOf e (a .count) c) (n .fields-of)) (x .fields) (y .fields);
       }
 
   pub ruled-parts : Ruled e (node l a c s) → NodeRuled e l a c s × Ruled e c × Ruled e s

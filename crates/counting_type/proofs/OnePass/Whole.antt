@@ -8,10 +8,13 @@ use native.Mathlib.Omega.{arith}
 use lib.Dec.{lit≤}
 use lib.ListN.{length}
 use Rattle.value_table.specs.Number.{Bytes}
-use Rattle.counting_theory.specs.Trie.{largestTotal}
+use Rattle.counting_theory.proofs.WellFormed.Limit.{limit-totals, totals-limit}
+use Rattle.counting_theory.proofs.WellFormed.Tests.{both}
+use Rattle.counting_theory.specs.Payload.{proper}
+use Rattle.counting_theory.specs.Trie.{nil, node, largestTotal}
 use Rattle.counting_theory.specs.Label.{Equivalence, CountingType}
 use Rattle.counting_theory.specs.Encoding.{typeRecords, typeOf}
-use Rattle.counting_theory.specs.WellFormed.{wellFormed, badTypeLength}
+use Rattle.counting_theory.specs.WellFormed.{wellFormed, measured, badTypeLength}
 use Rattle.counting_type.specs.Checker.{Run, addends, checkRun, isSome}
 use Rattle.counting_theory.proofs.WellFormed.Rules.{Rules}
 use Rattle.counting_theory.proofs.WellFormed.Whole.{type-holds, type-rules, holds-type, type-unique, well-formed-type}
@@ -31,20 +34,26 @@ some-of (some t) h = (t, refl)
 abbrev whole : Run
 whole = addends 1 0 0
 
+-- nothing is asked of a payload beside its count
+all-proper : (f : CountingType) → measured f ≡ true
+unfolding measured proper
+all-proper nil = refl
+all-proper (node l a c s) = both (all-proper c) (all-proper s)
+
 module _ (e : Equivalence) (b : List ℕ) (f : CountingType) where
   rules-rest : Rules e f → Rest e b 0 whole f
   unfolding largestTotal
   rules-rest r =
       record {
-        ruled = record { counts = r .counts; below = omega (arith, r .limit); sorted = r .sorted; totals = r .totals; fields = r .fields };
-        beside = (λ z. absurd (true≢false z), omega (arith, r .limit));
+        ruled = record { counts = r .counts; below = omega (arith, limit-totals f (r .limit)); sorted = r .sorted; totals = r .totals; fields = r .fields };
+        beside = (λ z. absurd (true≢false z), omega (arith, limit-totals f (r .limit)));
       }
 
   rest-rules : Rest e b 0 whole f → Rules e f
   unfolding largestTotal
   rest-rules x =
       let r = x .ruled in
-      record { counts = r .counts; limit = omega (arith, r .below, x .beside .1); sorted = r .sorted; totals = r .totals; fields = r .fields }
+      record { counts = r .counts; limit = totals-limit f (omega (arith, r .below, x .beside .1)); sorted = r .sorted; totals = r .totals; fields = r .fields; payloads = all-proper f }
 
 pub check-well-formed : (e : Equivalence) (b : List ℕ) → Bytes b → badTypeLength (length b) ≡ false →
     wellFormed e b ≡ isSome (checkRun e b 0 (typeRecords b) (addends 1 0 0))

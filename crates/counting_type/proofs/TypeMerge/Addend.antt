@@ -8,9 +8,10 @@ use lib.Dec.{eqb}
 use lib.ListN.{length, take, drop, length-append, length-take, length-drop}
 use lib.Seq.{take-at, drop-at, drop-length, take-all}
 use Rattle.value_table.specs.Value.{recordKind}
+use Rattle.counting_theory.specs.Payload.{Payload}
 use Rattle.counting_theory.specs.Trie.{nil, node, size}
 use Rattle.counting_theory.specs.Label.{Equivalence, Label, labelOf, CountingType}
-use Rattle.counting_theory.specs.Encoding.{typeSize, typeKind, typeKey, typeSpan, typeCount, header, encode, siblingKeys, decode, typeOf, Fitting}
+use Rattle.counting_theory.specs.Encoding.{typeSize, typeKind, typeKey, typeSpan, typePayload, header, encode, siblingKeys, decode, typeOf, Fitting}
 use Rattle.type_arena.specs.Arena.{keysIn, labelAt, headerOf}
 use Rattle.counting_type.specs.Merging.{front, body, rest, Headed, Coded}
 use Rattle.counting_theory.proofs.Tagged.Parts.{holdsFields, Shape, Parts, tagged-parts, shape-label}
@@ -21,9 +22,9 @@ use Rattle.counting_type.proofs.OnePass.Keys.{keys-decode}
 use Rattle.type_arena.proofs.Sets.{length-headerOf}
 
 -- the header of a label, and that of its kind and key
-header-parts : (l : Label) (span count : ℕ) → header l span count ≡ headerOf (l .kind) (l .key) span count
+header-parts : (l : Label) (span : ℕ) (a : Payload) → header l span a ≡ headerOf (l .kind) (l .key) span a
 unfolding header
-header-parts l span count = refl
+header-parts l span a = refl
 
 -- whether fields stand inside, by the kind
 pub fields-by-kind : (field : Bool) (l : Label) → holdsFields field l ≡ (not field && eqb (l .kind) recordKind)
@@ -42,17 +43,17 @@ coded-length k = rw (coded-type k) (ap length (k .bytes) ∙ length-encode (k .t
 
 -- the first addend or field of x
 pub record Addend (e : Equivalence) (field : Bool) (x : List ℕ) : Type 0 where
-  pub is-type : typeOf e x ≡ node (labelAt e x 0) (typeCount x 0) (typeOf e (body x)) (typeOf e (rest x))
+  pub is-type : typeOf e x ≡ node (labelAt e x 0) (typePayload x 0) (typeOf e (body x)) (typeOf e (rest x))
   pub is-label : labelAt e x 0 ≡ labelOf e (typeKind x 0) (typeKey x 0) (siblingKeys (typeOf e (body x)))
   pub is-shape : Shape e field (labelAt e x 0) (typeOf e (body x))
   pub is-body : encode (typeOf e (body x)) ≡ body x
-  pub is-front : front x ≡ headerOf (typeKind x 0) (typeKey x 0) (1 + size (typeOf e (body x))) (typeCount x 0) ++ body x
+  pub is-front : front x ≡ headerOf (typeKind x 0) (typeKey x 0) (1 + size (typeOf e (body x))) (typePayload x 0) ++ body x
   pub is-span : typeSize * typeSpan x 0 ≡ typeSize + length (body x)
   pub is-length : typeSize * typeSpan x 0 + length (rest x) ≡ length x
   pub in-body : Coded e (not field && eqb (typeKind x 0) recordKind) (body x)
   pub in-rest : Coded e field (rest x)
 
-module _ {e : Equivalence} {field : Bool} {x : List ℕ} (l : Label) (a : ℕ) (c s : CountingType) (k : Coded e field x) (z : k .trie ≡ node l a c s) where
+module _ {e : Equivalence} {field : Bool} {x : List ℕ} (l : Label) (a : Payload) (c s : CountingType) (k : Coded e field x) (z : k .trie ≡ node l a c s) where
   fits : Fitting (node l a c s)
   fits = rw z at (k .fitting)
 
@@ -74,7 +75,7 @@ module _ {e : Equivalence} {field : Bool} {x : List ℕ} (l : Label) (a : ℕ) (
       let n = node-at in
       let keys : keysIn x 0 ≡ siblingKeys c =
       keys-decode e x (typeSpan x 0 - 1) 1 (0 + typeSpan x 0)
-      ∙ ap siblingKeys (decode-run e x (typeSpan x 0 - 1) 1 (0 + typeSpan x 0) _ c (parts .1) (fits .3) (omega (arith, n .span-is)) (n .in-children)
+      ∙ ap siblingKeys (decode-run e x (typeSpan x 0 - 1) 1 (0 + typeSpan x 0) _ c (parts .1) (fits .1) (omega (arith, n .span-is)) (n .in-children)
       (omega (arith, n .span-is))) in
       rw (keys, n .kind-is, n .key-is) (sym (shape-label e field l c (parts .0)))
 
@@ -110,18 +111,18 @@ module _ {e : Equivalence} {field : Bool} {x : List ℕ} (l : Label) (a : ℕ) (
       let n = node-at in
       let m = split in
       let g : (not field && eqb (typeKind x 0) recordKind) ≡ holdsFields field l = rw (n .kind-is) (sym (fields-by-kind field l)) in
-      let u : Coded e (holdsFields field l) (body x) = record { trie = c; bytes = m .is-body; tagged = parts .1; fitting = fits .3 } in
-      let v : Coded e field (rest x) = record { trie = s; bytes = m .is-rest; tagged = parts .2; fitting = fits .4 } in
+      let u : Coded e (holdsFields field l) (body x) = record { trie = c; bytes = m .is-body; tagged = parts .1; fitting = fits .1 } in
+      let v : Coded e field (rest x) = record { trie = s; bytes = m .is-rest; tagged = parts .2; fitting = fits .2 } in
       let i : typeOf e (body x) ≡ c = coded-type u in
       let j : typeOf e (rest x) ≡ s = coded-type v in
       let w : typeOf e x ≡ node l a c s = coded-type k ∙ z in
       let o : labelAt e x 0 ≡ l = label-is in
       record {
-        is-type = cc (n .count-is);
+        is-type = cc (n .payload-is);
         is-label = rw (o, n .kind-is, n .key-is, i) (shape-label e field l c (parts .0));
         is-shape = rw (o, i) (parts .0);
         is-body = rw i (sym (m .is-body));
-        is-front = rw (n .kind-is, n .key-is, n .count-is, i, m .is-body) (m .is-front);
+        is-front = rw (n .kind-is, n .key-is, n .payload-is, i, m .is-body) (m .is-front);
         is-span = rw (m .is-body) (omega (arith, length-encode c, n .span-is));
         is-length = rw (m .is-rest) (omega (arith, length-encode s, n .span-is, m .is-length));
         in-body = rw g u;

@@ -13,7 +13,7 @@ use Rattle.counting_type.specs.declared.addend.Level.{Level}
 use Rattle.counting_theory.specs.Trie.{nil, node, total, largestBelow, largestTotal}
 use Rattle.counting_theory.specs.Label.{Equivalence, Label, fieldKind, Counting, CountingType}
 use Rattle.counting_theory.specs.Place.{FieldTotals}
-use Rattle.counting_theory.specs.Encoding.{typeKind, typeCount, typeOf, Tagged}
+use Rattle.counting_theory.specs.Encoding.{typePayload, typeKind, typeCount, typeOf, Tagged}
 use Rattle.counting_theory.specs.WellFormed.{maxTotal, depthInside, Shallow, IsType}
 use Rattle.type_arena.specs.Arena.{under, labelAt}
 use Rattle.counting_type.specs.Merging.{body, rest, Coded, depthOf, Part, insideOf, exceeds}
@@ -21,7 +21,8 @@ use Rattle.counting_theory.proofs.Label.{kind-eq}
 use Rattle.counting_theory.proofs.Tagged.Parts.{holdsFields}
 use Rattle.counting_theory.proofs.WellFormed.Nodes.{Placed, depthUnder, shallow-parts}
 use Rattle.counting_theory.proofs.WellFormed.Fitting.{weight-addend, count-within, type-fitting}
-use Rattle.counting_theory.proofs.Encoding.Header.{length-encode}
+use Rattle.counting_theory.proofs.Encoding.Header.{length-encode, payload-count}
+use Rattle.counting_theory.proofs.WellFormed.Limit.{limit-totals}
 use Rattle.counting_type.proofs.TypeMerge.Addend.{Addend, addend, coded-type, type-empty}
 
 -- an addend has a level left
@@ -57,16 +58,16 @@ head {level} {x} p h =
     let c : CountingType = typeOf e (body x) in
     let s : CountingType = typeOf e (rest x) in
     let a = addend (p .coded) h in
-    let shallow : Shallow (level .field) (depthOf level) (node l (typeCount x 0) c s) = rw (a .is-type) at (p .shallow) in
-    let q = shallow-parts (level .field) (depthOf level) l (typeCount x 0) c s shallow in
-    let limit : largestTotal Counting (node l (typeCount x 0) c s) ≤ maxTotal = rw (a .is-type) at (p .limit) in
-    let totals : FieldTotals (node l (typeCount x 0) c s) = rw (a .is-type) at (p .totals) in
+    let shallow : Shallow (level .field) (depthOf level) (node l (typePayload x 0) c s) = rw (a .is-type) at (p .shallow) in
+    let q = shallow-parts (level .field) (depthOf level) l (typePayload x 0) c s shallow in
+    let limit : largestTotal Counting (node l (typePayload x 0) c s) ≤ maxTotal = rw (a .is-type) at (p .limit) in
+    let totals : FieldTotals (node l (typePayload x 0) c s) = rw (a .is-type) at (p .totals) in
     let some = level-left (level .field) (level .left) l (q .0) in
     let low : largestTotal Counting c ≤ maxTotal = omega (arith, limit) in
     record {
       first = a;
       level-left = some;
-      count-low = count-within e (level .field) l (typeCount x 0) c s (a .is-shape) (totals .0) limit;
+      count-low = rw (payload-count x 0) at (count-within e (level .field) l (typePayload x 0) c s (a .is-shape) (totals .0) limit);
       in-body =
           record {
             coded = a .in-body;
@@ -86,7 +87,7 @@ type-part label x t =
       coded = record { trie = typeOf (under label) x; bytes = t .bytes; tagged = t .tagged; fitting = type-fitting t };
       shallow = t .shallow;
       left-low = le-refl maxDepth;
-      limit = t .limit;
+      limit = limit-totals (typeOf (under label) x) (t .limit);
       totals = t .totals;
     }
 
@@ -109,7 +110,7 @@ rank-inside {level} {x} h = go (level .field) (eqb (typeKind x 0) recordKind) (h
 module _ {e : Equivalence} {x : List ℕ} where
   total-next : Addend e false x → total Counting (typeOf e x) ≡ typeCount x 0 + total Counting (typeOf e (rest x))
   unfolding total
-  total-next a = rw (a .is-type, weight-addend (labelAt e x 0) (typeCount x 0) (a .is-shape .kind-high)) refl
+  total-next a = rw (a .is-type, weight-addend (labelAt e x 0) (typePayload x 0) (a .is-shape .kind-high), payload-count x 0) refl
 
   pub total-fields : Coded e true x → total Counting (typeOf e x) ≡ 0
   unfolding total

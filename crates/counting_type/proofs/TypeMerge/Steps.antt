@@ -9,9 +9,10 @@ use lib.Dec.{ltb}
 use lib.ListN.{length, length-append}
 use borrow.Author.Tests.{le-ltb, lt-ltb}
 use Rattle.counting_type.specs.declared.addend.Level.{Level}
+use Rattle.counting_theory.specs.Payload.{Payload, join}
 use Rattle.counting_theory.specs.Trie.{node, size, reduceStep, reduceNode, reduce, total, largestBelow, largestTotal}
 use Rattle.counting_theory.specs.Label.{Equivalence, Counting, CountingType}
-use Rattle.counting_theory.specs.Encoding.{typeSize, typeKind, typeKey, typeCount, header, encode, typeOf}
+use Rattle.counting_theory.specs.Encoding.{typeSize, typeKind, typeKey, typePayload, header, encode, typeOf}
 use Rattle.counting_theory.specs.WellFormed.{maxTotal}
 use Rattle.type_arena.specs.Arena.{under, labelAt, headerOf}
 use Rattle.counting_type.specs.Merging.{front, body, rest, Coded, Part, exceeds, exceedsBelow, both, mergedBytes, joinedBytes}
@@ -35,9 +36,9 @@ max-over m p q = go (decLt m p)
     go (no h) = rw (le-ltb m p (omega arith)) (later (decLt m q) (omega arith))
 
 module _ (e : Equivalence) where
-  header-of : (x : List ℕ) (span count : ℕ) → header (labelAt e x 0) span count ≡ headerOf (typeKind x 0) (typeKey x 0) span count
+  header-of : (x : List ℕ) (span : ℕ) (a : Payload) → header (labelAt e x 0) span a ≡ headerOf (typeKind x 0) (typeKey x 0) span a
   unfolding labelAt header
-  header-of x span count = refl
+  header-of x span a = refl
 
   -- one step of the merge: z is stored, x′ and y′ are left, and p says whether z exceeds a limit
   pub record Step (x y z x′ y′ : List ℕ) (p : Bool) : Type 0 where
@@ -45,7 +46,7 @@ module _ (e : Equivalence) where
     pub is-over : exceedsBelow (both e x y) ≡ (p || exceedsBelow (both e x′ y′))
 
   -- the merge begins with a node with the label, the count and the children c of w
-  step : (x y w x′ y′ : List ℕ) (count : ℕ) (c : CountingType) → both e x y ≡ node (labelAt e w 0) count c (both e x′ y′) →
+  step : (x y w x′ y′ : List ℕ) (count : Payload) (c : CountingType) → both e x y ≡ node (labelAt e w 0) count c (both e x′ y′) →
       Step x y (headerOf (typeKind w 0) (typeKey w 0) (1 + size c) count ++ encode c) x′ y′ (exceeds c)
   unfolding mergedBytes encode exceeds exceedsBelow largestBelow largestTotal
   step x y w x′ y′ count c h =
@@ -61,12 +62,12 @@ At level = under (level .label)
 module _ {level : Level} {x y : List ℕ} where
   -- the first addend of w as it is
   kept : {w x′ y′ : List ℕ} → Head level w →
-      both (At level) x y ≡ node (labelAt (At level) w 0) (typeCount w 0) (typeOf (At level) (body w)) (both (At level) x′ y′) →
+      both (At level) x y ≡ node (labelAt (At level) w 0) (typePayload w 0) (typeOf (At level) (body w)) (both (At level) x′ y′) →
       Step (At level) x y (front w) x′ y′ false
   kept {w} {x′} {y′} h z =
       let c : CountingType = typeOf (At level) (body w) in
-      let s : Step (At level) x y (headerOf (typeKind w 0) (typeKey w 0) (1 + size c) (typeCount w 0) ++ encode c) x′ y′ (exceeds c) =
-      step (At level) x y w x′ y′ (typeCount w 0) c z in
+      let s : Step (At level) x y (headerOf (typeKind w 0) (typeKey w 0) (1 + size c) (typePayload w 0) ++ encode c) x′ y′ (exceeds c) =
+      step (At level) x y w x′ y′ (typePayload w 0) c z in
       rw (h .light, h .first .is-body, ← h .first .is-front) at s
 
   module _ (h : Head level x) (g : Head level y) where
@@ -81,7 +82,7 @@ module _ {level : Level} {x y : List ℕ} where
     pub step-same : eq ≡ order (At level) x y → Step (At level) x y (joinedBytes (At level) x y) (rest x) (rest y) (exceeds (both (At level) (body x) (body y)))
     unfolding both reduce reduceNode reduceStep joinedBytes mergedBytes
     step-same i =
-        step (At level) x y x (rest x) (rest y) (typeCount x 0 + typeCount y 0) (both (At level) (body x) (body y)) (rw (h .first .is-type, g .first .is-type, ← i) refl)
+        step (At level) x y x (rest x) (rest y) (join (typePayload x 0) (typePayload y 0)) (both (At level) (body x) (body y)) (rw (h .first .is-type, g .first .is-type, ← i) refl)
 
 -- one of two has run out: the merge is the other
 pub record Alone (x : List ℕ) (f : CountingType) : Type 0 where
@@ -115,7 +116,7 @@ module _ (e : Equivalence) (x y : List ℕ) where
   pub length-joined : length (joinedBytes e x y) ≡ typeSize + length (mergedBytes e (body x) (body y))
   unfolding joinedBytes
   length-joined =
-      simp length-append (rw (length-headerOf (typeKind x 0) (typeKey x 0) (1 + size (both e (body x) (body y))) (typeCount x 0 + typeCount y 0)) refl)
+      simp length-append (rw (length-headerOf (typeKind x 0) (typeKey x 0) (1 + size (both e (body x) (body y))) (join (typePayload x 0) (typePayload y 0))) refl)
 
   -- no run is longer than both together
   pub merged-le : {f g : Bool} → Coded e f x → Coded e g y → length (mergedBytes e x y) ≤ length x + length y

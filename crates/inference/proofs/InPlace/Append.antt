@@ -4,6 +4,7 @@ use mathlib.Core.Bool.{Bool}
 use mathlib.Core.List.{_++_, append-assoc}
 use Prim.Native.Nat.{ℕ, _+_, Ordering, Ordering·lt as lt, Ordering·eq as eq, Ordering·gt as gt}
 use native.Mathlib.Omega.{arith}
+use Rattle.counting_theory.specs.Payload.{Payload}
 use Rattle.counting_theory.specs.Order.{flip}
 use Rattle.counting_theory.specs.Trie.{nil, node, append, size, Before, Sorted}
 use Rattle.counting_theory.specs.Label.{Equivalence, Label, compareLabel, Counting, CountingType}
@@ -24,7 +25,7 @@ size-append nil g = omega arith
 size-append (node l a c s) g = omega (arith, size-append s g)
 
 -- the siblings behind the first
-pub siblings-next : {e : Equivalence} {field : Bool} {l : Label} {a : ℕ} {c s : CountingType} → Siblings e field (node l a c s) → Siblings e field s
+pub siblings-next : {e : Equivalence} {field : Bool} {l : Label} {a : Payload} {c s : CountingType} → Siblings e field (node l a c s) → Siblings e field s
 siblings-next {e} {field} {l} {a} {c} {s} h =
     record { tagged = tagged-parts e field l a c s (h .tagged) .2; sorted = h .sorted .2; keyed = h .keyed .2 }
 
@@ -39,7 +40,7 @@ AllBefore l nil = Unit {0}
 AllBefore l (node k count c s) = (compareLabel l k ≡ gt) × AllBefore l s
 
 -- a label before sorted siblings is before each of them
-before-later : (m : Label) (t : CountingType) (k : Label) (a : ℕ) (c s : CountingType) → Before Counting m (append t (node k a c s)) →
+before-later : (m : Label) (t : CountingType) (k : Label) (a : Payload) (c s : CountingType) → Before Counting m (append t (node k a c s)) →
     Sorted Counting (append t (node k a c s)) → compareLabel m k ≡ lt
 unfolding append
 before-later m nil k a c s h u = h
@@ -54,7 +55,7 @@ behind l m k h gt e n =
     label-order .compare-flip m l ∙ ap flip z
 
 -- a label that does not come before a sibling is behind those before that one
-pub all-before : (l : Label) (f : CountingType) (k : Label) (a : ℕ) (c s : CountingType) → Sorted Counting (append f (node k a c s)) →
+pub all-before : (l : Label) (f : CountingType) (k : Label) (a : Payload) (c s : CountingType) → Sorted Counting (append f (node k a c s)) →
     (compareLabel l k ≡ lt → ⊥) → AllBefore l f
 unfolding append
 all-before l nil k a c s u n = tt

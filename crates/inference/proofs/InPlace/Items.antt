@@ -3,6 +3,7 @@ use mathlib.Core.Path.{_≡_, refl, _∙_, ap}
 use mathlib.Core.Bool.{Bool, true, false, cond}
 use mathlib.Core.List.{List, [], _∷_}
 use Prim.Native.Nat.{ℕ, suc, _+_, _*_, _≤_, _<_}
+use native.Mathlib.Nat.{mul-one}
 use native.Mathlib.Omega.{arith}
 use lib.Dec.{eqb, leb}
 use lib.ListN.{length}
@@ -12,17 +13,19 @@ use Rattle.inference.specs.declared.key_list.Listed.{Listed}
 use Rattle.inference.specs.declared.key_list.Listed.the-variants.{Keys, TooMany}
 use Rattle.inference.specs.declared.placing.Put.{Put}
 use Rattle.inference.specs.declared.placing.Put.the-variants.{NoRoom, At}
+use Rattle.counting_theory.specs.Payload.{Payload, one, oneField, copies}
 use Rattle.counting_theory.specs.Trie.{nil, node, size, insert, add, profile}
-use Rattle.counting_theory.specs.Label.{Equivalence, byKind, byLabel, Label, listed, Counting, CountingType}
+use Rattle.counting_theory.specs.Label.{Equivalence, byKind, byLabel, Label, fieldKind, listed, Counting, CountingType}
 use Rattle.counting_theory.specs.Raw.{insertKey, ascending, raw}
 use Rattle.counting_theory.specs.Encoding.{typeSize, siblingKeys}
-use Rattle.inference.specs.Inferring.{keysOf, ListedIn, LabelListed, wanted, labelFor, times, withItem, split, Siblings, TableRun, PlacedAt, CountedWithin}
+use Rattle.counting_theory.specs.Times.{times}
+use Rattle.inference.specs.Inferring.{keysOf, ListedIn, LabelListed, wanted, labelFor, withItem, itemPayload, split, grown, Siblings, TableRun, PlacedAt, CountedWithin}
 use Rattle.counting_theory.proofs.Label.{counting-laws}
 use Rattle.counting_theory.proofs.Trie.Growth.{add-grows, profile-grows}
 use Rattle.counting_theory.proofs.Tagged.Profile.{inferred}
 use Rattle.inference.proofs.InPlace.Append.{size-append}
 use Rattle.inference.proofs.InPlace.Splits.{insert-split, content-siblings}
-use Rattle.inference.proofs.InPlace.Times.{times-grows}
+use Rattle.counting_theory.proofs.Times.{times-grows}
 
 pub label-is : (e : Equivalence) (kind key n : ℕ) (w : List ℕ) (vs : Values) → listed e kind (keysOf n w) ≡ listed e kind (ascending (keys vs)) →
     wanted e kind key n w ≡ labelFor e kind key vs
@@ -41,24 +44,33 @@ pub listed-record : (kind : ℕ) (vs : Values) (r : Listed) (w : List ℕ) → k
 listed-record kind vs (Keys n) w e h = (ap (listed byLabel kind) (h .0), h .1)
 listed-record kind vs TooMany w e h = (e, h)
 
-module _ (l : Label) (a : ℕ) (g : CountingType → CountingType) (f : CountingType) where
+module _ (l : Label) (a : Payload) (g : CountingType → CountingType) (f : CountingType) where
   pub insert-size : size (insert Counting l a g f) ≡ size (split l f .before) + (1 + (size (g (split l f .content)) + size (split l f .after)))
   unfolding size
-  insert-size = ap size (insert-split l a g f) ∙ size-append (split l f .before) (node l (split l f .count + a) (g (split l f .content)) (split l f .after))
+  insert-size = ap size (insert-split l a g f) ∙ size-append (split l f .before) (node l (grown (split l f .payload) a) (g (split l f .content)) (split l f .after))
+
+-- the payload of an item is its weight
+pub item-is : (w kind : ℕ) (vs : Values) → itemPayload w kind vs ≡ record { count = w }
+unfolding copies one oneField
+item-is w kind vs = go (eqb kind fieldKind)
+  where
+    go : (t : Bool) → copies w (cond t oneField (one (record { kind = kind }) vs)) ≡ record { count = w }
+    go true = λ i. record { count = mul-one w i }
+    go false = λ i. record { count = mul-one w i }
 
 -- a place that is missing for the label alone is missing for the whole item
 module _ (e : Equivalence) (kind key w : ℕ) (vs : Values) (f : CountingType) (q : List ℕ) (rest : ℕ) where
   abbrev l : Label
   l = labelFor e kind key vs
 
-  located-at : (r : Put) (b : List ℕ) → PlacedAt l w f q rest r b → CountedWithin (size (withItem e kind key w vs f) + rest) (split l f) l w q r b
+  located-at : (r : Put) (b : List ℕ) → PlacedAt l (itemPayload w kind vs) f q rest r b → CountedWithin (size (withItem e kind key w vs f) + rest) (split l f) l (itemPayload w kind vs) q r b
   located-at NoRoom b h =
       let r = times w (raw e (eqb kind recordKind) vs) in
-      omega (arith, insert-size l w (add Counting r) f, add-grows counting-laws r (split l f .content) .sizes)
+      omega (arith, insert-size l (itemPayload w kind vs) (add Counting r) f, add-grows counting-laws r (split l f .content) .sizes)
   located-at (At p n) b h = h
 
-  pub located : (m : Label) → m ≡ l → (r : Put) (b : List ℕ) → PlacedAt m w f q rest r b → CountedWithin (size (withItem e kind key w vs f) + rest) (split l f) l w q r b
-  located m z r b h = located-at r b (rw z at h)
+  pub located : (m : Label) → m ≡ l → (r : Put) (b : List ℕ) → PlacedAt m (record { count = w }) f q rest r b → CountedWithin (size (withItem e kind key w vs f) + rest) (split l f) l (itemPayload w kind vs) q r b
+  located m z r b h = located-at r b (rw (item-is w kind vs) (rw z at h))
 
 length-insert : (k : ℕ) (xs : List ℕ) → length (insertKey k xs) ≡ suc (length xs)
 unfolding insertKey
@@ -94,4 +106,4 @@ too-many e field kind key w t vs f o z r h rest k n i j =
     let c = split l f .content in
     let s : Siblings e true c = rw b at (content-siblings l e field f h) in
     let grown : size (add Counting (times w (raw e (eqb kind recordKind) vs)) c) ≡ size (add Counting (times w (raw e true vs)) c) = ap (λ u. size (add Counting (times w (raw e u vs)) c)) b in
-    omega (arith, insert-size l w (add Counting (times w (raw e (eqb kind recordKind) vs))) f, grown, fields-size e w t vs c o (rw b at r) s)
+    omega (arith, insert-size l (itemPayload w kind vs) (add Counting (times w (raw e (eqb kind recordKind) vs))) f, grown, fields-size e w t vs c o (rw b at r) s)

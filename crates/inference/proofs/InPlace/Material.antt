@@ -3,36 +3,38 @@ use mathlib.Core.Path.{_≡_, refl, sym, _∙_, ap}
 use mathlib.Core.Bool.{Bool, true, false}
 use Prim.Native.Nat.{ℕ, suc, _≤_, _<_, Ordering, Ordering·lt as lt, Ordering·eq as eq, Ordering·gt as gt}
 use native.Mathlib.Omega.{arith}
-use lib.Dec.{eqb}
+use lib.Dec.{eqb, lit<}
 use Rattle.value_table.specs.Value.{recordKind, Values, none, value, ValidAt}
+use Rattle.counting_theory.specs.Payload.{Payload, one}
 use Rattle.counting_theory.specs.Trie.{nil, node, insertStep, insert, add, profile, reduce}
 use Rattle.counting_theory.specs.Label.{Equivalence, Label, compareLabel, Counting, CountingType}
 use Rattle.counting_theory.specs.Raw.{classOf, addend, raw}
 use Rattle.counting_theory.specs.Encoding.{Tagged}
-use Rattle.inference.specs.Inferring.{Keyed, Siblings, times}
+use Rattle.counting_theory.specs.Times.{times}
+use Rattle.inference.specs.Inferring.{Keyed, Siblings}
 use Rattle.counting_theory.proofs.Label.{counting-laws}
 use Rattle.counting_theory.proofs.Trie.Sorted.{sorted-add, sorted-profile}
 use Rattle.counting_theory.proofs.Trie.Profile.{add-comm, reduce-add}
 use Rattle.counting_theory.proofs.Tagged.Profile.{inferred}
 use Rattle.counting_theory.proofs.Tagged.Reduce.{tagged-reduce}
 use Rattle.inference.proofs.InPlace.Runs.{key-fits}
-use Rattle.inference.proofs.InPlace.Times.{times-keeps}
+use Rattle.counting_theory.proofs.Times.{times-keeps}
 
 -- values that are no fields: their keys make no difference
 unfoldable unkeyed : Values → Values
 unkeyed none = none
-unkeyed (value kind key content next) = value kind 0 content (unkeyed next)
+unkeyed (value head key content next) = value head 0 content (unkeyed next)
 
 module _ (e : Equivalence) where
   raw-unkeyed : (vs : Values) → raw e false (unkeyed vs) ≡ raw e false vs
   unfolding raw unkeyed
   raw-unkeyed none = refl
-  raw-unkeyed (value kind key content next) = ap (addend false key (classOf e kind content) (raw e (eqb kind recordKind) content)) (raw-unkeyed next)
+  raw-unkeyed (value head key content next) = ap (addend false key (classOf e (head .kind) content) (one head content) (raw e (eqb (head .kind) recordKind) content)) (raw-unkeyed next)
 
   valid-unkeyed : (asFields : Bool) (depth : ℕ) (vs : Values) → ValidAt asFields depth vs → ValidAt false depth (unkeyed vs)
   unfolding ValidAt unkeyed
   valid-unkeyed asFields depth none h = tt
-  valid-unkeyed asFields depth (value kind key content next) h =
+  valid-unkeyed asFields depth (value head key content next) h =
       let p = h .0 in (
         record { kind-low = p .kind-low; kind-high = p .kind-high; scalar = p .scalar; keyed = refl; distinct = p .distinct; shallow = p .shallow },
         h .1,
@@ -46,12 +48,12 @@ module _ (e : Equivalence) where
   keyed-raw : (field asFields : Bool) (depth : ℕ) (vs : Values) → ValidAt asFields depth vs → Keyed (raw e field vs)
   unfolding raw ValidAt
   keyed-raw field asFields depth none h = tt
-  keyed-raw true asFields depth (value kind key content next) h =
-      (key-fits asFields key (h .0 .keyed), (omega arith, keyed-raw (eqb kind recordKind) (eqb kind recordKind) (suc depth) content (h .1), tt), keyed-raw true asFields depth next (h .2))
-  keyed-raw false asFields depth (value kind key content next) h =
-      (omega arith, keyed-raw (eqb kind recordKind) (eqb kind recordKind) (suc depth) content (h .1), keyed-raw false asFields depth next (h .2))
+  keyed-raw true asFields depth (value head key content next) h =
+      ((lit< tt, key-fits asFields key (h .0 .keyed)), ((omega (arith, h .0 .kind-high), lit< tt), keyed-raw (eqb (head .kind) recordKind) (eqb (head .kind) recordKind) (suc depth) content (h .1), tt), keyed-raw true asFields depth next (h .2))
+  keyed-raw false asFields depth (value head key content next) h =
+      ((omega (arith, h .0 .kind-high), lit< tt), keyed-raw (eqb (head .kind) recordKind) (eqb (head .kind) recordKind) (suc depth) content (h .1), keyed-raw false asFields depth next (h .2))
 
-keyed-insert : (l : Label) (a : ℕ) (g : CountingType → CountingType) → l .key < 65536 → ((c : CountingType) → Keyed c → Keyed (g c)) → (f : CountingType) → Keyed f → Keyed (insert Counting l a g f)
+keyed-insert : (l : Label) (a : Payload) (g : CountingType → CountingType) → (l .kind < 256) × (l .key < 65536) → ((c : CountingType) → Keyed c → Keyed (g c)) → (f : CountingType) → Keyed f → Keyed (insert Counting l a g f)
 unfolding insert insertStep
 keyed-insert l a g h i nil k = (h, i nil tt, tt)
 keyed-insert l a g h i (node m b c s) k = go (compareLabel l m) (keyed-insert l a g h i s (k .2))

@@ -6,8 +6,8 @@ use Prim.Native.Nat.{ℕ, _+_, _*_, _-_, _≤_}
 use native.Mathlib.Omega.{arith}
 use lib.ListN.{length, drop, length-append, length-drop}
 use lib.Seq.{drop-drop, drop-at}
-use Rattle.value_table.specs.Number.{bytesOf, numberOf}
 use Rattle.value_table.specs.Value.{maxLength}
+use Rattle.counting_theory.specs.Payload.{Payload}
 use Rattle.counting_theory.specs.Trie.{nil, node, size}
 use Rattle.counting_theory.specs.Label.{Equivalence, Label, CountingType}
 use Rattle.counting_theory.specs.Encoding.{typeSize, typeKind, typeKey, typeSpan, siblingKeys, encode, Tagged}
@@ -15,7 +15,7 @@ use Rattle.type_arena.specs.Arena.{labelAt, InTable, FieldChain, done, then as 
 use Rattle.inference.specs.Inferring.{Keyed}
 use Rattle.type_arena.proofs.Chain.{inside-keys}
 use Rattle.counting_theory.proofs.Tagged.Parts.{tagged-parts, shape-label}
-use Rattle.counting_theory.proofs.Encoding.Header.{Fields, length-encode, header-fields}
+use Rattle.counting_theory.proofs.Encoding.Header.{Front, length-encode, header-front}
 
 pub record NodeIn (b : List ℕ) (i : ℕ) (l : Label) (c s : CountingType) (q : List ℕ) : Type 0 where
   pub kind-is : typeKind b i ≡ l .kind
@@ -26,13 +26,13 @@ pub record NodeIn (b : List ℕ) (i : ℕ) (l : Label) (c s : CountingType) (q :
   pub in-next : drop (typeSize * (i + typeSpan b i)) b ≡ encode s ++ q
 
 module _ (b : List ℕ) (short : length b ≤ maxLength) where
-  pub node-in : (i : ℕ) (l : Label) (a : ℕ) (c s : CountingType) (q : List ℕ) → Keyed (node l a c s) → drop (typeSize * i) b ≡ encode (node l a c s) ++ q → NodeIn b i l c s q
+  pub node-in : (i : ℕ) (l : Label) (a : Payload) (c s : CountingType) (q : List ℕ) → Keyed (node l a c s) → drop (typeSize * i) b ≡ encode (node l a c s) ++ q → NodeIn b i l c s q
   unfolding encode size
   node-in i l a c s q keyed e =
       let n : length b - 16 * i ≡ 16 * (1 + (size c + size s)) + length q = sym (length-drop (16 * i) b) ∙ ap length e ∙ length-append (encode (node l a c s)) q ∙ ap (λ k. k + length q) (length-encode (node l a c s)) in
       let last : List ℕ = encode s ++ q in
-      let f : Fields b i (l .kind) 0 (l .key) (1 + size c) (numberOf (bytesOf 8 a)) (encode c ++ last) =
-      header-fields b i l (1 + size c) a (encode c ++ last) (keyed .0) (omega arith) (e ∙ simp append-assoc) in
+      let f : Front b i l (1 + size c) (encode c ++ last) =
+      header-front b i l (1 + size c) a (encode c ++ last) (keyed .0 .0) (keyed .0 .1) (omega arith) (e ∙ simp append-assoc) in
       let p : typeSize * (i + typeSpan b i) ≡ typeSize * (i + 1) + typeSize * size c = omega (arith, f .span-is) in
       record {
         kind-is = f .kind-is;
@@ -50,7 +50,7 @@ module _ (b : List ℕ) (short : length b ≤ maxLength) where
       let x = node-in p l a c s q keyed e in
       rw (← (x .key-is)) (next {p = p} (omega arith) (omega (arith, x .span-is)) (chain-in (p + typeSpan b p) end s q (keyed .2) (x .in-next) (omega (arith, x .span-is))))
 
-  module _ (e : Equivalence) (field : Bool) (i : ℕ) (l : Label) (a : ℕ) (c s : CountingType) (q : List ℕ) (keyed : Keyed (node l a c s))
+  module _ (e : Equivalence) (field : Bool) (i : ℕ) (l : Label) (a : Payload) (c s : CountingType) (q : List ℕ) (keyed : Keyed (node l a c s))
       (bytes : drop (typeSize * i) b ≡ encode (node l a c s) ++ q) where
     abbrev pub here : NodeIn b i l c s q
     here = node-in i l a c s q keyed bytes

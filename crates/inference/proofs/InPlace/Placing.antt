@@ -3,21 +3,21 @@ use mathlib.Core.Path.{_≡_, refl, _∙_, ap}
 use mathlib.Core.Bool.{Bool}
 use mathlib.Core.List.{List, _++_, append-assoc}
 use Prim.Native.Nat.{ℕ, _+_, _-_, _*_, _≤_, _<_}
-use native.Mathlib.Nat.{zero-add, add-zero}
 use native.Mathlib.Omega.{arith}
 use lib.ListN.{length, take, drop, length-append}
 use lib.Seq.{take-at, drop-append-add}
 use borrow.Rule.Slice.PartMut.{putMid}
+use Rattle.counting_theory.specs.Payload.{Payload, join}
 use Rattle.counting_theory.specs.Trie.{node, size}
 use Rattle.counting_theory.specs.Label.{Equivalence, Label, CountingType}
 use Rattle.counting_theory.specs.Encoding.{typeSize, header, encode}
-use Rattle.inference.specs.Inferring.{Holds, Split, Counted}
+use Rattle.inference.specs.Inferring.{Holds, Split, grown, Counted}
 use Rattle.counting_theory.proofs.Encoding.Header.{length-encode}
 use Rattle.inference.proofs.InPlace.Part.{tail-part, tail-put}
 use Rattle.inference.proofs.InPlace.Append.{encode-append, size-append}
 use Rattle.inference.proofs.InPlace.Splits.{HereAt, MissingAt}
 
-pub encode-node : (l : Label) (a : ℕ) (c s : CountingType) → encode (node l a c s) ≡ header l (1 + size c) a ++ (encode c ++ encode s)
+pub encode-node : (l : Label) (a : Payload) (c s : CountingType) → encode (node l a c s) ≡ header l (1 + size c) a ++ (encode c ++ encode s)
 unfolding encode
 encode-node l a c s = refl
 
@@ -25,13 +25,13 @@ module _ {e : Equivalence} {field : Bool} {a : List ℕ} {n rest : ℕ} {f : Cou
   pub holds-length : length a ≡ typeSize * n + typeSize * rest + length free
   holds-length = ap length (h .bytes) ∙ simp length-append (omega (arith, length-encode f, h .count, h .used))
 
-  module _ (l : Label) (x : Split) (p w : ℕ) where
+  module _ (l : Label) (x : Split) (p : ℕ) (w : Payload) where
     module _ (v : HereAt x l 0 f p) where
       here-front : length (encode (x .before)) ≡ typeSize * p
       here-front = omega (arith, length-encode (x .before), v .spot-is)
 
       abbrev here-tail : List ℕ
-      here-tail = header l (1 + size (x .content)) (x .count) ++ (encode (x .content) ++ (encode (x .after) ++ (q ++ free)))
+      here-tail = header l (1 + size (x .content)) (v .held) ++ (encode (x .content) ++ (encode (x .after) ++ (q ++ free)))
 
       here-bytes : a ≡ encode (x .before) ++ here-tail
       here-bytes = h .bytes ∙ ap (λ g. encode g ++ (q ++ free)) (v .whole) ∙ simp (encode-append, encode-node, append-assoc)
@@ -44,19 +44,20 @@ module _ {e : Equivalence} {field : Bool} {a : List ℕ} {n rest : ℕ} {f : Cou
       here-within = omega (arith, here-count, v .spot-is)
 
       -- nothing is counted yet
-      pub here-as-is : Counted x l 0 q p n a
-      here-as-is = record { place = omega (arith, v .spot-is); count = here-count; free = free; bytes = here-bytes ∙ rw add-zero refl }
+      pub here-as-is : Counted x l (v .held) q p n a
+      here-as-is = record { place = omega (arith, v .spot-is); count = here-count; free = free; bytes = here-bytes }
 
       pub here-counted : (b : List ℕ) →
-          ((l : Label) (span count : ℕ) (q : List ℕ) → take (length a - typeSize * p) (drop (typeSize * p) a) ≡ header l span count ++ q → b ≡ header l span (count + w) ++ q) →
-          Counted x l w q p n (putMid (typeSize * p) (length a - typeSize * p) a b)
+          ((l : Label) (span : ℕ) (y : Payload) (q : List ℕ) → take (length a - typeSize * p) (drop (typeSize * p) a) ≡ header l span y ++ q → b ≡ header l span (join y w) ++ q) →
+          Counted x l (grown (x .payload) w) q p n (putMid (typeSize * p) (length a - typeSize * p) a b)
+      unfolding grown
       here-counted b z =
           record {
             place = omega (arith, v .spot-is);
             count = here-count;
             free = free;
             bytes = tail-put a (encode (x .before)) here-tail _ here-bytes here-front b
-                ∙ ap (λ t. encode (x .before) ++ t) (z _ _ _ _ (tail-part a (encode (x .before)) here-tail _ here-bytes here-front));
+                ∙ rw (v .held-is) (ap (λ t. encode (x .before) ++ t) (z _ _ _ _ (tail-part a (encode (x .before)) here-tail _ here-bytes here-front)));
           }
 
     module _ (v : MissingAt x 0 f p) where
@@ -82,8 +83,8 @@ module _ {e : Equivalence} {field : Bool} {a : List ℕ} {n rest : ℕ} {f : Cou
 
       pub missing-counted : (b : List ℕ) → let t = take (length a - typeSize * p) (drop (typeSize * p) a) in let k = typeSize * (n + rest) - typeSize * p in
           b ≡ header l 1 w ++ (take k t ++ drop (k + typeSize) t) →
-          Counted x l w q p (n + 1) (putMid (typeSize * p) (length a - typeSize * p) a b)
-      unfolding size encode
+          Counted x l (grown (x .payload) w) q p (n + 1) (putMid (typeSize * p) (length a - typeSize * p) a b)
+      unfolding size encode grown
       missing-counted b z =
           let none : size (x .content) ≡ 0 = ap size (v .empty) in
           let k = typeSize * (n + rest) - typeSize * p in
@@ -96,5 +97,5 @@ module _ {e : Equivalence} {field : Bool} {a : List ℕ} {n rest : ℕ} {f : Cou
             place = omega (arith, v .spot-is);
             count = omega (arith, missing-count);
             free = drop typeSize free;
-            bytes = tail-put a (encode (x .before)) (moved ++ free) _ missing-bytes missing-front b ∙ rw (u, v .empty, v .fresh, zero-add) (simp append-assoc);
+            bytes = tail-put a (encode (x .before)) (moved ++ free) _ missing-bytes missing-front b ∙ rw (u, v .empty, v .fresh) (simp append-assoc);
           }

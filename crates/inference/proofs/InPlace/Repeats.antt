@@ -9,37 +9,40 @@ use native.Mathlib.Decide.{decLt}
 use lib.ListN.{length, take, drop, length-append, length-drop}
 use lib.Seq.{drop-drop, drop-at}
 use Rattle.value_table.specs.Number.{bytesOf, numberOf, numberAt}
-use Rattle.value_table.specs.Value.{recordSize, maxLength, header, Values, none, value, size, encode, ValidAt}
+use Rattle.value_table.specs.Value.{Head, recordSize, maxLength, header, Values, none, value, size, encode, ValidAt}
 use Rattle.value_table.proofs.Number.{numberOf-bytesOf}
+use Rattle.value_table.specs.Format.{recordBytes}
+use Rattle.value_table.proofs.Run.{value-fits}
 use Rattle.value_table.proofs.Header.{length-encode, header-read}
 use Rattle.counting_theory.specs.Trie.{add, Sorted}
 use Rattle.counting_theory.specs.Label.{Equivalence, Counting, CountingType}
 use Rattle.counting_theory.specs.Raw.{raw}
-use Rattle.inference.specs.Inferring.{times, EqualRecords}
+use Rattle.counting_theory.specs.Times.{times}
+use Rattle.inference.specs.Inferring.{EqualRecords}
 use Rattle.counting_theory.proofs.Label.{counting-laws}
 use Rattle.counting_theory.proofs.Trie.Sorted.{sorted-add}
 use Rattle.inference.proofs.InPlace.Runs.{key-fits}
-use Rattle.inference.proofs.InPlace.Times.{add-times}
+use Rattle.counting_theory.proofs.Times.{add-times}
 
 -- a value n times, then others
-unfoldable pub copies : ℕ → ℕ → ℕ → Values → Values → Values
-copies zero kind key content rest = rest
-copies (suc n) kind key content rest = value kind key content (copies n kind key content rest)
+unfoldable pub copies : ℕ → Head → ℕ → Values → Values → Values
+copies zero head key content rest = rest
+copies (suc n) head key content rest = value head key content (copies n head key content rest)
 
-header-word : (kind key span : ℕ) (x : List ℕ) → key < 65536 → span < 2 ^ 32 → numberOf (take 8 (header kind key span ++ x)) ≡ kind + 65536 * key + 4294967296 * span
-unfolding header bytesOf numberOf
-header-word kind key span x hk hs = omega (arith, numberOf-bytesOf 2 key hk, numberOf-bytesOf 4 span hs)
+header-word : (head : Head) (key span : ℕ) (x : List ℕ) → head .kind < 256 → key < 65536 → span < 2 ^ 32 → numberOf (take 8 (header head key span ++ x)) ≡ head .kind + 65536 * key + 4294967296 * span
+unfolding header recordBytes bytesOf numberOf
+header-word head key span x h hk hs = omega (arith, numberOf-bytesOf 2 key hk, numberOf-bytesOf 4 span hs)
 
-size-alone : (kind key : ℕ) (content : Values) → size (value kind key content none) ≡ 1 + size content
+size-alone : (head : Head) (key : ℕ) (content : Values) → size (value head key content none) ≡ 1 + size content
 unfolding size
-size-alone kind key content = omega arith
+size-alone head key content = omega arith
 
 -- the first value of a run is added before the others
-add-value : (e : Equivalence) (field : Bool) (w kind key : ℕ) (content next : Values) (g : CountingType) →
-    add Counting (times w (raw e field (value kind key content next))) g ≡ add Counting (times w (raw e field next)) (add Counting (times w (raw e field (value kind key content none))) g)
+add-value : (e : Equivalence) (field : Bool) (w : ℕ) (head : Head) (key : ℕ) (content next : Values) (g : CountingType) →
+    add Counting (times w (raw e field (value head key content next))) g ≡ add Counting (times w (raw e field next)) (add Counting (times w (raw e field (value head key content none))) g)
 unfolding raw times add
-add-value e true w kind key content next g = refl
-add-value e false w kind key content next g = refl
+add-value e true w head key content next g = refl
+add-value e false w head key content next g = refl
 
 module _ {t : List ℕ} {i j : ℕ} where
   pub equal-none : recordSize * j ≤ length t → EqualRecords t i j 0
@@ -57,39 +60,39 @@ module _ {t : List ℕ} {i j : ℕ} where
 
 module _ (t : List ℕ) (short : length t ≤ maxLength) where
   -- what stands at record i: a value, those behind it, and bytes after them
-  record ValueAt (i kind key : ℕ) (content next : Values) (x : List ℕ) : Type 0 where
-    pub kind-small : kind ≤ 6
+  record ValueAt (i : ℕ) (head : Head) (key : ℕ) (content next : Values) (x : List ℕ) : Type 0 where
+    pub kind-small : head .kind ≤ 6
     pub key-small : key < 65536
-    pub word : numberAt 8 t (recordSize * i) ≡ kind + 65536 * key + 4294967296 * (1 + size content)
+    pub word : numberAt 8 t (recordSize * i) ≡ head .kind + 65536 * key + 4294967296 * (1 + size content)
     pub inside : drop (recordSize * (i + 1)) t ≡ encode content ++ (encode next ++ x)
     pub behind : drop (recordSize * (i + (1 + size content))) t ≡ encode next ++ x
 
-  value-at : (asFields : Bool) (depth i kind key : ℕ) (content next : Values) (x : List ℕ) → ValidAt asFields depth (value kind key content next) →
-      drop (recordSize * i) t ≡ encode (value kind key content next) ++ x → ValueAt i kind key content next x
+  value-at : (asFields : Bool) (depth i : ℕ) (head : Head) (key : ℕ) (content next : Values) (x : List ℕ) → ValidAt asFields depth (value head key content next) →
+      drop (recordSize * i) t ≡ encode (value head key content next) ++ x → ValueAt i head key content next x
   unfolding encode ValidAt numberAt
-  value-at asFields depth i kind key content next x v e =
+  value-at asFields depth i head key content next x v e =
       let k : key < 65536 = key-fits asFields key (v .0 .keyed) in
       let rest : List ℕ = encode content ++ (encode next ++ x) in
-      let z : drop (8 * i) t ≡ header kind key (1 + size content) ++ rest = e ∙ simp append-assoc in
-      let n : length t - 8 * i ≡ length (header kind key (1 + size content)) + (8 * size content + length (encode next ++ x)) =
+      let z : drop (8 * i) t ≡ header head key (1 + size content) ++ rest = e ∙ simp append-assoc in
+      let n : length t - 8 * i ≡ length (header head key (1 + size content)) + (8 * size content + length (encode next ++ x)) =
       sym (length-drop (8 * i) t) ∙ ap length z ∙ simp (length-append, length-encode) in
       let s : 1 + size content < 2 ^ 32 = omega arith in
-      let f = header-read t i kind key (1 + size content) rest k s z in
+      let f = header-read t i head key (1 + size content) rest (value-fits asFields depth head key content (v .0) s) z in
       let p : 8 * (i + (1 + size content)) ≡ 8 * (i + 1) + 8 * size content = omega arith in
       record {
         kind-small = v .0 .kind-high;
         key-small = k;
-        word = rw z (header-word kind key (1 + size content) rest k s);
+        word = rw z (header-word head key (1 + size content) rest (omega (arith, v .0 .kind-high)) k s);
         inside = f .rest-is;
         behind = rw (p, ← drop-drop, f .rest-is) (drop-at (encode content) (encode next ++ x) (8 * size content) (length-encode content));
       }
 
-  module _ {i j kind key kind′ key′ : ℕ} {content next content′ next′ : Values} {x x′ : List ℕ} (u : ValueAt i kind key content next x) (v : ValueAt j kind′ key′ content′ next′ x′)
+  module _ {i j : ℕ} {head head′ : Head} {key key′ : ℕ} {content next content′ next′ : Values} {x x′ : List ℕ} (u : ValueAt i head key content next x) (v : ValueAt j head′ key′ content′ next′ x′)
       (e : numberAt 8 t (recordSize * i) ≡ numberAt 8 t (recordSize * j)) where
-    words : kind + 65536 * key + 4294967296 * (1 + size content) ≡ kind′ + 65536 * key′ + 4294967296 * (1 + size content′)
+    words : head .kind + 65536 * key + 4294967296 * (1 + size content) ≡ head′ .kind + 65536 * key′ + 4294967296 * (1 + size content′)
     words = sym (u .word) ∙ e ∙ v .word
 
-    same-head : (kind ≡ kind′) × (key ≡ key′) × (size content ≡ size content′)
+    same-head : (head .kind ≡ head′ .kind) × (key ≡ key′) × (size content ≡ size content′)
     same-head = omega (arith, words, u .kind-small, u .key-small, v .kind-small, v .key-small)
 
   -- the same from a later record on
@@ -116,52 +119,52 @@ module _ (t : List ℕ) (short : length t ≤ maxLength) where
       let inner : c ≡ c′ = same-values (i + 1) (j + 1) _ _ _ _ _ _ c c′ (v .1) (w .1) (u .inside) (u′ .inside) (h .2) (later i j (size (value k l c r)) 1 (size c) (omega arith) s) in
       let from : drop (recordSize * (j + (1 + size c))) t ≡ encode r′ ++ y = rw (h .2) (u′ .behind) in
       let outer : r ≡ r′ = same-values (i + (1 + size c)) (j + (1 + size c)) _ _ _ _ _ _ r r′ (v .2) (w .2) (u .behind) from (omega (arith, h .2)) (later i j (size (value k l c r)) (1 + size c) (size r) (omega arith) s) in
-      λ o. value (h .0 o) (h .1 o) (inner o) (outer o)
+      λ o. value (record { kind = h .0 o }) (h .1 o) (inner o) (outer o)
 
   module _ (asFields : Bool) (depth : ℕ) where
     -- the values behind the first one are n copies of it, then the rest
-    pub record Copied (i kind key : ℕ) (content next : Values) (n : ℕ) : Type 0 where
+    pub record Copied (i : ℕ) (head : Head) (key : ℕ) (content next : Values) (n : ℕ) : Type 0 where
       pub rest : Values
-      pub is-copies : next ≡ copies n kind key content rest
+      pub is-copies : next ≡ copies n head key content rest
       pub rest-bytes : drop (recordSize * (i + (1 + size content) + (1 + size content) * n)) t ≡ encode rest
       pub rest-valid : ValidAt asFields depth rest
 
-    pub copied : (n i kind key : ℕ) (content next : Values) → ValidAt asFields depth (value kind key content next) → drop (recordSize * i) t ≡ encode (value kind key content next) →
-        EqualRecords t i (i + (1 + size content)) ((1 + size content) * n) → Copied i kind key content next n
+    pub copied : (n i : ℕ) (head : Head) (key : ℕ) (content next : Values) → ValidAt asFields depth (value head key content next) → drop (recordSize * i) t ≡ encode (value head key content next) →
+        EqualRecords t i (i + (1 + size content)) ((1 + size content) * n) → Copied i head key content next n
     unfolding copies ValidAt
-    copied zero i kind key content next v e q =
-        let u = value-at asFields depth i kind key content next [] v (e ∙ sym (append-nil _)) in
+    copied zero i head key content next v e q =
+        let u = value-at asFields depth i head key content next [] v (e ∙ sym (append-nil _)) in
         let p : 8 * (i + (1 + size content) + (1 + size content) * 0) ≡ 8 * (i + (1 + size content)) = omega arith in
         record { rest = next; is-copies = refl; rest-bytes = rw p (u .behind ∙ append-nil _); rest-valid = v .2 }
-    copied (suc n) i kind key content none v e q =
+    copied (suc n) i head key content none v e q =
         let p : (1 + size content) * suc n ≡ (1 + size content) * n + (1 + size content) = mul-suc (1 + size content) n in
-        let l : length t - 8 * i ≡ 8 * (1 + size content) = sym (length-drop (8 * i) t) ∙ ap length e ∙ length-encode (value kind key content none) ∙ ap (λ m. 8 * m) (size-alone kind key content) in
+        let l : length t - 8 * i ≡ 8 * (1 + size content) = sym (length-drop (8 * i) t) ∙ ap length e ∙ length-encode (value head key content none) ∙ ap (λ m. 8 * m) (size-alone head key content) in
         absurd (omega (arith, q .within))
-    copied (suc n) i kind key content (value k l c s) v e q =
+    copied (suc n) i head key content (value k l c s) v e q =
         let span = 1 + size content in
         let p : span * suc n ≡ span * n + span = mul-suc span n in
-        let u = value-at asFields depth i kind key content (value k l c s) [] v (e ∙ sym (append-nil _)) in
+        let u = value-at asFields depth i head key content (value k l c s) [] v (e ∙ sym (append-nil _)) in
         let u′ = value-at asFields depth (i + span) k l c s [] (v .2) (u .behind) in
         let h = same-head u u′ (first-same i (i + span) (span * suc n) (omega (arith, p)) (q .same)) in
         let inner : content ≡ c = same-values (i + 1) (i + span + 1) _ _ _ _ _ _ content c (v .1) (v .2 .1) (u .inside) (u′ .inside) (h .2) (later i (i + span) (span * suc n) 1 (size content) (omega (arith, p)) (q .same)) in
-        let first : value k l c s ≡ value kind key content s = λ o. value (sym (h .0) o) (sym (h .1) o) (sym inner o) s in
+        let first : value k l c s ≡ value head key content s = λ o. value (record { kind = sym (h .0) o }) (sym (h .1) o) (sym inner o) s in
         let shifted : EqualRecords t (i + span) (i + span + span) (span * n) = record { within = omega (arith, p, q .within); same = later i (i + span) (span * suc n) span (span * n) (omega (arith, p)) (q .same) } in
-        let r = copied n (i + span) kind key content s (subst (ValidAt asFields depth) first (v .2)) (u .behind ∙ append-nil _ ∙ ap encode first) shifted in
+        let r = copied n (i + span) head key content s (subst (ValidAt asFields depth) first (v .2)) (u .behind ∙ append-nil _ ∙ ap encode first) shifted in
         let z : i + span + span * suc n ≡ i + span + span + span * n = omega (arith, p) in
-        record { rest = r .rest; is-copies = first ∙ ap (value kind key content) (r .is-copies); rest-bytes = rw z (r .rest-bytes); rest-valid = r .rest-valid }
+        record { rest = r .rest; is-copies = first ∙ ap (value head key content) (r .is-copies); rest-bytes = rw z (r .rest-bytes); rest-valid = r .rest-valid }
 
 -- a run that begins with a value and n copies of it, added w times, is the rest of it added to what has that value w * (1 + n) times
-module _ (e : Equivalence) (field : Bool) (w kind key : ℕ) (content rest : Values) where
+module _ (e : Equivalence) (field : Bool) (w : ℕ) (head : Head) (key : ℕ) (content rest : Values) where
   abbrev alone : CountingType
-  alone = raw e field (value kind key content none)
+  alone = raw e field (value head key content none)
 
   pub add-copies : (n : ℕ) (g : CountingType) → Sorted Counting g →
-      add Counting (times w (raw e field (value kind key content (copies n kind key content rest)))) g ≡ add Counting (times w (raw e field rest)) (add Counting (times (w * (1 + n)) alone) g)
+      add Counting (times w (raw e field (value head key content (copies n head key content rest)))) g ≡ add Counting (times w (raw e field rest)) (add Counting (times (w * (1 + n)) alone) g)
   unfolding copies
-  add-copies zero g u = rw (mul-one w) (add-value e field w kind key content rest g)
+  add-copies zero g u = rw (mul-one w) (add-value e field w head key content rest g)
   add-copies (suc n) g u =
       let o : suc (1 + n) ≡ 1 + suc n = omega arith in
       let z : w * (1 + n) + w ≡ w * (1 + suc n) = sym (mul-suc w (1 + n)) ∙ ap (λ m. w * m) o in
-      add-value e field w kind key content (copies (suc n) kind key content rest) g
+      add-value e field w head key content (copies (suc n) head key content rest) g
       ∙ add-copies n (add Counting (times w alone) g) (sorted-add counting-laws (times w alone) g u)
       ∙ ap (add Counting (times w (raw e field rest))) (add-times (w * (1 + n)) w alone g u ∙ ap (λ m. add Counting (times m alone) g) z)

@@ -14,24 +14,26 @@ use Rattle.value_table.specs.Value.{recordSize, maxLength, recordKind, lastScal
 use Rattle.value_table.specs.Value as table
 use Rattle.inference.specs.declared.inferring.Item.{Item}
 use Rattle.inference.specs.declared.placing.Put.the-variants.{At}
+use Rattle.counting_theory.specs.Payload.{one, copies}
 use Rattle.counting_theory.specs.Trie.{nil, node, append, size, insert, add}
 use Rattle.counting_theory.specs.Label.{Equivalence, Label, fieldKind, compareLabel, Counting, CountingType}
 use Rattle.counting_theory.specs.Raw.{ascending, raw}
 use Rattle.counting_theory.specs.Encoding.{typeSize, typeKind, typeKey, typeSpan, encode}
 use Rattle.type_arena.specs.Arena.{under, labelAt, InTable}
-use Rattle.inference.specs.Inferring.{numbersOf, StandsAt, Holds, Starts, split, Counted, Grown, AddedAt, labelFor, times, ItemAt, EqualRecords, resumed}
+use Rattle.counting_theory.specs.Times.{times}
+use Rattle.inference.specs.Inferring.{numbersOf, StandsAt, Holds, Starts, split, grown, Counted, Grown, AddedAt, labelFor, ItemAt, EqualRecords, resumed}
 use Rattle.inference.specs.ScalarFields.{Ran, plain, fieldStart, withScalar}
 use Rattle.counting_theory.proofs.Label.{kind-eq, key-eq}
 use Rattle.counting_theory.proofs.Tagged.Parts.{listed-field, Shape, tagged-parts}
 use Rattle.inference.proofs.InPlace.Append.{siblings-last}
 use Rattle.inference.proofs.InPlace.Compare.{kind-less, kind-greater, key-greater, label-unlisted, label-no-record}
-use Rattle.inference.proofs.InPlace.Items.{label-is}
+use Rattle.inference.proofs.InPlace.Items.{label-is, item-is}
 use Rattle.inference.proofs.InPlace.Nodes.{node-in, table-in}
 use Rattle.inference.proofs.InPlace.Placing.{holds-length, here-as-is}
 use Rattle.inference.proofs.InPlace.Seeking.{Seen, from-bytes, from-count, seen-start, seen-at, stop, not-both, compared-less, compared-equal, compared-greater}
 use Rattle.inference.proofs.InPlace.Splits.{HereAt, here-at}
 use Rattle.inference.proofs.InPlace.Steps.{step-within, step-span, step-empty, step-holds, step-kept}
-use Rattle.inference.proofs.InPlace.Turns.{ran-first, below, grown, turn-room, turn-added}
+use Rattle.inference.proofs.InPlace.Turns.{ran-first, below, grown as grownBy, turn-room, turn-added}
 
 -- a sibling where one starts: what is read there is its label
 record SiblingAt (e : Equivalence) (field : Bool) (a : List ℕ) (at : ℕ) : Type 0 where
@@ -118,10 +120,13 @@ module _ (label : Bool) {b : List ℕ} {n rest : ℕ} {f : CountingType} {q free
         stop (h .short) (seen-at h wantedField s u (no-less u (omega arith))) u .equal (plain-equal label b from fieldKind key (field-kind h s u) z (λ y. omega arith))
 
 -- a scalar as raw material
+abbrev scalar : ℕ → ℕ → Values
+scalar kind key = value (record { kind = kind }) key none none
+
 scalar-material : (e : Equivalence) (kind key w : ℕ) (c : CountingType) →
-    add Counting (times w (raw e (eqb fieldKind recordKind) (value kind key none none))) c ≡ insert Counting (plain e kind 0) w (add Counting nil) c
-unfolding raw times add numbersOf ascending keys
-scalar-material e kind key w c = ap (λ k. insert Counting (plain e kind 0) k (add Counting nil) c) (mul-one w)
+    add Counting (times w (raw e (eqb fieldKind recordKind) (scalar kind key))) c ≡ insert Counting (plain e kind 0) (record { count = w }) (add Counting nil) c
+unfolding raw times add numbersOf ascending keys one copies
+scalar-material e kind key w c = ap (λ k. insert Counting (plain e kind 0) (record { count = k }) (add Counting nil) c) (mul-one w)
 
 field-label : (e : Equivalence) (key : ℕ) (vs : Values) → plain e fieldKind key ≡ labelFor e fieldKind key vs
 field-label e key vs = label-is e fieldKind key 0 [] vs (listed-field e _ ∙ sym (listed-field e _))
@@ -140,8 +145,8 @@ module _ {e : Equivalence} {a : List ℕ} {n rest : ℕ} {f : CountingType} {q f
   pub field-starts : Starts p f
   field-starts = record { first = _; last = _; whole = field-here .whole; count = omega (arith, field-here .spot-is) }
 
-  pub uncounted : Counted (split l f) l 0 q p n a
-  uncounted = here-as-is h l (split l f) p 0 field-here
+  pub uncounted : Counted (split l f) l (field-here .held) q p n a
+  uncounted = here-as-is h l (split l f) p (record { count = 0 }) field-here
 
   pub union-span : typeSpan a p ≡ 1 + size union
   union-span = step-span f rest (h .used) (h .short) uncounted
@@ -153,26 +158,28 @@ module _ {e : Equivalence} {a : List ℕ} {n rest : ℕ} {f : CountingType} {q f
     pub union-holds : Holds e false (take (length a - (typeSize * p + typeSize)) (drop (typeSize * p + typeSize) a)) (s - 1) (n + rest - p - s) union (encode (split l f .after) ++ q) (uncounted .free)
     union-holds = step-holds f rest (h .used) (h .short) uncounted s (es ∙ union-span) e true (h .siblings)
 
-    module _ {w : ℕ} {b : List ℕ} (y : Counted (split l f) l w q p n b) (short : length b ≤ maxLength) where
+    module _ (w : ℕ) {b : List ℕ} (y : Counted (split l f) l (grown (split l f .payload) (record { count = w })) q p n b) (short : length b ≤ maxLength) where
       pub counted-union : Holds e false (take (length b - (typeSize * p + typeSize)) (drop (typeSize * p + typeSize) b)) (s - 1) (n + rest - p - s) union (encode (split l f .after) ++ q) (y .free)
       counted-union = step-holds f rest (h .used) short y s (es ∙ union-span) e true (h .siblings)
 
-      module _ (kind : ℕ) {i : ℕ} {z : List ℕ} (k : Counted (split (plain e kind 0) union) (plain e kind 0) w (encode (split l f .after) ++ q) i (s - 1) z) (small : length z ≤ maxLength) where
+      module _ (kind : ℕ) {i : ℕ} {z : List ℕ} (k : Counted (split (plain e kind 0) union) (plain e kind 0) (grown (split (plain e kind 0) union .payload) (record { count = w })) (encode (split l f .after) ++ q) i (s - 1) z) (small : length z ≤ maxLength) where
         abbrev more : CountingType → CountingType
-        more = add Counting (times w (raw e (eqb fieldKind recordKind) (value kind key none none)))
+        more = add Counting (times w (raw e (eqb fieldKind recordKind) (scalar kind key)))
 
         union-grown : Grown (more union) (encode (split l f .after) ++ q) (s - 1) z
         unfolding add
         union-grown =
             rw (scalar-material e kind key w union)
-            (step-empty union (n + rest - p - s) (counted-union .used) small k (add Counting nil) (λ c. refl))
+            (step-empty union (n + rest - p - s) (counted-union .used) small k (record { count = w }) refl (add Counting nil) (λ c. refl))
 
         pub scalar-counted : Grown (withScalar e key kind w f) q n (putMid (typeSize * p + typeSize) (length b - (typeSize * p + typeSize)) b z)
-        scalar-counted = rw (field-label e key (value kind key none none)) at (step-kept f rest (h .used) short y s (es ∙ union-span) more z union-grown)
+        scalar-counted =
+            rw (← item-is w fieldKind (scalar kind key), field-label e key (scalar kind key)) at
+            (step-kept f rest (h .used) short y s (es ∙ union-span) (record { count = w }) refl more z union-grown)
 
 -- one field of a run is counted
 module _ {e : Equivalence} {w : ℕ} {vs : Values} {f : CountingType} {q a t : List ℕ} {n i from : ℕ} (x : Ran e true w vs f q a t n i from)
-    (short : length t ≤ maxLength) (more : recordSize * i < length t) (scalar : kindAt t i ≤ lastScalar) where
+    (short : length t ≤ maxLength) (more : recordSize * i < length t) (plainKind : kindAt t i ≤ lastScalar) where
   abbrev item : Item
   item = record { kind = fieldKind; key = keyAt t i; start = recordSize * i; next = i + spanAt t i }
 
@@ -186,10 +193,10 @@ module _ {e : Equivalence} {w : ℕ} {vs : Values} {f : CountingType} {q a t : L
   none-in = ran-first x short more .proper .scalar (omega (arith, ran-first x short more .kind-is))
 
   module _ (rest p : ℕ) (b : List ℕ) (g : Grown (withScalar e (keyAt t i) (kindAt t i) w (x .g)) q n b) (o : p ≡ size (split (plain e fieldKind (keyAt t i)) (x .g) .before)) (small : length b ≤ maxLength) where
-    added : AddedAt (grown x short more item-at 0 no-copies) (size (split (labelFor e fieldKind (keyAt t i) (below x short more item-at)) (x .g) .before)) q rest (At p n) b
+    added : AddedAt (grownBy x short more item-at 0 no-copies) (size (split (labelFor e fieldKind (keyAt t i) (below x short more item-at)) (x .g) .before)) q rest (At p n) b
     added =
         let v = ran-first x short more in
-        let same : below x short more item-at ≡ value (kindAt t i) (keyAt t i) none none = rw (v .kind-is, v .key-is, none-in) refl in
+        let same : below x short more item-at ≡ scalar (kindAt t i) (keyAt t i) = rw (v .kind-is, v .key-is, none-in) refl in
         (rw (same, mul-one w) g, o ∙ ap (λ l. size (split l (x .g) .before)) (field-label e (keyAt t i) _))
 
     pub scalar-room : InTable b p

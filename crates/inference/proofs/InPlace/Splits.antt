@@ -1,15 +1,16 @@
 -- Where a label is counted among siblings: what a search says of the siblings around it, and what insert makes of them.
 use mathlib.Core.Path.{_≡_, refl, sym, ap}
 use mathlib.Core.Bool.{Bool, true, false}
+use mathlib.Core.Option.{none, some}
 use Prim.Native.Nat.{ℕ, _+_, Ordering, Ordering·lt as lt, Ordering·eq as eq, Ordering·gt as gt}
-use native.Mathlib.Nat.{zero-add}
 use native.Mathlib.Omega.{arith}
 use lib.Dec.{eqb}
 use Rattle.value_table.specs.Value.{recordKind}
 use Rattle.inference.specs.declared.search.Found.the-variants.{Here, Missing}
+use Rattle.counting_theory.specs.Payload.{Payload}
 use Rattle.counting_theory.specs.Trie.{nil, node, append, size, insertStep, insert}
 use Rattle.counting_theory.specs.Label.{Equivalence, Label, compareLabel, Counting, CountingType}
-use Rattle.inference.specs.Inferring.{spotHere, spot, Siblings, Split, splitHere, split}
+use Rattle.inference.specs.Inferring.{spotHere, spot, Siblings, Split, splitHere, split, grown}
 use Rattle.counting_theory.proofs.Label.{kind-eq, label-order}
 use Rattle.counting_theory.proofs.Tagged.Parts.{holdsFields, Shape, tagged-parts}
 use Rattle.inference.proofs.InPlace.Append.{siblings-next}
@@ -17,14 +18,16 @@ use Rattle.inference.proofs.InPlace.Append.{siblings-next}
 -- the label stands at record p
 pub record HereAt (x : Split) (l : Label) (at : ℕ) (f : CountingType) (p : ℕ) : Type 0 where
   pub spot-is : p ≡ at + size (x .before)
-  pub whole : f ≡ append (x .before) (node l (x .count) (x .content) (x .after))
+  pub held : Payload
+  pub held-is : x .payload ≡ some held
+  pub whole : f ≡ append (x .before) (node l held (x .content) (x .after))
 
 -- it would stand there
 pub record MissingAt (x : Split) (at : ℕ) (f : CountingType) (p : ℕ) : Type 0 where
   pub spot-is : p ≡ at + size (x .before)
   pub whole : f ≡ append (x .before) (x .after)
   pub empty : x .content ≡ nil
-  pub fresh : x .count ≡ 0
+  pub fresh : x .payload ≡ none
 
 apart : (p o : ℕ) → Here p ≡ Missing o → ⊥
 apart p o e = let z : _≡_ {A = ℕ} 0 1 = cc in omega arith
@@ -35,19 +38,19 @@ fields-inside e true k c h = sym (ap (λ i. eqb i recordKind) (kind-eq h))
 fields-inside e false k c h = refl
 
 module _ (l : Label) where
-  here-node : (o : Ordering) (at p : ℕ) (k : Label) (n : ℕ) (c s : CountingType) → compareLabel l k ≡ o → Here p ≡ spotHere o at (spot l (at + (1 + size c)) s) →
+  here-node : (o : Ordering) (at p : ℕ) (k : Label) (n : Payload) (c s : CountingType) → compareLabel l k ≡ o → Here p ≡ spotHere o at (spot l (at + (1 + size c)) s) →
       (Here p ≡ spot l (at + (1 + size c)) s → HereAt (split l s) l (at + (1 + size c)) s p) → HereAt (splitHere o k n c s (split l s)) l at (node k n c s) p
   unfolding spotHere splitHere append size
   here-node lt at p k n c s z e h = absurd (apart p at e)
-  here-node eq at p k n c s z e h = let w : p ≡ at = cc in record { spot-is = omega arith; whole = rw (label-order .compare-eq z) refl }
-  here-node gt at p k n c s z e h = let v = h e in record { spot-is = omega (arith, v .spot-is); whole = ap (node k n c) (v .whole) }
+  here-node eq at p k n c s z e h = let w : p ≡ at = cc in record { spot-is = omega arith; held = n; held-is = refl; whole = rw (label-order .compare-eq z) refl }
+  here-node gt at p k n c s z e h = let v = h e in record { spot-is = omega (arith, v .spot-is); held = v .held; held-is = v .held-is; whole = ap (node k n c) (v .whole) }
 
   pub here-at : (at p : ℕ) (f : CountingType) → Here p ≡ spot l at f → HereAt (split l f) l at f p
   unfolding spot split
   here-at at p nil e = absurd (apart p at e)
   here-at at p (node k n c s) e = here-node (compareLabel l k) at p k n c s refl e (here-at (at + (1 + size c)) p s)
 
-  missing-node : (o : Ordering) (at p : ℕ) (k : Label) (n : ℕ) (c s : CountingType) → Missing p ≡ spotHere o at (spot l (at + (1 + size c)) s) →
+  missing-node : (o : Ordering) (at p : ℕ) (k : Label) (n : Payload) (c s : CountingType) → Missing p ≡ spotHere o at (spot l (at + (1 + size c)) s) →
       (Missing p ≡ spot l (at + (1 + size c)) s → MissingAt (split l s) (at + (1 + size c)) s p) → MissingAt (splitHere o k n c s (split l s)) at (node k n c s) p
   unfolding spotHere splitHere append size
   missing-node lt at p k n c s e h = let w : p ≡ at = cc in record { spot-is = omega arith; whole = refl; empty = refl; fresh = refl }
@@ -61,25 +64,25 @@ module _ (l : Label) where
   missing-at at p nil e = let w : p ≡ at = cc in record { spot-is = omega arith; whole = refl; empty = refl; fresh = refl }
   missing-at at p (node k n c s) e = missing-node (compareLabel l k) at p k n c s e (missing-at (at + (1 + size c)) p s)
 
-  module _ (a : ℕ) (g : CountingType → CountingType) where
+  module _ (a : Payload) (g : CountingType → CountingType) where
     abbrev Inserted : CountingType → Split → Type 0
-    Inserted r x = r ≡ append (x .before) (node l (x .count + a) (g (x .content)) (x .after))
+    Inserted r x = r ≡ append (x .before) (node l (grown (x .payload) a) (g (x .content)) (x .after))
 
-    insert-node : (o : Ordering) (k : Label) (n : ℕ) (c s : CountingType) → compareLabel l k ≡ o → Inserted (insert Counting l a g s) (split l s) →
+    insert-node : (o : Ordering) (k : Label) (n : Payload) (c s : CountingType) → compareLabel l k ≡ o → Inserted (insert Counting l a g s) (split l s) →
         Inserted (insertStep Counting o l a g k n c s (insert Counting l a g s)) (splitHere o k n c s (split l s))
-    unfolding insertStep splitHere append
-    insert-node lt k n c s z h = rw zero-add
+    unfolding insertStep splitHere append grown
+    insert-node lt k n c s z h = refl
     insert-node eq k n c s z h = rw (label-order .compare-eq z) refl
     insert-node gt k n c s z h = ap (node k n c) h
 
     pub insert-split : (f : CountingType) → Inserted (insert Counting l a g f) (split l f)
-    unfolding insert split append
-    insert-split nil = rw zero-add
+    unfolding insert split append grown
+    insert-split nil = refl
     insert-split (node k n c s) = insert-node (compareLabel l k) k n c s refl (insert-split s)
 
   -- the children where the label stands, if it does
   module _ (e : Equivalence) (field : Bool) where
-    content-node : (o : Ordering) (k : Label) (n : ℕ) (c s : CountingType) → compareLabel l k ≡ o → Siblings e field (node k n c s) →
+    content-node : (o : Ordering) (k : Label) (n : Payload) (c s : CountingType) → compareLabel l k ≡ o → Siblings e field (node k n c s) →
         Siblings e (eqb (l .kind) recordKind) (split l s .content) → Siblings e (eqb (l .kind) recordKind) (splitHere o k n c s (split l s) .content)
     unfolding splitHere
     content-node lt k n c s z h i = record { tagged = tt; sorted = tt; keyed = tt }

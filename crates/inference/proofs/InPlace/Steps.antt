@@ -14,11 +14,14 @@ use Rattle.value_table.specs.Value.{maxLength, recordKind, Values}
 use Rattle.value_table.proofs.Number.{numberOf-bytesOf}
 use Rattle.inference.specs.declared.inferring.Inferred.{Inferred}
 use Rattle.inference.specs.declared.inferring.Inferred.the-variants.{Records, Full}
+use Rattle.value_table.proofs.Format.{field-set, field-read, length-record, sets-behind}
+use Rattle.counting_theory.specs.Payload.{Payload}
 use Rattle.counting_theory.specs.Trie.{size, insert, add}
 use Rattle.counting_theory.specs.Label.{Equivalence, Label, Counting, CountingType}
 use Rattle.counting_theory.specs.Raw.{raw}
-use Rattle.counting_theory.specs.Encoding.{typeSize, typeSpan, header, encode}
-use Rattle.inference.specs.Inferring.{TableRun, Siblings, Holds, Starts, Split, split, Counted, Grown, Added, times}
+use Rattle.counting_theory.specs.Encoding.{typeFormat, typeSize, typeSpan, recordNumbers, header, encode}
+use Rattle.counting_theory.specs.Times.{times}
+use Rattle.inference.specs.Inferring.{TableRun, Siblings, Holds, Starts, Split, split, grown, Counted, Grown, Added}
 use Rattle.counting_theory.proofs.Encoding.Header.{length-encode}
 use Rattle.inference.proofs.InPlace.Runs.{none-left}
 use Rattle.inference.proofs.InPlace.Part.{tail-drop, tail-part, tail-put}
@@ -27,25 +30,17 @@ use Rattle.inference.proofs.InPlace.Splits.{insert-split, content-sibli
 use Rattle.inference.proofs.InPlace.Placing.{encode-node}
 use Rattle.inference.proofs.InPlace.Items.{insert-size}
 
-set-behind : (p s : List ℕ) (i v : ℕ) → set (p ++ s) (length p + i) v ≡ p ++ set s i v
-set-behind [] s i v = rw zero-add
-set-behind (x ∷ p) s i v = rw suc-add (ap (λ l. x ∷ l) (set-behind p s i v))
+span-stored : (l : Label) (n : ℕ) (a : Payload) (k : ℕ) (x : List ℕ) → sets (header l n a ++ x) 4 (bytesOf 4 k) ≡ header l k a ++ x
+unfolding header
+span-stored l n a k x = field-set typeFormat (recordNumbers l n a) x 3 k (omega arith)
 
-sets-behind : (p s vs : List ℕ) (i : ℕ) → sets (p ++ s) (length p + i) vs ≡ p ++ sets s i vs
-sets-behind p s [] i = refl
-sets-behind p s (v ∷ vs) i = rw (set-behind p s i v, ← add-suc (length p) i) (sets-behind p (set s i v) vs (suc i))
+span-read : (b : List ℕ) (i : ℕ) (l : Label) (n : ℕ) (a : Payload) (x : List ℕ) → n < 2 ^ 32 → drop (typeSize * i) b ≡ header l n a ++ x → typeSpan b i ≡ n
+unfolding typeSpan header
+span-read b i l n a x h e = field-read typeFormat (recordNumbers l n a) b x i e 3 h
 
-span-stored : (l : Label) (n a k : ℕ) (x : List ℕ) → sets (header l n a ++ x) 4 (bytesOf 4 k) ≡ header l k a ++ x
-unfolding header bytesOf
-span-stored l n a k x = refl
-
-span-read : (b : List ℕ) (i : ℕ) (l : Label) (n a : ℕ) (x : List ℕ) → n < 2 ^ 32 → drop (typeSize * i) b ≡ header l n a ++ x → typeSpan b i ≡ n
-unfolding typeSpan numberAt header bytesOf
-span-read b i l n a x h e = rw (← drop-drop 4 (16 * i) b, e) (numberOf-bytesOf 4 n h)
-
-header-length : (l : Label) (n a : ℕ) → length (header l n a) ≡ typeSize
-unfolding header bytesOf
-header-length l n a = refl
+header-length : (l : Label) (n : ℕ) (a : Payload) → length (header l n a) ≡ typeSize
+unfolding header
+header-length l n a = length-record typeFormat (recordNumbers l n a)
 
 -- what is asked of adding an item: the siblings that are held, where a search may begin, and the run below the item
 pub record Task (e : Equivalence) (kind from n rest : ℕ) (a t : List ℕ) : Type 0 where
@@ -58,12 +53,12 @@ pub record Task (e : Equivalence) (kind from n rest : ℕ) (a t : List ℕ) : Ty
   pub starts : Starts from f
   pub run : TableRun (eqb kind recordKind) t vs
 
-module _ {l : Label} {w : ℕ} (f : CountingType) {q : List ℕ} (rest : ℕ) (used : length q ≡ typeSize * rest) {b : List ℕ} (short : length b ≤ maxLength) {p m : ℕ} (y : Counted (split l f) l w q p m b) where
+module _ {l : Label} {w : Payload} (f : CountingType) {q : List ℕ} (rest : ℕ) (used : length q ≡ typeSize * rest) {b : List ℕ} (short : length b ≤ maxLength) {p m : ℕ} (y : Counted (split l f) l w q p m b) where
   abbrev x : Split
   x = split l f
 
   abbrev head : List ℕ
-  head = encode (x .before) ++ header l (1 + size (x .content)) (x .count + w)
+  head = encode (x .before) ++ header l (1 + size (x .content)) w
 
   abbrev tail : List ℕ
   tail = encode (x .content) ++ ((encode (x .after) ++ q) ++ y .free)
@@ -87,16 +82,16 @@ module _ {l : Label} {w : ℕ} (f : CountingType) {q : List ℕ} (rest : ℕ) (u
 
   pub step-span : typeSpan b p ≡ 1 + size (x .content)
   step-span =
-      span-read b p l (1 + size (x .content)) (x .count + w) _ (omega (arith, step-length, step-within))
+      span-read b p l (1 + size (x .content)) w _ (omega (arith, step-length, step-within))
       (tail-drop b (encode (x .before)) _ (typeSize * p) (y .bytes) before-length)
 
   -- nothing is below the item
-  pub step-empty : (g : CountingType → CountingType) → ((c : CountingType) → g c ≡ c) → Grown (insert Counting l w g f) q m b
-  step-empty g e =
+  pub step-empty : (a : Payload) → w ≡ grown (x .payload) a → (g : CountingType → CountingType) → ((c : CountingType) → g c ≡ c) → Grown (insert Counting l a g f) q m b
+  step-empty a z g e =
       record {
-        count = omega (arith, insert-size l w g f, ap size (e (x .content)), y .count);
+        count = omega (arith, insert-size l a g f, ap size (e (x .content)), y .count);
         free = y .free;
-        bytes = y .bytes ∙ rw (insert-split l w g f, e (x .content)) (simp (encode-append, encode-node, append-assoc));
+        bytes = y .bytes ∙ rw (z, insert-split l a g f, e (x .content)) (simp (encode-append, encode-node, append-assoc));
       }
 
   module _ (s : ℕ) (es : s ≡ 1 + size (x .content)) where
@@ -111,38 +106,38 @@ module _ {l : Label} {w : ℕ} (f : CountingType) {q : List ℕ} (rest : ℕ) (u
           siblings = content-siblings l e field f h;
         }
 
-    module _ (g : CountingType → CountingType) where
+    module _ (a : Payload) (is : w ≡ grown (x .payload) a) (g : CountingType → CountingType) where
       pub step-full : (z : List ℕ) → length z < typeSize * (size (g (x .content)) + (m + rest - p - s)) →
-          length (putMid (typeSize * p + typeSize) (length b - (typeSize * p + typeSize)) b z) < typeSize * (size (insert Counting l w g f) + rest)
+          length (putMid (typeSize * p + typeSize) (length b - (typeSize * p + typeSize)) b z) < typeSize * (size (insert Counting l a g f) + rest)
       step-full z h =
           rw (tail-put b head tail (typeSize * p + typeSize) head-tail head-length z)
-          (simp (length-append, header-length, before-length) (omega (arith, insert-size l w g f, y .count, y .place)))
+          (simp (length-append, header-length, before-length) (omega (arith, insert-size l a g f, y .count, y .place)))
 
-      step-put : (z : List ℕ) → putMid (typeSize * p + typeSize) (length b - (typeSize * p + typeSize)) b z ≡ encode (x .before) ++ (header l (1 + size (x .content)) (x .count + w) ++ z)
-      step-put z = tail-put b head tail (typeSize * p + typeSize) head-tail head-length z ∙ append-assoc (encode (x .before)) (header l (1 + size (x .content)) (x .count + w)) z
+      step-put : (z : List ℕ) → putMid (typeSize * p + typeSize) (length b - (typeSize * p + typeSize)) b z ≡ encode (x .before) ++ (header l (1 + size (x .content)) w ++ z)
+      step-put z = tail-put b head tail (typeSize * p + typeSize) head-tail head-length z ∙ append-assoc (encode (x .before)) (header l (1 + size (x .content)) w) z
 
       pub step-grown : (k : ℕ) (z b′ : List ℕ) → Grown (g (x .content)) (encode (x .after) ++ q) k z →
           b′ ≡ sets (putMid (typeSize * p + typeSize) (length b - (typeSize * p + typeSize)) b z) (typeSize * p + 4) (bytesOf 4 (k + 1)) →
-          Grown (insert Counting l w g f) q (m + (k + 1) - s) b′
+          Grown (insert Counting l a g f) q (m + (k + 1) - s) b′
       step-grown k z b′ v h =
           let i : k + 1 ≡ 1 + size (g (x .content)) = omega (arith, v .count) in
           record {
-            count = omega (arith, insert-size l w g f, y .count, y .place, v .count);
+            count = omega (arith, insert-size l a g f, y .count, y .place, v .count);
             free = v .free;
             bytes = h
-                ∙ rw (step-put z, ← before-length, sets-behind (encode (x .before)) (header l (1 + size (x .content)) (x .count + w) ++ z) (bytesOf 4 (k + 1)) 4, span-stored, i, v .bytes, insert-split l w g f)
+                ∙ rw (step-put z, ← before-length, sets-behind (encode (x .before)) (header l (1 + size (x .content)) w ++ z) (bytesOf 4 (k + 1)) 4, span-stored, i, v .bytes, insert-split l a g f, is)
                 (simp (encode-append, encode-node, append-assoc));
           }
 
       -- as many records as before are below it
       pub step-kept : (z : List ℕ) → Grown (g (x .content)) (encode (x .after) ++ q) (s - 1) z →
-          Grown (insert Counting l w g f) q m (putMid (typeSize * p + typeSize) (length b - (typeSize * p + typeSize)) b z)
+          Grown (insert Counting l a g f) q m (putMid (typeSize * p + typeSize) (length b - (typeSize * p + typeSize)) b z)
       step-kept z v =
           let i : size (x .content) ≡ size (g (x .content)) = omega (arith, v .count) in
           record {
-            count = omega (arith, insert-size l w g f, y .count, y .place, v .count);
+            count = omega (arith, insert-size l a g f, y .count, y .place, v .count);
             free = v .free;
-            bytes = rw (step-put z, i, v .bytes, insert-split l w g f) (simp (encode-append, encode-node, append-assoc));
+            bytes = rw (step-put z, i, v .bytes, insert-split l a g f, is) (simp (encode-append, encode-node, append-assoc));
           }
 
 -- an empty run adds nothing

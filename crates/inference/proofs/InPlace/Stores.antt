@@ -1,15 +1,19 @@
 -- Stores of a count that grows, and of a whole header.
 use mathlib.Core.Path.{_≡_, refl, sym, _∙_, ap}
-use mathlib.Core.List.{List, _∷_, _++_}
+use mathlib.Core.List.{List, [], _∷_, _++_}
 use Prim.Native.Nat.{ℕ, zero, suc, _+_, _*_, _/_, _%_, _^_, _≤_, _<_}
 use native.Mathlib.Nat.{pow-suc, mul-comm, mul-assoc, add-zero}
 use native.Mathlib.Omega.{arith}
 use native.Mathlib.Decide.{decLt}
+use lib.Dec.{lit<}
 use lib.ListN.{length, drop}
 use lib.Seq.{sets, sets-eq}
 use Rattle.value_table.specs.Number.{bytesOf, numberOf, numberAt}
+use Rattle.value_table.specs.Format.{recordBytes}
+use Rattle.value_table.proofs.Format.{field-set}
+use Rattle.counting_theory.specs.Payload.{Payload, numbers, join}
 use Rattle.counting_theory.specs.Label.{Label}
-use Rattle.counting_theory.specs.Encoding.{typeSize, header}
+use Rattle.counting_theory.specs.Encoding.{typeFormat, typeSize, header}
 use Rattle.type_arena.specs.Arena.{headerOf}
 
 -- what lies past the width has no bytes
@@ -69,24 +73,27 @@ count-bytes x y m n e f =
     let z : y + 256 ^ 8 * k ≡ x + n = omega arith in
     sym (bytes-past 8 y k) ∙ ap (bytesOf 8) z ∙ bytes-more 8 x m n (ap (bytesOf 8) e ∙ bytes-read 8 m)
 
-count-read : (l : Label) (span count : ℕ) (q : List ℕ) → numberAt 8 (header l span count ++ q) 8 ≡ numberOf (bytesOf 8 count)
-unfolding numberAt header bytesOf
-count-read l span count q = refl
+module _ (l : Label) (span : ℕ) (a : Payload) (q : List ℕ) where
+  count-read : numberAt 8 (header l span a ++ q) 8 ≡ numberOf (bytesOf 8 (a .count))
+  unfolding numberAt header recordBytes bytesOf numbers
+  count-read = refl
 
-count-written : (l : Label) (span count n : ℕ) (q : List ℕ) → sets (header l span count ++ q) 8 (bytesOf 8 n) ≡ header l span n ++ q
-unfolding header bytesOf
-count-written l span count n q = refl
+  count-written : (n : ℕ) → sets (header l span a ++ q) 8 (bytesOf 8 n) ≡ header l span (record { count = n }) ++ q
+  unfolding header numbers
+  count-written n = field-set typeFormat (l .kind ∷ 0 ∷ l .key ∷ span ∷ a .count ∷ []) q 4 n (lit< tt)
 
 -- n more in the count of a header, by what is read and stored
-pub counted-more : (b c : List ℕ) (x y n : ℕ) (l : Label) (span count : ℕ) (q : List ℕ) → x ≡ numberAt 8 b 8 → y ≡ (x + n) % 2 ^ 64 → c ≡ sets b 8 (bytesOf 8 y) →
-    b ≡ header l span count ++ q → c ≡ header l span (count + n) ++ q
-counted-more b c x y n l span count q ex ey ec e =
+pub counted-more : (b c : List ℕ) (x y n : ℕ) (l : Label) (span : ℕ) (a : Payload) (q : List ℕ) → x ≡ numberAt 8 b 8 → y ≡ (x + n) % 2 ^ 64 → c ≡ sets b 8 (bytesOf 8 y) →
+    b ≡ header l span a ++ q → c ≡ header l span (join a (record { count = n })) ++ q
+unfolding join
+counted-more b c x y n l span a q ex ey ec e =
     ec ∙ ap (λ t. sets t 8 (bytesOf 8 y)) e
-    ∙ ap (sets (header l span count ++ q) 8) (count-bytes x y count n (ex ∙ ap (λ t. numberAt 8 t 8) e ∙ count-read l span count q) ey)
-    ∙ count-written l span count (count + n) q
+    ∙ ap (sets (header l span a ++ q) 8) (count-bytes x y (a .count) n (ex ∙ ap (λ t. numberAt 8 t 8) e ∙ count-read l span a q) ey)
+    ∙ count-written l span a q (a .count + n)
 
--- a header stored over the first sixteen bytes
+-- a header stored over the first record
 pub header-stored : (g b x : List ℕ) (l : Label) (kind key count : ℕ) → l .kind ≡ kind → l .key ≡ key → typeSize ≤ length g → drop typeSize g ≡ x →
-    b ≡ sets g 0 (headerOf kind key 1 count) → b ≡ header l 1 count ++ x
-unfolding header bytesOf
-header-stored g b x l kind key count ek ey h e f = f ∙ rw (← ek, ← ey) (sets-eq (header l 1 count) g 0 h) ∙ ap (λ t. header l 1 count ++ t) e
+    b ≡ sets g 0 (headerOf kind key 1 (record { count = count })) → b ≡ header l 1 (record { count = count }) ++ x
+unfolding header recordBytes bytesOf numbers
+header-stored g b x l kind key count ek ey h e f =
+    f ∙ rw (← ek, ← ey) (sets-eq (header l 1 (record { count = count })) g 0 h) ∙ ap (λ t. header l 1 (record { count = count }) ++ t) e

@@ -7,19 +7,21 @@ use native.Mathlib.Nat.{mul-one, mul-assoc, mul-comm, mul-add, mul-pos, one-mul,
 use native.Mathlib.Omega.{arith}
 use lib.Dec.{eqb}
 use lib.ListN.{length, take, drop, length-take, length-drop}
-use borrow.Author.Tests.{eqb-true}
-use Rattle.value_table.specs.Value.{recordSize, maxLength, recordKind, spanAt, Values, none, value, keys, encode, ValidAt}
+use borrow.Author.Tests.{eqb-true, ne-eqb}
+use Rattle.value_table.specs.Value.{Head, recordSize, maxLength, recordKind, spanAt, Values, none, value, keys, encode, ValidAt}
 use Rattle.value_table.specs.Value as table
 use Rattle.inference.specs.declared.inferring.Item.{Item}
 use Rattle.inference.specs.declared.placing.Put.{Put}
 use Rattle.inference.specs.declared.placing.Put.the-variants.{At, NoRoom}
+use Rattle.counting_theory.specs.Payload.{one, oneField, copies}
 use Rattle.counting_theory.specs.Trie.{nil, node, append, size, add}
 use Rattle.counting_theory.specs.Label.{Equivalence, fieldKind, Counting, CountingType}
 use Rattle.counting_theory.specs.Raw.{ascending, classOf, raw}
 use Rattle.counting_theory.specs.Encoding.{typeSize}
 use Rattle.counting_theory.specs.Encoding as bytes
 use Rattle.type_arena.specs.Arena.{InTable}
-use Rattle.inference.specs.Inferring.{TableRun, Siblings, Holds, Starts, split, Grown, AddedAt, labelFor, times, withItem, Weighed, ItemAt, EqualRecords, resumed}
+use Rattle.counting_theory.specs.Times.{times}
+use Rattle.inference.specs.Inferring.{TableRun, Siblings, Holds, Starts, split, Grown, AddedAt, labelFor, itemPayload, withItem, Weighed, ItemAt, EqualRecords, resumed}
 use Rattle.inference.specs.ScalarFields.{Ran}
 use Rattle.counting_theory.proofs.Label.{counting-laws}
 use Rattle.counting_theory.proofs.Trie.Growth.{add-grows}
@@ -33,27 +35,37 @@ use Rattle.inference.proofs.InPlace.Material.{times-siblings}
 use Rattle.inference.proofs.InPlace.Repeats.{Copied, copied, add-copies}
 
 -- the values below an item: a field's value by itself, or a value's content
-abbrev itemBelow : Bool → ℕ → ℕ → Values → Values
-itemBelow field kind key content = cond field (value kind key content none) content
+abbrev itemBelow : Bool → Head → ℕ → Values → Values
+itemBelow field head key content = cond field (value head key content none) content
 
-raw-item : (e : Equivalence) (field : Bool) (kind key : ℕ) (content next : Values) →
-    let k = cond field fieldKind kind in let below = itemBelow field kind key content in
-    raw e field (value kind key content next) ≡ node (labelFor e k (cond field key 0) below) 1 (raw e (eqb k recordKind) below) (raw e field next)
+-- what an item gives, by its kind
+item-payload : (w : ℕ) (head : Head) (content below : Values) → head .kind ≤ 6 →
+    (field : Bool) → below ≡ cond field below content → copies w (cond field oneField (one head content)) ≡ itemPayload w (cond field fieldKind (head .kind)) below
+item-payload w head content below h true e = refl
+item-payload w head content below h false e = rw (ne-eqb (head .kind) fieldKind (λ z. omega arith), e) refl
+
+raw-item : (e : Equivalence) (field : Bool) (head : Head) (key : ℕ) (content next : Values) →
+    let k = cond field fieldKind (head .kind) in let below = itemBelow field head key content in
+    raw e field (value head key content next) ≡ node (labelFor e k (cond field key 0) below) (cond field oneField (one head content)) (raw e (eqb k recordKind) below) (raw e field next)
 unfolding raw
-raw-item e true kind key content next =
-    ap (λ ks. node (record { kind = fieldKind; key = key; keys = ks }) 1 (node (classOf e kind content) 1 (raw e (eqb kind recordKind) content) nil) (raw e true next))
-    (sym (listed-field e (ascending (keys (value kind key content none)))))
-raw-item e false kind key content next = refl
+raw-item e true head key content next =
+    ap (λ ks. node (record { kind = fieldKind; key = key; keys = ks }) oneField (node (classOf e (head .kind) content) (one head content) (raw e (eqb (head .kind) recordKind) content) nil) (raw e true next))
+    (sym (listed-field e (ascending (keys (value head key content none)))))
+raw-item e false head key content next = refl
 
-times-item : (e : Equivalence) (field : Bool) (w kind key : ℕ) (content next : Values) →
-    let k = cond field fieldKind kind in let below = itemBelow field kind key content in
-    times w (raw e field (value kind key content next)) ≡ node (labelFor e k (cond field key 0) below) w (times w (raw e (eqb k recordKind) below)) (times w (raw e field next))
+times-item : (e : Equivalence) (field : Bool) (w : ℕ) (head : Head) (key : ℕ) (content next : Values) → head .kind ≤ 6 →
+    let k = cond field fieldKind (head .kind) in let below = itemBelow field head key content in
+    times w (raw e field (value head key content next)) ≡ node (labelFor e k (cond field key 0) below) (itemPayload w k below) (times w (raw e (eqb k recordKind) below)) (times w (raw e field next))
 unfolding times
-times-item e field w kind key content next =
-    let k = cond field fieldKind kind in
-    let below = itemBelow field kind key content in
-    ap (times w) (raw-item e field kind key content next)
-    ∙ ap (λ n. node (labelFor e k (cond field key 0) below) n (times w (raw e (eqb k recordKind) below)) (times w (raw e field next))) (mul-one w)
+times-item e field w head key content next h =
+    let k = cond field fieldKind (head .kind) in
+    let below = itemBelow field head key content in
+    ap (times w) (raw-item e field head key content next)
+    ∙ ap (λ n. node (labelFor e k (cond field key 0) below) n (times w (raw e (eqb k recordKind) below)) (times w (raw e field next))) (item-payload w head content below h field (same field))
+  where
+    same : (o : Bool) → itemBelow o head key content ≡ cond o (itemBelow o head key content) content
+    same true = refl
+    same false = refl
 
 bit-small : (o : Bool) → cond o 1 0 ≤ 1
 bit-small true = omega arith
@@ -99,17 +111,17 @@ module _ {e : Equivalence} {field : Bool} {w : ℕ} {vs : Values} {f : CountingT
         v = ran-first
 
         abbrev pub below : Values
-        below = itemBelow field (v .kind) (v .key) (v .content)
+        below = itemBelow field (v .head) (v .key) (v .content)
 
-        item-kind : item .kind ≡ cond field fieldKind (v .kind)
+        item-kind : item .kind ≡ cond field fieldKind (v .head .kind)
         item-kind = y .kind-is ∙ ap (cond field fieldKind) (v .kind-is)
 
         item-key : item .key ≡ cond field (v .key) 0
         item-key = y .key-is ∙ ap (λ k. cond field k 0) (v .key-is)
 
-        material : (k : ℕ) → times k (raw e field (value (v .kind) (v .key) (v .content) none))
-            ≡ node (labelFor e (item .kind) (item .key) below) k (times k (raw e (eqb (item .kind) recordKind) below)) (times k (raw e field none))
-        material k = rw (item-kind, item-key) (times-item e field k (v .kind) (v .key) (v .content) none)
+        material : (k : ℕ) → times k (raw e field (value (v .head) (v .key) (v .content) none))
+            ≡ node (labelFor e (item .kind) (item .key) below) (itemPayload k (item .kind) below) (times k (raw e (eqb (item .kind) recordKind) below)) (times k (raw e field none))
+        material k = rw (item-kind, item-key) (times-item e field k (v .head) (v .key) (v .content) none (v .proper .kind-high))
 
         -- the part of the table below the item
         pub turn-order : (item .start ≤ recordSize * item .next) × (recordSize * item .next ≤ length t) × (i < item .next) × (recordSize * i ≤ item .start)
@@ -120,8 +132,8 @@ module _ {e : Equivalence} {field : Bool} {w : ℕ} {vs : Values} {f : CountingT
             by-field true z = omega (arith, y .next-is, v .within, v .span-is)
             by-field false z = omega (arith, y .next-is, v .within, v .span-is)
 
-        below-by : (o : Bool) → field ≡ o → item .kind ≡ cond o fieldKind (v .kind) → item .start ≡ cond o (recordSize * i) (recordSize * (i + 1)) →
-            TableRun (eqb (item .kind) recordKind) (take (recordSize * item .next - item .start) (drop (item .start) t)) (itemBelow o (v .kind) (v .key) (v .content))
+        below-by : (o : Bool) → field ≡ o → item .kind ≡ cond o fieldKind (v .head .kind) → item .start ≡ cond o (recordSize * i) (recordSize * (i + 1)) →
+            TableRun (eqb (item .kind) recordKind) (take (recordSize * item .next - item .start) (drop (item .start) t)) (itemBelow o (v .head) (v .key) (v .content))
         unfolding ValidAt
         below-by true f k z =
             let n : recordSize * item .next - item .start ≡ recordSize * spanAt t i = omega (arith, y .next-is) in
@@ -139,17 +151,17 @@ module _ {e : Equivalence} {field : Bool} {w : ℕ} {vs : Values} {f : CountingT
             rw k (record {
               bytes = rw (n, z) (v .in-content);
               short = simp (length-take, length-drop) (omega arith);
-              asFields = eqb (v .kind) recordKind;
+              asFields = eqb (v .head .kind) recordKind;
               depth = suc (x .depth);
               valid = v .content-valid;
               fields = λ o. o;
-              distinct = λ o. v .proper .distinct (eqb-true (v .kind) recordKind o);
+              distinct = λ o. v .proper .distinct (eqb-true (v .head .kind) recordKind o);
             })
 
         pub below-run : TableRun (eqb (item .kind) recordKind) (take (recordSize * item .next - item .start) (drop (item .start) t)) below
         below-run = below-by field refl item-kind (y .start-is)
 
-        measure-by : (o : Bool) → item .kind ≡ cond o fieldKind (v .kind) → item .start ≡ cond o (recordSize * i) (recordSize * (i + 1)) →
+        measure-by : (o : Bool) → item .kind ≡ cond o fieldKind (v .head .kind) → item .start ≡ cond o (recordSize * i) (recordSize * (i + 1)) →
             2 * (recordSize * item .next - item .start) + cond (eqb (item .kind) recordKind) 1 0 < 2 * length t + cond o 1 0
         measure-by true k z = rw k (omega (arith, turn-order))
         measure-by false k z = omega (arith, turn-order, bit-small (eqb (item .kind) recordKind))
@@ -175,16 +187,16 @@ module _ {e : Equivalence} {field : Bool} {w : ℕ} {vs : Values} {f : CountingT
           span-is : item .next - i ≡ 1 + table.size (v .content)
           span-is = omega (arith, next-is)
 
-          again : Copied t short (x .asFields) (x .depth) i (v .kind) (v .key) (v .content) (v .next) n
+          again : Copied t short (x .asFields) (x .depth) i (v .head) (v .key) (v .content) (v .next) n
           unfolding ValidAt
           again =
-              copied t short (x .asFields) (x .depth) n i (v .kind) (v .key) (v .content) (v .next) (v .proper, v .content-valid, v .next-valid) (x .left-bytes ∙ ap encode (v .is-value))
+              copied t short (x .asFields) (x .depth) n i (v .head) (v .key) (v .content) (v .next) (v .proper, v .content-valid, v .next-valid) (x .left-bytes ∙ ap encode (v .is-value))
               (rw (span-is, next-is) at z)
 
           abbrev pub grown : CountingType
           grown = withItem e (item .kind) (item .key) heavy below (x .g)
 
-          grown-is : add Counting (times heavy (raw e field (value (v .kind) (v .key) (v .content) none))) (x .g) ≡ grown
+          grown-is : add Counting (times heavy (raw e field (value (v .head) (v .key) (v .content) none))) (x .g) ≡ grown
           unfolding raw times add
           grown-is = ap (λ r. add Counting r (x .g)) (material heavy)
 
@@ -192,13 +204,13 @@ module _ {e : Equivalence} {field : Bool} {w : ℕ} {vs : Values} {f : CountingT
           unfolding ValidAt
           grown-siblings =
               rw grown-is at
-              (times-siblings e field (x .asFields) (x .depth) (value (v .kind) (v .key) (v .content) none) (v .proper, v .content-valid, tt) (x .fields) heavy heavy-some (x .g) (x .siblings))
+              (times-siblings e field (x .asFields) (x .depth) (value (v .head) (v .key) (v .content) none) (v .proper, v .content-valid, tt) (x .fields) heavy heavy-some (x .g) (x .siblings))
 
           grown-same : add Counting (times w (raw e field (again .rest))) grown ≡ add Counting (times w (raw e field vs)) f
           grown-same =
               ap (add Counting (times w (raw e field (again .rest)))) (sym grown-is)
-              ∙ sym (add-copies e field w (v .kind) (v .key) (v .content) (again .rest) n (x .g) (x .siblings .sorted))
-              ∙ ap (λ us. add Counting (times w (raw e field (value (v .kind) (v .key) (v .content) us))) (x .g)) (sym (again .is-copies))
+              ∙ sym (add-copies e field w (v .head) (v .key) (v .content) (again .rest) n (x .g) (x .siblings .sorted))
+              ∙ ap (λ us. add Counting (times w (raw e field (value (v .head) (v .key) (v .content) us))) (x .g)) (sym (again .is-copies))
               ∙ ap (λ us. add Counting (times w (raw e field us)) (x .g)) (sym (v .is-value))
               ∙ x .same
 
@@ -234,12 +246,12 @@ module _ {e : Equivalence} {field : Bool} {w : ℕ} {vs : Values} {f : CountingT
 
             -- the item has its record
             pub turn-room : InTable a′ p
-            turn-room = record { whole = omega (arith, grown-length (placed .0), placed .0 .count, insert-size (labelFor e (item .kind) (item .key) below) heavy (add Counting (times heavy (raw e (eqb (item .kind) recordKind) below))) (x .g), placed .1); short = small }
+            turn-room = record { whole = omega (arith, grown-length (placed .0), placed .0 .count, insert-size (labelFor e (item .kind) (item .key) below) (itemPayload heavy (item .kind) below) (add Counting (times heavy (raw e (eqb (item .kind) recordKind) below))) (x .g), placed .1); short = small }
 
             pub turn-added : length q ≡ typeSize * rest → (from′ : ℕ) → from′ ≡ resumed field a′ p k → Ran e field w vs f q a′ t k (item .next + (item .next - i) * n) from′
             turn-added used from′ z =
                 let held : Holds e field a′ k rest grown q (placed .0 .free) = record { bytes = placed .0 .bytes; count = placed .0 .count; used = used; short = small; siblings = grown-siblings } in
-                let here : Starts p grown = record { first = _; last = _; whole = insert-split _ heavy _ (x .g); count = placed .1 } in
+                let here : Starts p grown = record { first = _; last = _; whole = insert-split _ (itemPayload heavy (item .kind) below) _ (x .g); count = placed .1 } in
                 turn-next from′ k a′ (placed .0) (rw z (starts-resumed held field p here))
 
           -- all of them are in the run

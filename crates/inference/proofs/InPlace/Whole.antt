@@ -12,8 +12,9 @@ use Rattle.counting_theory.specs.Trie.{nil, size, add}
 use Rattle.counting_theory.specs.Label.{Equivalence, Counting}
 use Rattle.counting_theory.specs.Raw.{raw, profileOf}
 use Rattle.counting_theory.specs.Encoding.{encode}
-use Rattle.inference.specs.Inferring.{TableRun, Holds, times, Weighed}
-use Rattle.inference.proofs.InPlace.Times.{times-one}
+use Rattle.counting_theory.specs.Times.{times}
+use Rattle.inference.specs.Inferring.{TableRun, Holds, Weighed}
+use Rattle.counting_theory.proofs.Times.{times-one}
 
 pub table-run : {t : List ℕ} {ms : Values} {n : ℕ} → Table t ms n → TableRun false t ms
 table-run {t} {ms} x =

@@ -11,7 +11,8 @@ use Rattle.counting_theory.specs.Trie.{add}
 use Rattle.counting_theory.specs.Label.{Equivalence, Counting, CountingType}
 use Rattle.counting_theory.specs.Raw.{raw}
 use Rattle.inference.specs.declared.inferring.Inferred.the-variants.{Records}
-use Rattle.inference.specs.Inferring.{Holds, Added, times, Weighed}
+use Rattle.counting_theory.specs.Times.{times}
+use Rattle.inference.specs.Inferring.{Holds, Added, Weighed}
 use Rattle.inference.specs.Gathering.{slotStart, slotCount, messageBytes, messageAt, gathered, slotRaw, MessageAt, Slot}
 
 pub waited-nothing : {e : Equivalence} {a free : List ℕ} {m : ℕ} {f : CountingType} (t : List ℕ) (v : ℕ) → v < 8192 → Holds e false a m 0 f [] free →

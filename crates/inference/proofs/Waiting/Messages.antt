@@ -12,7 +12,7 @@ use Rattle.value_table.specs.Value.{recordSize, maxLength, Values, none, value,
 use Rattle.value_table.specs.Acceptance.{Table}
 use Rattle.value_table.proofs.Acceptance.{unique}
 use Rattle.value_table.proofs.Number.{length-bytesOf}
-use Rattle.value_table.proofs.Header.{number-written}
+use Rattle.value_table.proofs.Format.{number-written}
 use Rattle.inference.specs.Inferring.{EqualRecords}
 use Rattle.inference.specs.Gathering.{messageBytes, messageAt, SameMessage, MessageAt}
 use Rattle.inference.proofs.InPlace.Runs.{FirstValue}
@@ -44,7 +44,7 @@ same-bytes t j i (suc n) bytes h q =
 
 module _ {t : List ℕ} {i : ℕ} {left : Values} (short : length t ≤ maxLength) (x : FirstValue false 1 t i left) where
   abbrev first : Values
-  first = value (x .kind) (x .key) (x .content) none
+  first = value (x .head) (x .key) (x .content) none
 
   first-table : Table (messageBytes t i) first 1
   unfolding ValidAt size count

@@ -8,6 +8,7 @@ use native.Mathlib.Omega.{arith}
 use lib.ListN.{length, replicate, length-replicate, getD-replicate}
 use Rattle.value_table.specs.Value.{recordSize, maxLength}
 use Rattle.value_table.specs.Judged.{messages}
+use Rattle.counting_theory.specs.Payload.{Payload}
 use Rattle.counting_theory.specs.Trie.{nil, _⊞_ as joinOption, lookup, size, add}
 use Rattle.counting_theory.specs.Label.{Equivalence, Label, Counting}
 use Rattle.counting_theory.specs.Raw.{raw, profileOf}
@@ -23,7 +24,7 @@ use Rattle.inference.proofs.Waiting.Slots.{waiting-gives, waiting-cons,
 use Rattle.inference.proofs.Waiting.Turns.{is-profile, added-sibling, grown-holds, added-same, slot-full}
 
 infixr 66 _⊞_
-abbrev _⊞_ : Option ℕ → Option ℕ → Option ℕ
+abbrev _⊞_ : Option Payload → Option Payload → Option Payload
 x ⊞ y = joinOption Counting x y
 
 module _ (e : Equivalence) (t : List ℕ) where

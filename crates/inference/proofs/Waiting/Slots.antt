@@ -7,29 +7,30 @@ use Prim.Native.Nat.{ℕ, zero, suc, _+_, _/_, _%_, _<_}
 use native.Mathlib.Numerals.{add-one}
 use native.Mathlib.Omega.{arith}
 use lib.ListN.{length, getD, set}
+use Rattle.counting_theory.specs.Payload.{Payload}
 use Rattle.counting_theory.specs.Trie.{_⊞_ as joinOption, lookup}
 use Rattle.counting_theory.specs.Label.{Equivalence, Label, Counting}
 use Rattle.counting_theory.specs.Raw.{raw}
 use Rattle.counting_theory.proofs.Label.{counting-laws}
 use Rattle.counting_theory.proofs.Trie.Join.{⊞-comm, ⊞-assoc, ⊞-left-comm}
 use Rattle.counting_theory.proofs.Trie.Lookup.{lookup-append}
-use Rattle.inference.specs.Inferring.{times}
+use Rattle.counting_theory.specs.Times.{times}
 use Rattle.inference.specs.Gathering.{slotStart, slotCount, messageAt, gathered, slotRaw, waiting}
-use Rattle.inference.proofs.InPlace.Times.{times-one, lookup-times}
+use Rattle.counting_theory.proofs.Times.{times-one, lookup-times}
 
 infixr 66 _⊞_
-abbrev _⊞_ : Option ℕ → Option ℕ → Option ℕ
+abbrev _⊞_ : Option Payload → Option Payload → Option Payload
 x ⊞ y = joinOption Counting x y
 
 module _ (e : Equivalence) (t : List ℕ) (p : List Label) where
   -- what a slot gives, what all of them give, and what one message gives
-  abbrev pub slot-gives : ℕ → Option ℕ
+  abbrev pub slot-gives : ℕ → Option Payload
   slot-gives v = lookup Counting (slotRaw e t v) p
 
-  abbrev pub waiting-gives : List ℕ → Option ℕ
+  abbrev pub waiting-gives : List ℕ → Option Payload
   waiting-gives slots = lookup Counting (waiting e t slots) p
 
-  abbrev pub message-gives : ℕ → Option ℕ
+  abbrev pub message-gives : ℕ → Option Payload
   message-gives i = lookup Counting (raw e false (messageAt t i)) p
 
   pub waiting-cons : (v : ℕ) (slots : List ℕ) → waiting-gives (v ∷ slots) ≡ slot-gives v ⊞ waiting-gives slots
@@ -37,7 +38,7 @@ module _ (e : Equivalence) (t : List ℕ) (p : List Label) where
   waiting-cons v slots = lookup-append counting-laws (slotRaw e t v) (waiting e t slots) p
 
   -- a slot that gives z more
-  pub waiting-more : (slots : List ℕ) (k v : ℕ) (z : Option ℕ) → k < length slots → slot-gives v ≡ slot-gives (getD slots k 0) ⊞ z →
+  pub waiting-more : (slots : List ℕ) (k v : ℕ) (z : Option Payload) → k < length slots → slot-gives v ≡ slot-gives (getD slots k 0) ⊞ z →
       waiting-gives (set slots k v) ≡ z ⊞ waiting-gives slots
   waiting-more [] k v z h f = absurd (omega arith)
   waiting-more (u ∷ slots) zero v z h f =

@@ -9,6 +9,7 @@ use native.Mathlib.Omega.{arith}
 use lib.ListN.{length, getD, set}
 use Rattle.value_table.specs.Value.{recordSize, maxLength, spanAt, Values}
 use Rattle.value_table.specs.Judged.{messages}
+use Rattle.counting_theory.specs.Payload.{Payload}
 use Rattle.counting_theory.specs.Trie.{_⊞_ as joinOption, lookup, size, add, append, Sorted}
 use Rattle.counting_theory.specs.Label.{Equivalence, Label, Counting, CountingType}
 use Rattle.counting_theory.specs.Raw.{raw, profileOf}
@@ -30,7 +31,7 @@ use Rattle.inference.proofs.Waiting.Messages.{message-is, message-at, s
 use Rattle.inference.proofs.Waiting.Slots.{slot-gives, waiting-gives, message-gives, waiting-more, waiting-replaced, slot-more, slot-first, slot-empty}
 
 infixr 66 _⊞_
-abbrev _⊞_ : Option ℕ → Option ℕ → Option ℕ
+abbrev _⊞_ : Option Payload → Option Payload → Option Payload
 x ⊞ y = joinOption Counting x y
 
 -- what f has, and what r gives beside it, is all that the messages give
@@ -66,7 +67,7 @@ added-sibling e t i (suc n) f m s =
     let r = m (omega arith) .run in
     times-siblings e false (r .asFields) (r .depth) (messageAt t i) (r .valid) (r .fields) (suc n) (omega arith) f s
 
-pub regroup : (s f w l : Option ℕ) → (s ⊞ f) ⊞ (w ⊞ l) ≡ f ⊞ ((s ⊞ w) ⊞ l)
+pub regroup : (s f w l : Option Payload) → (s ⊞ f) ⊞ (w ⊞ l) ≡ f ⊞ ((s ⊞ w) ⊞ l)
 regroup s f w l =
     ⊞-assoc counting-laws s f (w ⊞ l) ∙ ⊞-left-comm counting-laws s f (w ⊞ l) ∙ ap (λ x. f ⊞ x) (sym (⊞-assoc counting-laws s w l))
 
@@ -76,7 +77,7 @@ module _ {e : Equivalence} {t a : List ℕ} {m i : ℕ} {slots : List ℕ} (g : 
       Holds e false b k 0 (add Counting r (g .f)) [] (h .free)
   grown-holds r k b short s h = record { bytes = h .bytes; count = h .count; used = refl; short = short; siblings = s }
 
-  pub added-same : (v : ℕ) (rest : List ℕ) (l : List Label → Option ℕ) (p : List Label) → slot-gives e t p v ⊞ waiting-gives e t p rest ≡ waiting-gives e t p slots →
+  pub added-same : (v : ℕ) (rest : List ℕ) (l : List Label → Option Payload) (p : List Label) → slot-gives e t p v ⊞ waiting-gives e t p rest ≡ waiting-gives e t p slots →
       lookup Counting (add Counting (slotRaw e t v) (g .f)) p ⊞ (waiting-gives e t p rest ⊞ l p) ≡ lookup Counting (g .f) p ⊞ (waiting-gives e t p slots ⊞ l p)
   added-same v rest l p h =
       ap (λ x. x ⊞ (waiting-gives e t p rest ⊞ l p)) (lookup-add counting-laws (slotRaw e t v) (g .f) p)

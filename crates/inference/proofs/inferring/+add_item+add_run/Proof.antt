@@ -9,12 +9,14 @@ use lib.ListN.{length, take, drop, length-take, length-drop}
 use borrow.Author.Needs.{needs}
 use borrow.Rule.Slice.PartMut.{putMid, same-len-mid}
 use Rattle.value_table.specs.Value.{recordKind, Values}
+use Rattle.counting_theory.specs.Payload.{Payload}
 use Rattle.counting_theory.specs.Trie.{size, add}
 use Rattle.counting_theory.specs.Label.{Label, Counting, CountingType}
 use Rattle.counting_theory.specs.Raw.{raw}
 use Rattle.counting_theory.specs.Encoding.{encode}
 use Rattle.type_arena.specs.Arena.{under}
-use Rattle.inference.specs.Inferring.{TableRun, Holds, split, Counted, Grown, labelFor, times, withItem, Weighed, AddedAt}
+use Rattle.counting_theory.specs.Times.{times}
+use Rattle.inference.specs.Inferring.{grown as grownTo, itemPayload, TableRun, Holds, split, Counted, Grown, labelFor, withItem, Weighed, AddedAt}
 use Rattle.inference.specs.ScalarFields.{Ran}
 use Rattle.inference.proofs.InPlace.Steps.{Task, step-length, step-within, step-span, step-empty, nothing-added, step-holds, step-full, step-grown, added-full, added-records, grown-length}
 use Rattle.inference.proofs.InPlace.Turns.{ran-start, ran-holds, ran-end, ran-first, below, below-run, turn-full, turn-room, turn-added, turn-order, turn-measure, turn-few, turn-weighed}
@@ -84,7 +86,10 @@ module _ (t : ℕ) where
     abbrev arena : List ℕ
     arena = c .before .before .before .before .before .before .before .locate .last .0
 
-    counted : (x : Asked) → Counted (split (label x) (x .f)) (label x) (begun .args .weight) (x .q) place records arena
+    abbrev payload : Asked → Payload
+    payload x = itemPayload (begun .args .weight) (begun .args .kind) (x .vs)
+
+    counted : (x : Asked) → Counted (split (label x) (x .f)) (label x) (grownTo (split (label x) (x .f) .payload) (payload x)) (x .q) place records arena
     counted x = rw (c .before .p .given .1) at (c .before .before .before .before .before .before .before .locate .ensures (x .field) (x .f) (x .q) (x .free) (x .vs) (x .holds) (x .starts) (x .run))
 
     same-arena : length arena ≡ length (begun .args .a .now)
@@ -166,7 +171,7 @@ module _ (t : ℕ) where
   add-item-returns-2 c field f q free vs h s r =
       let i = c .before in
       let x : Asked i = record { field = field; f = f; q = q; free = free; vs = vs; holds = h; starts = s; run = r } in
-      (step-empty f _ (h .used) (short i) (counted i x) _ (nothing-added _ _ (c .if1 .taken) r _ _), counted i x .place)
+      (step-empty f _ (h .used) (short i) (counted i x) (payload i x) refl _ (nothing-added _ _ (c .if1 .taken) r _ _), counted i x .place)
 
   add-item-span-at-requires : add-item-lts.Need-span-at-requires (add-item-calls t) (add-item-at t) add-item.Post
   add-item-span-at-requires c κs = omega (arith, bound (c .before .before))
@@ -225,7 +230,7 @@ module _ (t : ℕ) where
       let i = c .before .before .before .before .before .before .before .before .before in
       let k = c .before .before .before .before .before .before .add-run in
       let x : Asked (at i) = record { field = field; f = f; q = q; free = free; vs = vs; holds = h; starts = s; run = r } in
-      step-full f _ (h .used) (short (at i)) (counted (at i) x) _ (span i x) (add Counting (material i x)) (k .last .0)
+      step-full f _ (h .used) (short (at i)) (counted (at i) x) _ (span i x) (payload (at i) x) refl (add Counting (material i x)) (k .last .0)
       (added-full _ _ _ (k .last .0) _ (c .enum-told2 .given .1) (k .ensures _ _ _ vs (inner i x) r))
 
   add-item-add-store32 : add-item-lts.Need-add-store32 (add-item-calls t) (add-item-at t) add-item.Post
@@ -257,7 +262,7 @@ module _ (t : ℕ) where
       let i = c .before .before .before in
       let j = at (sp i) in
       let x : Asked j = record { field = field; f = f; q = q; free = free; vs = vs; holds = h; starts = s; run = r } in
-      (step-grown f _ (h .used) (short j) (counted j x) _ (span (sp i) x) (add Counting (material (sp i) x)) _ _ _ (grown i x) (c .before .before .store32 .ensures), counted j x .place)
+      (step-grown f _ (h .used) (short j) (counted j x) _ (span (sp i) x) (payload j x) refl (add Counting (material (sp i) x)) _ _ _ (grown i x) (c .before .before .store32 .ensures), counted j x .place)
 
 abbrev add-run-Inv-loop : add-run-lts.InvT-loop
 add-run-Inv-loop a₀ n rest weight t field label work₀ end m₀ i₀ from₀ a work m i from = (end ≡ length t / 8) × (length a ≡ length a₀) × (length work ≡ length work₀) × ((f : CountingType) (q free : List ℕ) (vs : Values) → Holds (under label) field a₀ n rest f q free → TableRun field t vs → Ran (under label) field weight vs f q a t m i from)

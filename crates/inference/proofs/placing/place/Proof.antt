@@ -29,7 +29,7 @@ module _ (c : tie.After-known-told) where
   found-room : 16 * found-place + 16 ≤ length (c .before .before .before .before .before .before .before .args .a .now)
   found-room =
       let g = c .before .before .before .before .before .before .before .pre .0 in
-      omega (arith, here-within (g .holds) found-label _ _ 0 (here-at found-label 0 found-place (g .f) (stands (g .field) (g .f) (g .q) (g .free) (g .holds) (g .starts))), holds-length (g .holds))
+      omega (arith, here-within (g .holds) found-label _ _ (record { count = 0 }) (here-at found-label 0 found-place (g .f) (stands (g .field) (g .f) (g .q) (g .free) (g .holds) (g .starts))), holds-length (g .holds))
 
 -- where it would stand
 module _ (c : tie.After-known-told2) where
@@ -47,7 +47,7 @@ module _ (c : tie.After-known-told2) where
   missed-room : (16 * missed-place ≤ 16 * (c .before .before .before .before .before .before .before .args .n + c .before .before .before .before .before .before .before .args .rest)) × (16 * (c .before .before .before .before .before .before .before .args .n + c .before .before .before .before .before .before .before .args .rest) ≤ length (c .before .before .before .before .before .before .before .args .a .now))
   missed-room =
       let g = c .before .before .before .before .before .before .before .pre .0 in
-      omega (arith, missing-within (g .holds) missed-label _ _ 0 (missed (g .field) (g .f) (g .q) (g .free) (g .holds) (g .starts)), holds-length (g .holds))
+      omega (arith, missing-within (g .holds) missed-label _ _ (record { count = 0 }) (missed (g .field) (g .f) (g .q) (g .free) (g .holds) (g .starts)), holds-length (g .holds))
 
 search-requires : tie.Need-search-requires
 search-requires c κs = let g = c .before .before .before .pre in (record { rest = _; held = g .0 }, g .1)
@@ -75,7 +75,7 @@ same-length c = search needs
 
 returns : tie.Need-returns
 returns c field f q free h s =
-    missing-full h (missed-label (c .before)) _ _ 0 (missed (c .before) field f q free h s) _ (c .if1 .taken) (missed-room (c .before) .1)
+    missing-full h (missed-label (c .before)) _ _ (record { count = 0 }) (missed (c .before) field f q free h s) _ (c .if1 .taken) (missed-room (c .before) .1)
 
 mul-o : tie.Need-mul-o
 mul-o c = omega (arith, missed-room (c .before))

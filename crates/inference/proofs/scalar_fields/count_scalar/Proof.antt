@@ -9,7 +9,7 @@ use borrow.Author.Needs.{needs}
 use Rattle.counting_theory.specs.Label.{fieldKind, CountingType}
 use Rattle.counting_theory.specs.Encoding.{typeSpan, encode}
 use Rattle.type_arena.specs.Arena.{under}
-use Rattle.inference.specs.Inferring.{Holds, StandsAt, split, Counted}
+use Rattle.inference.specs.Inferring.{grown, Holds, StandsAt, split, Counted}
 use Rattle.inference.specs.ScalarFields.{plain}
 use Rattle.inference.proofs.InPlace.Placing.{holds-length, here-within}
 use Rattle.inference.proofs.InPlace.Splits.{here-at}
@@ -83,7 +83,7 @@ module _ (c : tie.After-slice-known2) where
   short = omega (arith, bound start, c .before .before .count-here .kept .0)
 
   module _ (label : Bool) (n rest key : ℕ) (f : CountingType) (q free : List ℕ) (h : Holds (under label) true (start .args .a .now) n rest f q free) (o : StandsAt (plain (under label) fieldKind key) f (start .args .p)) where
-    counted : Counted (split (plain (under label) fieldKind key) f) (plain (under label) fieldKind key) (start .args .weight) q (start .args .p) n arena
+    counted : Counted (split (plain (under label) fieldKind key) f) (plain (under label) fieldKind key) (grown (split (plain (under label) fieldKind key) f .payload) (record { count = start .args .weight })) q (start .args .p) n arena
     counted = c .before .before .count-here .ensures _ true n rest _ f q free h o
 
     abbrev union : CountingType
@@ -93,7 +93,7 @@ module _ (c : tie.After-slice-known2) where
     stands = sym (c .before .before .before .before .before .q .given .1) ∙ found .find-scalar .ensures label _ union _ _ (union-holds h key _ o _ (found .before .before .before .span-at .ensures .0))
 
     inner : Holds (under label) false (take (length arena - (16 * start .args .p + 16)) (drop (16 * start .args .p + 16) arena)) (span - 1) (n + rest - start .args .p - span) union (encode (split (plain (under label) fieldKind key) f .after) ++ q) (counted .free)
-    inner = counted-union h key _ o span (found .before .before .before .span-at .ensures .0) counted short
+    inner = counted-union h key _ o span (found .before .before .before .span-at .ensures .0) (start .args .weight) counted short
 
 sub-count-here : tie.Need-sub-count-here
 sub-count-here c = omega (arith, bound (start c), c .before .before .count-here .kept .0)
@@ -109,7 +109,7 @@ count-here-requires-2 c κs =
     let i = c .before in
     let g = start i .pre .0 in
     let h = inner i (g .label) (g .n) (g .rest) (g .key) (g .f) (g .q) (g .free) (g .holds) (g .here) in
-    omega (arith, here-within h _ _ _ 0 (here-at _ 0 _ _ (stands i (g .label) (g .n) (g .rest) (g .key) (g .f) (g .q) (g .free) (g .holds) (g .here))), holds-length h)
+    omega (arith, here-within h _ _ _ (record { count = 0 }) (here-at _ 0 _ _ (stands i (g .label) (g .n) (g .rest) (g .key) (g .f) (g .q) (g .free) (g .holds) (g .here))), holds-length h)
 
 same-length-2 : tie.Need-same-length-2
 same-length-2 c = search needs
@@ -118,7 +118,7 @@ returns-2 : tie.Need-returns-2
 returns-2 c label n rest key f q free h o =
     let i = c .before .before .before .before in
     let k = c .before .before .count-here2 .ensures _ false _ _ _ _ _ _ (inner i label n rest key f q free h o) (stands i label n rest key f q free h o) in
-    scalar-counted h key _ o _ (found i .before .before .before .span-at .ensures .0) (counted i label n rest key f q free h o) (short i) _ k
+    scalar-counted h key _ o _ (found i .before .before .before .span-at .ensures .0) (start i .args .weight) (counted i label n rest key f q free h o) (short i) _ k
     (omega (arith, short i, simp (length-take, length-drop) at (c .before .before .count-here2 .kept .0)))
 
 pub count-scalar-spec : {M : Type 1} → statement M

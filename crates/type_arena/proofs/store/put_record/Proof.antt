@@ -39,8 +39,8 @@ same-length-2 c = search needs
 returns-2 : tie.Need-returns-2
 returns-2 c =
     let a = c .before .before .before .before .before .before .before .before .before .before .args in
-    let h : List ℕ = headerOf (a .kind) (a .key) (a .span) (a .count) in
-    let n = length-headerOf (a .kind) (a .key) (a .span) (a .count) in
+    let h : List ℕ = headerOf (a .kind) (a .key) (a .span) (record { count = a .count }) in
+    let n = length-headerOf (a .kind) (a .key) (a .span) (record { count = a .count }) in
     sets-aside h (replicate 16 0) (a .out .now) (a .at) (sym n) (c .before .before .before .before .before .before .store-record2 .ensures)
     (c .before .before .put-bytes .ensures)
 

@@ -1,5 +1,6 @@
 -- `count_at` meets its contract.
 use borrow.Author.Needs.{needs}
+use Rattle.value_table.specs.Format.{fieldAt}
 use Rattle.counting_theory.specs.Encoding.{typeCount}
 use Rattle.type_arena.proofs.type_record.count_at.Statement.{statement}
 use Rattle.type_arena.proofs.type_record.count_at.Tie as tie
@@ -14,7 +15,7 @@ number64-requires : tie.Need-number64-requires
 number64-requires c κs = search needs
 
 returns : tie.Need-returns
-unfolding typeCount
+unfolding typeCount fieldAt
 returns c = search needs
 
 pub count-at-spec : {M : Type 1} → statement M

@@ -1,5 +1,6 @@
 -- `key_at` meets its contract.
 use borrow.Author.Needs.{needs}
+use Rattle.value_table.specs.Format.{fieldAt}
 use Rattle.counting_theory.specs.Encoding.{typeKey}
 use Rattle.type_arena.proofs.type_record.key_at.Statement.{statement}
 use Rattle.type_arena.proofs.type_record.key_at.Tie as tie
@@ -14,7 +15,7 @@ number16-requires : tie.Need-number16-requires
 number16-requires c κs = search needs
 
 returns : tie.Need-returns
-unfolding typeKey
+unfolding typeKey fieldAt
 returns c = search needs
 
 pub key-at-spec : {M : Type 1} → statement M

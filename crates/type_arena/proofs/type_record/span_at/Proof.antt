@@ -1,5 +1,6 @@
 -- `span_at` meets its contract.
 use borrow.Author.Needs.{needs}
+use Rattle.value_table.specs.Format.{fieldAt}
 use Rattle.counting_theory.specs.Encoding.{typeSpan}
 use Rattle.type_arena.proofs.type_record.span_at.Statement.{statement}
 use Rattle.type_arena.proofs.type_record.span_at.Tie as tie
@@ -14,7 +15,7 @@ number32-requires : tie.Need-number32-requires
 number32-requires c κs = search needs
 
 returns : tie.Need-returns
-unfolding typeSpan
+unfolding typeSpan fieldAt
 returns c = search needs
 
 pub span-at-spec : {M : Type 1} → statement M

@@ -1,5 +1,7 @@
 -- `zero_at` meets its contract.
 use borrow.Author.Needs.{needs}
+use Rattle.value_table.specs.Format.{fieldAt}
+use Rattle.value_table.proofs.Number.{numberAt-one}
 use Rattle.counting_theory.specs.Encoding.{typeZero}
 use Rattle.type_arena.proofs.type_record.zero_at.Statement.{statement}
 use Rattle.type_arena.proofs.type_record.zero_at.Tie as tie
@@ -14,8 +16,8 @@ shared-slice-read-result : tie.Need-shared-slice-read-result
 shared-slice-read-result c = search needs
 
 returns : tie.Need-returns
-unfolding typeZero
-returns c = search needs
+unfolding typeZero fieldAt
+returns c = rw numberAt-one (search needs)
 
 pub zero-at-spec : {M : Type 1} → statement M
 zero-at-spec = tie.close (tie.spec mul-result add-result shared-slice-read-result returns)

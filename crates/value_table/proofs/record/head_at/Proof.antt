@@ -1,9 +1,11 @@
 -- `head_at` meets its contract.
 use Prim.Native.Nat.{_+_, _*_}
+use native.Mathlib.Nat.{add-zero}
 use native.Mathlib.Omega.{arith}
 use borrow.Author.Needs.{needs}
+use Rattle.value_table.specs.Format.{fieldAt}
 use Rattle.value_table.specs.Value.{kindAt, zeroAt}
-use Rattle.value_table.proofs.Number.{numberAt-suc, numberAt-zero}
+use Rattle.value_table.proofs.Number.{numberAt-add}
 use Rattle.value_table.proofs.record.head_at.Statement.{statement}
 use Rattle.value_table.proofs.record.head_at.Tie as tie
 
@@ -14,11 +16,11 @@ number16-requires : tie.Need-number16-requires
 number16-requires c κs = search needs
 
 returns : tie.Need-returns
-unfolding kindAt zeroAt
+unfolding kindAt zeroAt fieldAt
 returns c =
     let t = c .before .before .args .table .now in
     let p = 8 * c .before .before .args .i in
-    omega (arith, c .number16 .ensures .0, numberAt-suc 1 t p (omega arith), numberAt-suc 0 t (p + 1) (omega arith), numberAt-zero t (p + 1 + 1))
+    rw add-zero (omega (arith, c .number16 .ensures .0, numberAt-add 1 1 t p (omega arith)))
 
 pub head-at-spec : {M : Type 1} → statement M
 head-at-spec = tie.close (tie.spec mul-number16 number16-requires returns)

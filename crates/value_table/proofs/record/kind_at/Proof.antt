@@ -1,6 +1,9 @@
 -- `kind_at` meets its contract.
+use native.Mathlib.Nat.{add-zero}
 use borrow.Author.Needs.{needs}
+use Rattle.value_table.specs.Format.{fieldAt}
 use Rattle.value_table.specs.Value.{kindAt}
+use Rattle.value_table.proofs.Number.{numberAt-one}
 use Rattle.value_table.proofs.record.kind_at.Statement.{statement}
 use Rattle.value_table.proofs.record.kind_at.Tie as tie
 
@@ -11,8 +14,8 @@ shared-slice-read-result : tie.Need-shared-slice-read-result
 shared-slice-read-result c = search needs
 
 returns : tie.Need-returns
-unfolding kindAt
-returns c = search needs
+unfolding kindAt fieldAt
+returns c = rw (numberAt-one, add-zero) (search needs)
 
 pub kind-at-spec : {M : Type 1} → statement M
 kind-at-spec = tie.close (tie.spec mul-result shared-slice-read-result returns)

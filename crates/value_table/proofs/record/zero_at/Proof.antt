@@ -1,6 +1,8 @@
 -- `zero_at` meets its contract.
 use borrow.Author.Needs.{needs}
+use Rattle.value_table.specs.Format.{fieldAt}
 use Rattle.value_table.specs.Value.{zeroAt}
+use Rattle.value_table.proofs.Number.{numberAt-one}
 use Rattle.value_table.proofs.record.zero_at.Statement.{statement}
 use Rattle.value_table.proofs.record.zero_at.Tie as tie
 
@@ -14,8 +16,8 @@ shared-slice-read-result : tie.Need-shared-slice-read-result
 shared-slice-read-result c = search needs
 
 returns : tie.Need-returns
-unfolding zeroAt
-returns c = search needs
+unfolding zeroAt fieldAt
+returns c = rw numberAt-one (search needs)
 
 pub zero-at-spec : {M : Type 1} → statement M
 zero-at-spec = tie.close (tie.spec mul-result add-result shared-slice-read-result returns)

@@ -2,38 +2,39 @@
 use mathlib.Core.Path.{_≡_, refl, sym, _∙_, ap}
 use mathlib.Core.List.{List}
 use mathlib.Core.Option.{Option}
-use Prim.Native.Nat.{ℕ, zero, suc, _+_, _*_, _≤_}
-use native.Mathlib.Nat.{one-mul, add-mul}
+use Prim.Native.Nat.{ℕ, zero, suc, _+_, _≤_}
 use native.Mathlib.Omega.{arith}
 use Rattle.counting_theory.specs.Trie.{nil, node, size, _⊞_ as joinOption, lookupNode, lookup, add, Sorted}
 use Rattle.counting_theory.specs.Label.{Label, Counting, CountingType}
-use Rattle.inference.specs.Inferring.{times}
+use Rattle.counting_theory.specs.Payload.{Payload, copies}
+use Rattle.counting_theory.specs.Times.{times}
+use Rattle.counting_theory.proofs.Payload.{copies-one, copies-add}
 use Rattle.counting_theory.proofs.Label.{counting-laws}
 use Rattle.counting_theory.proofs.Trie.Join.{⊞-assoc, ⊞-left-comm}
 use Rattle.counting_theory.proofs.Trie.Lookup.{node-join, lookup-add}
 use Rattle.counting_theory.proofs.Trie.Sorted.{sorted-add}
 use Rattle.counting_theory.proofs.Trie.Canonical.{canonical}
 use Rattle.counting_theory.proofs.Trie.Growth.{add-grows}
 
 pub times-one : (r : CountingType) → times 1 r ≡ r
 unfolding times
 times-one nil = refl
-times-one (node l n c s) = rw (one-mul n, times-one c, times-one s) refl
+times-one (node l n c s) = rw (copies-one n, times-one c, times-one s) refl
 
 infixr 66 _⊞_
-abbrev _⊞_ : Option ℕ → Option ℕ → Option ℕ
+abbrev _⊞_ : Option Payload → Option Payload → Option Payload
 x ⊞ y = joinOption Counting x y
 
-exchange : (x y z w : Option ℕ) → (x ⊞ y) ⊞ (z ⊞ w) ≡ (x ⊞ z) ⊞ (y ⊞ w)
+exchange : (x y z w : Option Payload) → (x ⊞ y) ⊞ (z ⊞ w) ≡ (x ⊞ z) ⊞ (y ⊞ w)
 exchange x y z w = simp (⊞-assoc counting-laws) (ap (λ u. x ⊞ u) (⊞-left-comm counting-laws y z w))
 
 pub lookup-times : (a b : ℕ) (r : CountingType) (p : List Label) → lookup Counting (times (a + b) r) p ≡ lookup Counting (times a r) p ⊞ lookup Counting (times b r) p
 unfolding times lookup joinOption
 lookup-times a b nil p = refl
 lookup-times a b (node l n c s) p =
-    let x = lookupNode Counting l (a * n) (lookup Counting (times a c)) p in
-    let y = lookupNode Counting l (b * n) (lookup Counting (times b c)) p in
-    rw (add-mul a b n, node-join counting-laws l (a * n) (b * n) (lookup Counting (times a c)) (lookup Counting (times b c)) (lookup Counting (times (a + b) c)) (lookup-times a b c) p, lookup-times a b s p)
+    let x = lookupNode Counting l (copies a n) (lookup Counting (times a c)) p in
+    let y = lookupNode Counting l (copies b n) (lookup Counting (times b c)) p in
+    rw (copies-add a b n, node-join counting-laws l (copies a n) (copies b n) (lookup Counting (times a c)) (lookup Counting (times b c)) (lookup Counting (times (a + b) c)) (lookup-times a b c) p, lookup-times a b s p)
     (exchange x y (lookup Counting (times a s) p) (lookup Counting (times b s) p))
 
 pub add-times : (a b : ℕ) (r f : CountingType) → Sorted Counting f → add Counting (times a r) (add Counting (times b r) f) ≡ add Counting (times (a + b) r) f

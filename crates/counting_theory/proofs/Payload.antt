@@ -1,0 +1,79 @@
+-- The laws of payloads: what the other proofs know of them.
+use mathlib.Core.Path.{_≡_, refl, ap}
+use mathlib.Core.Bool.{true}
+use mathlib.Core.List.{List, [], _∷_}
+use Prim.Native.Nat.{ℕ, _+_, _*_, _^_, _≤_, _<_}
+use native.Mathlib.Nat.{add-comm, add-assoc, add-mul, one-mul}
+use native.Mathlib.Omega.{arith}
+use lib.ListN.{length}
+use Rattle.value_table.specs.Format.{Fits}
+use Rattle.value_table.specs.Value.{Head, recordSize, maxLength, arrayKind, Values}
+use Rattle.value_table.specs.Value as table
+use Rattle.counting_theory.specs.Payload.{Payload, payloadFormat, numbers, ofNumbers, one, oneField, join, copies, proper}
+
+pub join-comm : (a b : Payload) → join a b ≡ join b a
+unfolding join
+join-comm a b = λ i. record { count = add-comm (a .count) (b .count) i }
+
+pub join-assoc : (a b c : Payload) → join (join a b) c ≡ join a (join b c)
+unfolding join
+join-assoc a b c = λ i. record { count = add-assoc (a .count) (b .count) (c .count) i }
+
+pub count-join : (a b : Payload) → join a b .count ≡ a .count + b .count
+unfolding join
+count-join a b = refl
+
+pub count-one : (head : Head) (content : Values) → one head content .count ≡ 1
+unfolding one
+count-one head content = refl
+
+pub count-field : oneField .count ≡ 1
+unfolding oneField
+count-field = refl
+
+-- copies
+pub copies-one : (a : Payload) → copies 1 a ≡ a
+unfolding copies
+copies-one a = λ i. record { count = one-mul (a .count) i }
+
+pub copies-add : (m n : ℕ) (a : Payload) → copies (m + n) a ≡ join (copies m a) (copies n a)
+unfolding copies join
+copies-add m n a = λ i. record { count = add-mul m n (a .count) i }
+
+pub count-copies : (n : ℕ) (a : Payload) → copies n a .count ≡ n * a .count
+unfolding copies
+count-copies n a = refl
+
+-- numbers and bytes
+pub length-numbers : (a : Payload) → length (numbers a) ≡ length payloadFormat
+unfolding numbers
+length-numbers a = refl
+
+pub numbers-read : (a : Payload) → ofNumbers (numbers a) ≡ a
+unfolding numbers ofNumbers
+numbers-read a = refl
+
+pub numbers-written : (ns : List ℕ) → length ns ≡ length payloadFormat → numbers (ofNumbers ns) ≡ ns
+unfolding numbers ofNumbers
+numbers-written [] h = absurd (omega arith)
+numbers-written (n ∷ []) h = refl
+numbers-written (n ∷ m ∷ ns) h = absurd (omega arith)
+
+pub numbers-fit : (kind : ℕ) (a : Payload) (within : ℕ) → proper kind a within ≡ true → a .count < 2 ^ 64 → Fits payloadFormat (numbers a)
+unfolding numbers
+numbers-fit kind a within p h = (h, tt)
+
+-- what is asked of a payload
+pub proper-join : (kind : ℕ) (a b : Payload) (m n : ℕ) → 1 ≤ a .count → 1 ≤ b .count → proper kind a m ≡ true → proper kind b n ≡ true →
+    proper kind (join a b) (m + n) ≡ true
+unfolding proper
+proper-join kind a b m n x y p q = refl
+
+pub proper-one : (head : Head) (content : Values) (within : ℕ) → (head .kind ≡ arrayKind → within ≡ table.count content) →
+    recordSize * (1 + table.size content) ≤ maxLength → proper (head .kind) (one head content) within ≡ true
+unfolding proper
+proper-one head content within h room = refl
+
+pub proper-field : (kind within : ℕ) → ¬ (kind ≡ arrayKind) → proper kind oneField within ≡ true
+unfolding proper
+proper-field kind within h = refl
