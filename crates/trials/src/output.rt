@@ -2,12 +2,16 @@
 use crate::records::Layout;
 use crate::records::start_of;
 use crate::text::part;
-use value_table::little_endian::number16;
-use value_table::little_endian::number32;
-use value_table::little_endian::number64;
+use type_arena::type_record;
+use type_arena::type_record::count_at;
+use type_arena::type_record::key_at;
+use type_arena::type_record::kind_at;
+use type_arena::type_record::span_at;
+use type_arena::type_record::zero_at;
 ghost use mathlib.Core.Path.{_≡_};
-ghost use Prim.Native.Nat.{_+_, _≤_, _<_};
+ghost use Prim.Native.Nat.{_+_, _*_, _≤_, _<_};
 ghost use lib.ListN.{length};
+ghost use Rattle.counting_theory.specs.Encoding.{typeSize};
 
 // A longer type is printed as its checksum.
 const LONGEST: usize = 64;
@@ -53,23 +57,23 @@ fn checksum(bytes: &[u8]) -> u64 {
     high * 65536 + low
 }
 
-// The numbers of the record at byte p, written as in the trials.
-fn print_record(bytes: &[u8], p: usize)
-    requires { ⌜ p + 16 ≤ length (now bytes) ⌝ }
+// The numbers of record i, written as in the trials: byte 1 is the high byte of the kind.
+fn print_record(bytes: &[u8], i: usize)
+    requires { ⌜ typeSize * i + typeSize ≤ length (now bytes) ⌝ }
 {
-    print(number16(bytes, p) as u64);
-    print(number16(bytes, p + 2) as u64);
-    print(number32(bytes, p + 4) as u64);
-    print(number64(bytes, p + 8) as u64);
+    print(wide(kind_at(bytes, i)) + 256 * wide(zero_at(bytes, i)));
+    print(key_at(bytes, i) as u64);
+    print(span_at(bytes, i) as u64);
+    print(count_at(bytes, i) as u64);
 }
 
 fn print_records(bytes: &[u8]) {
-    let n = bytes.len() / 16;
+    let n = bytes.len() / type_record::SIZE;
     for i in 0..n {
         if 0 < i {
             io::write_all(1, b";");
         }
-        print_record(bytes, 16 * i);
+        print_record(bytes, i);
     }
 }
 
@@ -79,7 +83,7 @@ pub fn print_type(bytes: &[u8]) {
         return;
     }
     io::write_all(1, b":");
-    if bytes.len() / 16 <= LONGEST {
+    if bytes.len() / type_record::SIZE <= LONGEST {
         print_records(bytes);
     } else {
         io::write_all(1, b" adler32");

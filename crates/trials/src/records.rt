@@ -1,6 +1,8 @@
 // Value records and type records in a buffer. Byte 1 of a record is the high byte of its kind; what lies beyond the buffer is
 // passed over.
 use crate::text::read_digit;
+use type_arena::type_record;
+use value_table::record;
 ghost use Prim.Native.Nat.{_≤_, _<_};
 
 pub enum Layout {
@@ -42,8 +44,8 @@ pub fn start_of(layout: Layout, i: usize) -> usize
     ensures { λ r. ⌜ r < 262144 ⌝ }
 {
     match layout {
-        Layout::Value => i % 16384 * 8,
-        Layout::Type => i % 16384 * 16,
+        Layout::Value => i % 16384 * record::SIZE,
+        Layout::Type => i % 16384 * type_record::SIZE,
     }
 }
 

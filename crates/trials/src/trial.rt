@@ -15,12 +15,13 @@ use crate::text::number_or;
 use crate::text::part;
 use crate::text::word;
 use counting_type::Answered;
-
-// One type record more than a type may have.
-const ROOM: usize = 65552;
+use type_arena::type_record;
 
 // The largest arena, which is lent where a line names none.
 const LARGEST: usize = 65536;
+
+// One type record more than a type may have.
+const ROOM: usize = LARGEST + type_record::SIZE;
 
 // What the buffers that a call writes hold beforehand.
 const DIRT: u8 = 165;
