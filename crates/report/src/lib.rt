@@ -16,15 +16,14 @@ ghost use Prim.Native.Nat.{_*_, _≤_};
 ghost use lib.ListN.{length};
 ghost use Rattle.counting_theory.specs.Encoding.{typeRecords, typeOf};
 ghost use Rattle.counting_theory.specs.WellFormed.{maxTotal, IsType};
-ghost use Rattle.counting_theory.specs.Answers.{houseDefault};
 ghost use Rattle.report.specs.Decimal.{Front};
 ghost use Rattle.report.specs.Line.{lineLimit, refusalLimit, refusalLine};
-ghost use Rattle.report.specs.Report.{report, printed};
+ghost use Rattle.report.specs.Report.{report, programEquivalence, printed};
 
 // Stores the report of a well-formed type at the front of the buffer, and answers its length.
 fn put_report(bytes: &[u8], out: &mut [u8]) -> usize
-    requires { ⌜ IsType houseDefault (now bytes) (typeOf houseDefault (now bytes)) × (lineLimit * typeRecords (now bytes) ≤ length (now out)) ⌝ }
-    ensures { λ r. ⌜ Front (now (out .entry)) (report (typeOf houseDefault (now (bytes .entry)))) (now (out .exit)) r ⌝ }
+    requires { ⌜ IsType programEquivalence (now bytes) (typeOf programEquivalence (now bytes)) × (lineLimit * typeRecords (now bytes) ≤ length (now out)) ⌝ }
+    ensures { λ r. ⌜ Front (now (out .entry)) (report (typeOf programEquivalence (now (bytes .entry)))) (now (out .exit)) r ⌝ }
 {
     let n = bytes.len() / type_record::SIZE;
     let width = digit_count(largest_count(bytes, n));

@@ -16,7 +16,7 @@ ghost use Rattle.counting_theory.specs.Encoding.{typeSize, typeKind, typeSpan};
 ghost use Rattle.counting_theory.specs.WellFormed.{maxTotal};
 ghost use Rattle.report.specs.Decimal.{Stored};
 ghost use Rattle.report.specs.Line.{lineLimit};
-ghost use Rattle.report.specs.Report.{linesOf};
+ghost use Rattle.report.specs.Report.{linesOf, programEquivalence};
 ghost use Rattle.report.specs.Walk.{typeIn, lineAt, depthIn, wholeIn, largestFrom, Union, Run, Printable};
 
 fn larger(x: usize, y: usize) -> usize
@@ -39,8 +39,8 @@ pub fn largest_count(b: &[u8], n: usize) -> usize
 
 // The total of the union in records i to end.
 pub fn union_total(b: &[u8], i: usize, end: usize) -> usize
-    requires { ⌜ Union (now b) i end ⌝ }
-    ensures { λ r. ⌜ r ≡ total Counting (typeIn (now (b .entry)) i end) ⌝ }
+    requires { ⌜ Union programEquivalence (now b) i end ⌝ }
+    ensures { λ r. ⌜ r ≡ total Counting (typeIn programEquivalence (now (b .entry)) i end) ⌝ }
 {
     let mut p = i;
     let mut sum = 0;
@@ -54,8 +54,8 @@ pub fn union_total(b: &[u8], i: usize, end: usize) -> usize
 // What the shares of the records inside record p are against: a field's against its record's count, an addend's against its
 // union's total.
 fn whole_inside(b: &[u8], p: usize, end: usize) -> usize
-    requires { ⌜ (typeSize * p + typeSize ≤ length (now b)) × (end ≡ p + typeSpan (now b) p) × ((typeKind (now b) p ≡ recordKind → ⊥) → Union (now b) (p + 1) end) ⌝ }
-    ensures { λ r. ⌜ r ≡ wholeIn (now (b .entry)) p ⌝ }
+    requires { ⌜ (typeSize * p + typeSize ≤ length (now b)) × (end ≡ p + typeSpan (now b) p) × ((typeKind (now b) p ≡ recordKind → ⊥) → Union programEquivalence (now b) (p + 1) end) ⌝ }
+    ensures { λ r. ⌜ r ≡ wholeIn programEquivalence (now (b .entry)) p ⌝ }
 {
     if kind_at(b, p) == type_record::RECORD {
         return count_at(b, p);
@@ -113,8 +113,8 @@ pub fn put_run(
     out: &mut [u8],
     at: usize,
 ) -> usize
-    requires { ⌜ Run (now b) i end depth whole × (width ≤ 16) × (at + lineLimit * (end - i) ≤ length (now out)) ⌝ }
-    ensures { λ r. ⌜ Stored (now (out .entry)) at (linesOf width depth whole (typeIn (now (b .entry)) i end)) (now (out .exit)) r × (r ≤ at + lineLimit * (end - i)) ⌝ }
+    requires { ⌜ Run programEquivalence (now b) i end depth whole × (width ≤ 16) × (at + lineLimit * (end - i) ≤ length (now out)) ⌝ }
+    ensures { λ r. ⌜ Stored (now (out .entry)) at (linesOf width depth whole (typeIn programEquivalence (now (b .entry)) i end)) (now (out .exit)) r × (r ≤ at + lineLimit * (end - i)) ⌝ }
 {
     let mut p = i;
     let mut to = at;

@@ -5,6 +5,7 @@ use native.Mathlib.Omega.{arith}
 use borrow.Author.Needs.{needs}
 use borrow.Fn.Kinds.{In}
 use borrow.Fn.PlainCycle.{Measures, is, falls, and}
+use Rattle.report.specs.Report.{programEquivalence}
 use Rattle.report.proofs.Runs.{run-first}
 use Rattle.report.proofs.Walking.{Walking, walking-start, walking-next, walking-done}
 use Rattle.report.proofs.walk.put_run.Reads as put-run
@@ -27,7 +28,7 @@ abbrev put-run-below : ℕ → In 2 put-run-kinds.ps
 put-run-below t = and 2 put-run-kinds.ps (falls 2 put-run-kinds.ps _<_ μ-put-run t) put-run.Pre
 
 abbrev Inv-loop : put-run-lts.InvT-loop
-Inv-loop b i end depth whole width out₀ at p₀ to₀ out p to = Walking b i end depth whole width out₀ at p out to
+Inv-loop b i end depth whole width out₀ at p₀ to₀ out p to = Walking programEquivalence b i end depth whole width out₀ at p out to
 
 abbrev μ-loop : put-run-lts.MeasureT-loop
 μ-loop b i end depth whole width out₀ at p₀ to₀ out p to = end - p

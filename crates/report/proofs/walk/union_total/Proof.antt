@@ -4,13 +4,14 @@ use mathlib.Core.Path.{_≡_}
 use Prim.Native.Nat.{_+_, _-_}
 use Rattle.counting_theory.specs.Trie.{total}
 use Rattle.counting_theory.specs.Label.{Counting}
+use Rattle.report.specs.Report.{programEquivalence}
 use Rattle.report.specs.Walk.{typeIn, Union}
 use Rattle.report.proofs.Runs.{union-first, union-done}
 use Rattle.report.proofs.walk.union_total.Statement.{statement}
 use Rattle.report.proofs.walk.union_total.Tie as tie
 
 abbrev Inv-loop : tie.InvT-loop
-Inv-loop b i end p₀ sum₀ p sum = Union b p end × (sum + total Counting (typeIn b p end) ≡ total Counting (typeIn b i end))
+Inv-loop b i end p₀ sum₀ p sum = Union programEquivalence b p end × (sum + total Counting (typeIn programEquivalence b p end) ≡ total Counting (typeIn programEquivalence b i end))
 
 abbrev μ-loop : tie.MeasureT-loop
 μ-loop b i end p₀ sum₀ p sum = end - p
