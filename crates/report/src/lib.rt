@@ -7,6 +7,7 @@ use counting_type::answer_of;
 use counting_type::infer_default;
 use decimal::digit_count;
 use decimal::put_text;
+use line::LINE_LIMIT;
 use line::put_number_and;
 use type_arena::type_record;
 use walk::largest_count;
@@ -19,6 +20,12 @@ ghost use Rattle.counting_theory.specs.WellFormed.{maxTotal, IsType};
 ghost use Rattle.report.specs.Decimal.{Front};
 ghost use Rattle.report.specs.Line.{lineLimit, refusalLimit, refusalLine};
 ghost use Rattle.report.specs.Report.{report, programEquivalence, printed};
+
+// The bytes of the largest arena.
+const ARENA_LENGTH: usize = 65536;
+
+// The most bytes that are printed: a line for each record of the largest arena.
+pub const TEXT_LIMIT: usize = LINE_LIMIT * (ARENA_LENGTH / type_record::SIZE);
 
 // Stores the report of a well-formed type at the front of the buffer, and answers its length.
 fn put_report(bytes: &[u8], out: &mut [u8]) -> usize
@@ -42,11 +49,11 @@ fn put_refusal(number: usize, place: usize, out: &mut [u8]) -> usize
 }
 
 // Stores what the profile program prints for its input at the front of the buffer, and answers its length.
-pub fn put_profile(input: &[u8], out: &mut [u8; 303104]) -> usize
+pub fn put_profile(input: &[u8], out: &mut [u8; TEXT_LIMIT]) -> usize
     ensures { λ r. ⌜ Front (now (out .entry)) (printed (now (input .entry))) (now (out .exit)) r ⌝ }
 {
-    let mut arena = [0u8; 65536];
-    let mut work = [0u8; 65536];
+    let mut arena = [0u8; ARENA_LENGTH];
+    let mut work = [0u8; ARENA_LENGTH];
     let answer = answer_of(infer_default(input, &mut arena, &mut work));
     if answer.number == 0 {
         let n = type_record::SIZE * (answer.count as usize);

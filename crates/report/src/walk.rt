@@ -14,7 +14,7 @@ ghost use Rattle.counting_theory.specs.Trie.{total};
 ghost use Rattle.counting_theory.specs.Label.{Counting};
 ghost use Rattle.counting_theory.specs.Encoding.{typeSize, typeKind, typeSpan};
 ghost use Rattle.counting_theory.specs.WellFormed.{maxTotal};
-ghost use Rattle.report.specs.Decimal.{Stored};
+ghost use Rattle.report.specs.Decimal.{maxDigits, Stored};
 ghost use Rattle.report.specs.Line.{lineLimit};
 ghost use Rattle.report.specs.Report.{linesOf, programEquivalence};
 ghost use Rattle.report.specs.Walk.{typeIn, lineAt, depthIn, wholeIn, largestFrom, Union, Run, Printable};
@@ -85,7 +85,7 @@ fn put_record(
     out: &mut [u8],
     at: usize,
 ) -> usize
-    requires { ⌜ Printable (now b) p whole × (depth ≤ maxTotal) × (width ≤ 16) × (at + lineLimit ≤ length (now out)) ⌝ }
+    requires { ⌜ Printable (now b) p whole × (depth ≤ maxTotal) × (width ≤ maxDigits) × (at + lineLimit ≤ length (now out)) ⌝ }
     ensures { λ r. ⌜ Stored (now (out .entry)) at (lineAt (now (b .entry)) p depth whole width) (now (out .exit)) r × (r ≤ at + lineLimit) ⌝ }
 {
     let count = count_at(b, p);
@@ -113,8 +113,9 @@ pub fn put_run(
     out: &mut [u8],
     at: usize,
 ) -> usize
-    requires { ⌜ Run programEquivalence (now b) i end depth whole × (width ≤ 16) × (at + lineLimit * (end - i) ≤ length (now out)) ⌝ }
-    ensures { λ r. ⌜ Stored (now (out .entry)) at (linesOf width depth whole (typeIn programEquivalence (now (b .entry)) i end)) (now (out .exit)) r × (r ≤ at + lineLimit * (end - i)) ⌝ }
+    requires { ⌜ Run programEquivalence (now b) i end depth whole × (width ≤ maxDigits) × (at + lineLimit * (end - i) ≤ length (now out)) ⌝ }
+    ensures { λ r. ⌜ Stored (now (out .entry)) at (linesOf width depth whole (typeIn programEquivalence (now (b .entry)) i end)) (now (out .exit)) r
+        × (r ≤ at + lineLimit * (end - i)) ⌝ }
 {
     let mut p = i;
     let mut to = at;
