@@ -1,9 +1,10 @@
-// The first addend or field of a run of type records, its label against another's, and the total of a union.
+// The label of the first addend or field of a run of type records against another's, and the total of a union.
+use type_arena::addend::body_of;
+use type_arena::addend::rest_of;
 use type_arena::type_record;
 use type_arena::type_record::count_at;
 use type_arena::type_record::key_at;
 use type_arena::type_record::kind_at;
-use type_arena::type_record::span_at;
 ghost use mathlib.Core.Path.{_≡_};
 ghost use mathlib.Core.Bool.{true, cond};
 ghost use Prim.Native.Nat.{_≤_, _<_, compare};
@@ -13,7 +14,8 @@ ghost use Rattle.counting_theory.specs.Order.{compareList};
 ghost use Rattle.counting_theory.specs.Label.{byLabel, compareLabel, Counting};
 ghost use Rattle.counting_theory.specs.Encoding.{siblingKeys, typeOf};
 ghost use Rattle.type_arena.specs.Arena.{under, labelAt};
-ghost use Rattle.counting_type.specs.Merging.{orderingOf, front, body, rest, Headed, Coded, Part, insideOf};
+ghost use Rattle.type_arena.specs.Addend.{Coded};
+ghost use Rattle.counting_type.specs.Merging.{orderingOf, Part, insideOf};
 
 // How one label stands to another.
 pub enum Order {
@@ -46,33 +48,6 @@ pub fn inside(level: Level, kind: u8) -> Level
         field: kind == type_record::RECORD,
         label: level.label,
     }
-}
-
-// The first addend or field of x, with what stands inside it.
-pub fn front_of<'a>(x: &'a [u8]) -> &'a [u8]
-    requires { ⌜ Headed (now x) ⌝ }
-    ensures { λ r. ⌜ now r ≡ front (now (x .entry)) ⌝ }
-{
-    let n = type_record::SIZE * span_at(x, 0);
-    &x[..n]
-}
-
-// What stands inside the first addend or field of x.
-pub fn body_of<'a>(x: &'a [u8]) -> &'a [u8]
-    requires { ⌜ Headed (now x) ⌝ }
-    ensures { λ r. ⌜ now r ≡ body (now (x .entry)) ⌝ }
-{
-    let n = type_record::SIZE * span_at(x, 0);
-    &x[type_record::SIZE..n]
-}
-
-// What follows the first addend or field of x.
-pub fn rest_of<'a>(x: &'a [u8]) -> &'a [u8]
-    requires { ⌜ Headed (now x) ⌝ }
-    ensures { λ r. ⌜ now r ≡ rest (now (x .entry)) ⌝ }
-{
-    let n = type_record::SIZE * span_at(x, 0);
-    &x[n..]
 }
 
 // The total of a union; fields have none.

@@ -2,3 +2,5 @@
 pub mod Chain
 pub mod Sets
 pub mod Clear
+pub mod Keys
+pub mod FirstAddend

@@ -16,14 +16,15 @@ use Rattle.counting_theory.specs.Place.{FieldTotals}
 use Rattle.counting_theory.specs.Encoding.{typePayload, typeKind, typeCount, typeOf, Tagged}
 use Rattle.counting_theory.specs.WellFormed.{maxTotal, depthInside, Shallow, IsType}
 use Rattle.type_arena.specs.Arena.{under, labelAt}
-use Rattle.counting_type.specs.Merging.{body, rest, Coded, depthOf, Part, insideOf, exceeds}
+use Rattle.type_arena.specs.Addend.{body, rest, Coded}
+use Rattle.counting_type.specs.Merging.{depthOf, Part, insideOf, exceeds}
 use Rattle.counting_theory.proofs.Label.{kind-eq}
 use Rattle.counting_theory.proofs.Tagged.Parts.{holdsFields}
 use Rattle.counting_theory.proofs.WellFormed.Nodes.{Placed, depthUnder, shallow-parts}
 use Rattle.counting_theory.proofs.WellFormed.Fitting.{weight-addend, count-within, type-fitting}
 use Rattle.counting_theory.proofs.Encoding.Header.{length-encode, payload-count}
 use Rattle.counting_theory.proofs.WellFormed.Limit.{limit-totals}
-use Rattle.counting_type.proofs.TypeMerge.Addend.{Addend, addend, coded-type, type-empty}
+use Rattle.type_arena.proofs.FirstAddend.{Addend, addend, coded-type, type-empty}
 
 -- an addend has a level left
 level-left : (field : Bool) (left : ℕ) (l : Label) → Placed field (maxDepth + 1 - (left + cond field 1 0)) l → cond field 0 1 ≤ left

@@ -4,7 +4,7 @@ use mathlib.Core.Bool.{false}
 use lib.ListN.{length}
 use Rattle.counting_type.specs.declared.addend.Level.{Level}
 use Rattle.counting_type.specs.Merging.{Part}
-use Rattle.counting_type.proofs.TypeMerge.Addend.{headed}
+use Rattle.type_arena.proofs.FirstAddend.{headed}
 use Rattle.counting_type.proofs.TypeMerge.Part.{head, total-fields, total-low, Adding, adding-start, adding-next, adding-done}
 use native.Mathlib.Omega.{arith}
 use Rattle.counting_type.proofs.addend.total_of.Statement.{statement}

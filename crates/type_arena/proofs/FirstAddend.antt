@@ -12,14 +12,14 @@ use Rattle.counting_theory.specs.Payload.{Payload}
 use Rattle.counting_theory.specs.Trie.{nil, node, size}
 use Rattle.counting_theory.specs.Label.{Equivalence, Label, labelOf, CountingType}
 use Rattle.counting_theory.specs.Encoding.{typeSize, typeKind, typeKey, typeSpan, typePayload, header, encode, siblingKeys, decode, typeOf, Fitting}
 use Rattle.type_arena.specs.Arena.{keysIn, labelAt, headerOf}
-use Rattle.counting_type.specs.Merging.{front, body, rest, Headed, Coded}
+use Rattle.type_arena.specs.Addend.{front, body, rest, Headed, Coded}
 use Rattle.counting_theory.proofs.Tagged.Parts.{holdsFields, Shape, Parts, tagged-parts, shape-label}
 use Rattle.counting_theory.proofs.Encoding.Header.{length-encode}
 use Rattle.counting_theory.proofs.Encoding.Node.{NodeAt, node-read}
 use Rattle.counting_theory.proofs.Encoding.Decode.{decode-run, decode-encode}
-use Rattle.counting_type.proofs.OnePass.Keys.{keys-decode}
+use Rattle.type_arena.proofs.Keys.{keys-decode}
 use Rattle.type_arena.proofs.Sets.{length-headerOf}
 
 -- the header of a label, and that of its kind and key
 header-parts : (l : Label) (span : ℕ) (a : Payload) → header l span a ≡ headerOf (l .kind) (l .key) span a
