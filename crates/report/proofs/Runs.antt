@@ -1,72 +1,47 @@
 -- One record of a run: what stands inside it and behind it.
-use mathlib.Core.Path.{_≡_, refl, sym, _∙_}
+use mathlib.Core.Path.{_≡_, refl, sym, ap, _∙_}
 use mathlib.Core.Bool.{Bool, true, false}
 use mathlib.Core.List.{List, [], _++_}
 use Prim.Native.Nat.{ℕ, _+_, _-_, _*_, _≤_, _<_}
 use native.Mathlib.Omega.{arith}
 use lib.Dec.{eqb}
-use lib.ListN.{length}
+use lib.ListN.{length, take, drop}
+use lib.Seq.{take-at}
 use borrow.Author.Tests.{ne-eqb}
 use Rattle.value_table.specs.Value.{recordKind}
 use Rattle.counting_theory.specs.Payload.{Payload}
-use Rattle.counting_theory.specs.Trie.{nil, node, size, total}
-use Rattle.counting_theory.specs.Label.{Equivalence, Label, Counting, CountingType}
-use Rattle.counting_theory.specs.Encoding.{typeSize, typeKind, typeSpan, typeCount}
+use Rattle.counting_theory.specs.Trie.{nil, node, size}
+use Rattle.counting_theory.specs.Label.{Equivalence, Label, CountingType}
+use Rattle.counting_theory.specs.Encoding.{typeSize, typeKind, typeSpan, encode}
 use Rattle.counting_theory.specs.WellFormed.{depthInside}
 use Rattle.counting_theory.proofs.Label.{kind-eq}
 use Rattle.counting_theory.proofs.Tagged.Parts.{holdsFields, Shape, tagged-parts}
-use Rattle.counting_theory.proofs.Encoding.Decode.{decode-run}
-use Rattle.counting_theory.proofs.WellFormed.Fitting.{weight-addend}
+use Rattle.counting_theory.proofs.Encoding.Header.{length-encode}
 use Rattle.counting_theory.proofs.WellFormed.Holds.{Holds, holds-first}
+use Rattle.type_arena.specs.Addend.{Coded}
+use Rattle.type_arena.proofs.FirstAddend.{coded-type}
 use Rattle.report.specs.Report.{wholeInside, linesOf}
-use Rattle.report.specs.Walk.{typeIn, lineAt, depthIn, wholeIn, Shares, Union, Run, Printable}
+use Rattle.report.specs.Walk.{bytesIn, typeIn, lineAt, depthIn, wholeIn, Shares, Inside, Run, Printable}
+
+-- the bytes of the records that hold a type are that type's
+pub coded-in : {e : Equivalence} {b : List ℕ} {i end : ℕ} {field : Bool} {depth : ℕ} {f : CountingType} → Holds e b i end field depth f → Coded e field (bytesIn b i end)
+coded-in {b = b} {i} {end} {f = f} h =
+    let n : length (encode f) ≡ typeSize * end - typeSize * i = omega (arith, length-encode f, h .ends) in
+    record {
+      trie = f;
+      bytes = ap (take (typeSize * end - typeSize * i)) (h .bytes) ∙ take-at (encode f) (drop (typeSize * end) b) (typeSize * end - typeSize * i) n;
+      tagged = h .tagged;
+      fitting = h .fitting;
+    }
 
 -- the type that records hold is the one read from them
 pub typed : {e : Equivalence} {b : List ℕ} {i end : ℕ} {field : Bool} {depth : ℕ} {f : CountingType} → Holds e b i end field depth f → f ≡ typeIn e b i end
-typed {e} {b} {i} {end} {field} {depth} {f} h =
-    sym (decode-run e b (end - i) i end field f (h .tagged) (h .fitting) (omega (arith, h .ends)) (h .bytes) (h .ends))
+unfolding coded-in
+typed h = sym (coded-type (coded-in h))
 
 pub fields-inside : (e : Equivalence) (field : Bool) (l : Label) (c : CountingType) → Shape e field l c → holdsFields field l ≡ eqb (l .kind) recordKind
 fields-inside e true l c h = rw (kind-eq h) refl
 fields-inside e false l c h = refl
-
--- the addend at p, the first of a union
-pub record Addend (e : Equivalence) (b : List ℕ) (p end : ℕ) : Type 0 where
-  pub here : typeSize * p + typeSize ≤ length b
-  pub span-low : 1 ≤ typeSpan b p
-  pub span-fits : p + typeSpan b p ≤ end
-  pub sum : total Counting (typeIn e b p end) ≡ typeCount b p + total Counting (typeIn e b (p + typeSpan b p) end)
-  pub next : Union e b (p + typeSpan b p) end
-
-module _ {e : Equivalence} {b : List ℕ} {p end : ℕ} (u : Union e b p end) where
-  pub union-done : end ≤ p → total Counting (typeIn e b p end) ≡ 0
-  unfolding size total
-  union-done h = go (typeIn e b p end) (u .holds)
-    where
-      go : (f : CountingType) → Holds e b p end false (u .depth) f → total Counting f ≡ 0
-      go nil i = refl
-      go (node l a c s) i = absurd (omega (arith, i .ends))
-
-  pub union-first : p < end → Addend e b p end
-  unfolding size total
-  union-first h = go (typeIn e b p end) refl (u .holds)
-    where
-      go : (f : CountingType) → typeIn e b p end ≡ f → Holds e b p end false (u .depth) f → Addend e b p end
-      go nil q i = absurd (omega (arith, i .ends))
-      go (node l a c s) q i =
-          let x = holds-first e b p end false (u .depth) l a c s i in
-          let n = x .is-node in
-          let w : total Counting (node l a c s) ≡ a .count + total Counting s = omega (arith, weight-addend l a (i .tagged .0 .kind-high)) in
-          let es = typed (x .in-next) in
-          let t : total Counting (typeIn e b p end) ≡ typeCount b p + total Counting (typeIn e b (p + typeSpan b p) end) =
-          rw (q, n .count-is, ← es) w in
-          record {
-            here = omega (arith, u .within);
-            span-low = omega (arith, n .span-is);
-            span-fits = omega (arith, x .in-next .ends);
-            sum = t;
-            next = record { depth = u .depth; holds = rw (← es) (x .in-next); limit = omega (arith, t, u .limit); within = u .within; short = u .short };
-          }
 
 -- the record at p, the first of a run
 pub record First (e : Equivalence) (b : List ℕ) (p end depth whole : ℕ) : Type 0 where
@@ -76,7 +51,7 @@ pub record First (e : Equivalence) (b : List ℕ) (p end depth whole : ℕ) : Ty
   pub lines : (width : ℕ) → linesOf width depth whole (typeIn e b p end)
       ≡ lineAt b p depth whole width
       ++ (linesOf width (depthIn b p depth) (wholeIn e b p) (typeIn e b (p + 1) (p + typeSpan b p)) ++ linesOf width depth whole (typeIn e b (p + typeSpan b p) end))
-  pub union : (typeKind b p ≡ recordKind → ⊥) → Union e b (p + 1) (p + typeSpan b p)
+  pub within : Inside e b p (p + typeSpan b p)
   pub inside : Run e b (p + 1) (p + typeSpan b p) (depthIn b p depth) (wholeIn e b p)
   pub next : Run e b (p + typeSpan b p) end depth whole
 
@@ -108,19 +83,19 @@ module _ {e : Equivalence} {b : List ℕ} {p end depth whole : ℕ} (r : Run e b
       rw (← ec) (x .in-children) in
       let d : depthIn b p depth ≡ depthInside (holdsFields (r .field) l) depth = rw (n .kind-is, z) refl in
       let w : wholeIn e b p ≡ wholeInside l (a .count) c = rw (n .kind-is, n .count-is, ← ec) refl in
+      let plain : (typeKind b p ≡ recordKind → ⊥) → eqb (l .kind) recordKind ≡ false = λ k. ne-eqb (l .kind) recordKind (λ j. k (n .kind-is ∙ j)) in
       record {
         printable = record { here = omega (arith, r .within); count-low = rw (n .count-is) (sh .0); count-high = rw (n .count-is) (sh .1); limit = r .limit };
         span-low = low;
         span-fits = fits;
         lines = λ width. rw (q, n .kind-is, n .key-is, n .count-is, ← ec, ← es) refl;
-        union = λ k.
-            let y = ne-eqb (l .kind) recordKind (λ j. k (n .kind-is ∙ j)) in
+        within =
             record {
-              depth = depth + 1;
-              holds = rw (z ∙ y) at inner;
-              limit = rw (← ec) (rw y at (sh .2));
+              ends = refl;
+              some = omega arith;
               within = omega (arith, r .within);
-              short = r .short;
+              coded = λ k. rw (z ∙ plain k) at (coded-in inner);
+              limit = λ k. rw (← ec) (rw (plain k) at (sh .2));
             };
         inside =
             record {

@@ -13,7 +13,7 @@ use Rattle.counting_theory.proofs.WellFormed.Limit.{limit-totals}
 use Rattle.counting_theory.specs.Payload.{Payload}
 use Rattle.counting_theory.specs.Trie.{nil, node, total, largestBelow, largestTotal}
 use Rattle.counting_theory.specs.Label.{Equivalence, byKind, byLabel, Label, Counting, CountingType}
-use Rattle.counting_theory.specs.Encoding.{typeRecords, Tagged}
+use Rattle.counting_theory.specs.Encoding.{typeRecords, typeOf, Tagged}
 use Rattle.counting_theory.specs.WellFormed.{maxTotal, counted, fieldCount, fieldsOf, fieldCounts, IsType}
 use Rattle.counting_theory.proofs.Tagged.Parts.{Shape, tagged-parts}
 use Rattle.counting_theory.proofs.Encoding.Header.{length-encode}
@@ -21,9 +21,11 @@ use Rattle.counting_theory.proofs.WellFormed.Nodes.{counted-parts, fieldCounts-
 use Rattle.counting_theory.proofs.WellFormed.Fitting.{weight-addend}
 use Rattle.counting_theory.proofs.WellFormed.Holds.{Holds}
 use Rattle.counting_theory.proofs.WellFormed.Whole.{type-holds}
+use Rattle.type_arena.specs.Addend.{Coded, Union}
+use Rattle.type_arena.proofs.FirstAddend.{type-coded}
 use Rattle.report.specs.Decimal.{digitCount}
 use Rattle.report.specs.Report.{linesOf, report}
-use Rattle.report.specs.Walk.{typeIn, largestFrom, Shares, Union, Run}
+use Rattle.report.specs.Walk.{typeIn, largestFrom, Shares, Run}
 use Rattle.report.proofs.Runs.{typed, fields-inside}
 use Rattle.report.proofs.Largest.{largest-held, largest-below}
 
@@ -61,11 +63,14 @@ shares e field whole (node l a c s) t m n g h i =
     go true d u v w k = (v, k true (a .count) u v (d refl))
     go false d u v w k = (w, k false (total Counting c) u w (omega arith))
 
-module _ {e : Equivalence} {b : List ℕ} {f : CountingType} (t : IsType e b f) where
+module _ {e : Equivalence} {b : List ℕ} (t : IsType e b (typeOf e b)) where
+  abbrev f : CountingType
+  f = typeOf e b
+
   held : Holds e b 0 (typeRecords b) false 1 f
   held = type-holds e b f t
 
-  pub whole-type : f ≡ typeIn e b 0 (typeRecords b)
+  whole-type : f ≡ typeIn e b 0 (typeRecords b)
   whole-type = typed held
 
   whole-shares : Shares (total Counting f) f
@@ -91,20 +96,16 @@ module _ {e : Equivalence} {b : List ℕ} {f : CountingType} (t : IsType e b f) 
         short = whole-short;
       }
 
-  pub whole-union : Union e b 0 (typeRecords b)
-  whole-union =
-      record {
-        depth = 1;
-        holds = rw (← whole-type) held;
-        limit = rw (← whole-type) whole-limit;
-        within = omega arith;
-        short = whole-short;
-      }
+  pub whole-union : Union b
+  whole-union = record { equivalence = e; coded = type-coded t; limit = whole-limit }
+
+  pub whole-total : {n : ℕ} → ((d : Equivalence) → Coded d false b → n ≡ total Counting (typeOf d b)) → n ≡ total Counting (typeOf e b)
+  whole-total h = h e (type-coded t)
 
   pub whole-largest : largestFrom b (typeRecords b) 0 ≤ maxTotal
   whole-largest = rw (largest-held held) (largest-below (total Counting f) f whole-shares whole-limit)
 
-  pub whole-lines : (width whole : ℕ) → width ≡ digitCount (largestFrom b (typeRecords b) 0) → whole ≡ total Counting (typeIn e b 0 (typeRecords b)) →
-      linesOf width 1 whole (typeIn e b 0 (typeRecords b)) ≡ report f
+  pub whole-lines : (width whole : ℕ) → width ≡ digitCount (largestFrom b (typeRecords b) 0) → whole ≡ total Counting (typeOf e b) →
+      linesOf width 1 whole (typeIn e b 0 (typeRecords b)) ≡ report (typeOf e b)
   unfolding report
   whole-lines width whole h i = rw (h, i, largest-held held, ← whole-type) refl

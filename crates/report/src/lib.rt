@@ -9,10 +9,10 @@ use decimal::digit_count;
 use decimal::put_text;
 use line::LINE_LIMIT;
 use line::put_number_and;
+use type_arena::addend::union_total;
 use type_arena::type_record;
 use walk::largest_count;
 use walk::put_run;
-use walk::union_total;
 ghost use Prim.Native.Nat.{_*_, _≤_};
 ghost use lib.ListN.{length};
 ghost use Rattle.counting_theory.specs.Encoding.{typeRecords, typeOf};
@@ -34,7 +34,7 @@ fn put_report(bytes: &[u8], out: &mut [u8]) -> usize
 {
     let n = bytes.len() / type_record::SIZE;
     let width = digit_count(largest_count(bytes, n));
-    let whole = union_total(bytes, 0, n);
+    let whole = union_total(bytes);
     put_run(bytes, 0, n, 1, whole, width, out, 0)
 }
 

@@ -4,3 +4,4 @@ pub mod Sets
 pub mod Clear
 pub mod Keys
 pub mod FirstAddend
+pub mod UnionTotal

@@ -1,11 +1,13 @@
--- The first addend or field of a run of type records, on its bytes.
+-- The first addend or field of a run of type records, on its bytes; and which bytes are a run.
 use mathlib.Core.Path.{_≡_}
-use mathlib.Core.Bool.{Bool}
+use mathlib.Core.Bool.{Bool, false}
 use mathlib.Core.List.{List}
 use Prim.Native.Nat.{ℕ, _*_, _-_, _≤_}
 use lib.ListN.{length, take, drop}
-use Rattle.counting_theory.specs.Label.{Equivalence, CountingType}
-use Rattle.counting_theory.specs.Encoding.{typeSize, typeSpan, encode, Tagged, Fitting}
+use Rattle.counting_theory.specs.Trie.{total}
+use Rattle.counting_theory.specs.Label.{Equivalence, Counting, CountingType}
+use Rattle.counting_theory.specs.Encoding.{typeSize, typeSpan, encode, typeOf, Tagged, Fitting}
+use Rattle.counting_theory.specs.WellFormed.{maxTotal}
 
 -- The first addend or field of a run x with what stands inside it, what stands inside it, and what follows it.
 unfoldable pub front : List ℕ → List ℕ
@@ -28,3 +30,9 @@ pub record Coded (e : Equivalence) (field : Bool) (x : List ℕ) : Type 0 where
   pub bytes : x ≡ encode trie
   pub tagged : Tagged e field trie
   pub fitting : Fitting trie
+
+-- x is the bytes of a union whose total keeps the limit
+pub record Union (x : List ℕ) : Type 0 where
+  pub equivalence : Equivalence
+  pub coded : Coded equivalence false x
+  pub limit : total Counting (typeOf equivalence x) ≤ maxTotal

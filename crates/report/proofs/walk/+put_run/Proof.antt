@@ -1,5 +1,4 @@
 -- `put_run` meets its contract: the lines of the records from p on are left to store.
-use mathlib.Core.Path.{refl}
 use Prim.Native.Nat.{ℕ, _-_, _<_}
 use native.Mathlib.Omega.{arith}
 use borrow.Author.Needs.{needs}
@@ -53,7 +52,7 @@ module _ (t : ℕ) where
   depth-inside-requires c κs = let l = c .before .before .before .before .before .before .loop .inv in (run-first (c .before .before .before .before .before .before .loop .inv .run) (c .before .before .before .before .before .loop-test .taken) .printable .here, omega (arith, l .run .deep, l .run .within, l .run .short))
 
   whole-inside-requires : put-run-lts.Need-whole-inside-requires (calls t) (put-run-at t) put-run.Post Inv-loop μ-loop
-  whole-inside-requires c κs = let f = run-first (c .before .before .before .before .before .before .before .loop .inv .run) (c .before .before .before .before .before .before .loop-test .taken) in let e = c .before .span-at .ensures .0 in (f .printable .here, rw e refl, rw e (f .union))
+  whole-inside-requires c κs = let f = run-first (c .before .before .before .before .before .before .before .loop .inv .run) (c .before .before .before .before .before .before .loop-test .taken) in let e = c .before .span-at .ensures .0 in rw e (f .within)
 
   add-put-run : put-run-lts.Need-add-put-run (calls t) (put-run-at t) put-run.Post Inv-loop μ-loop
   add-put-run c = search needs
