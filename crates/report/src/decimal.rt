@@ -1,4 +1,5 @@
 // Bytes, texts and decimal numbers, stored in a buffer from a position on. Each function answers the position behind what it stored.
+use type_arena::store::put_bytes;
 ghost use mathlib.Core.Path.{_≡_};
 ghost use mathlib.Core.List.{[], _∷_};
 ghost use Prim.Native.Nat.{_+_, _-_, _^_, _≤_, _<_};
@@ -62,26 +63,16 @@ pub fn put_text(out: &mut [u8], at: usize, text: &[u8]) -> usize
     requires { ⌜ at + length (now text) ≤ length (now out) ⌝ }
     ensures { λ r. ⌜ Stored (now (out .entry)) at (now (text .entry)) (now (out .exit)) r ⌝ }
 {
-    let n = text.len();
-    let mut p = at;
-    for i in 0..n {
-        out[p] = text[i];
-        p += 1;
-    }
-    p
+    put_bytes(text, out, at);
+    at + text.len()
 }
 
 fn put_spaces(out: &mut [u8], at: usize, count: usize) -> usize
-    requires { ⌜ at + count ≤ length (now out) ⌝ }
+    requires { ⌜ (at + count ≤ length (now out)) × (count ≤ maxDigits) ⌝ }
     ensures { λ r. ⌜ Stored (now (out .entry)) at (replicate count 32) (now (out .exit)) r ⌝ }
 {
-    let mut p = at;
-    let end = at + count;
-    while p < end {
-        out[p] = b' ';
-        p += 1;
-    }
-    p
+    let spaces: &[u8] = b"                ";
+    put_text(out, at, &spaces[..count])
 }
 
 // The last `count` digits of n.
