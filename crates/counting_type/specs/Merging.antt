@@ -1,10 +1,10 @@
--- The merge of two types on their bytes, as the code goes about it: what a run of records is, its first addend, and what is stored.
+-- The merge of two types on their bytes, as the code goes about it: what a run of records is, and what is stored.
 use mathlib.Core.Path.{_≡_}
 use mathlib.Core.Bool.{Bool, cond, not, _&&_, _||_}
-use mathlib.Core.List.{List, [], _++_}
-use Prim.Native.Nat.{ℕ, _+_, _*_, _-_, _≤_, Ordering, Ordering·lt as lt, Ordering·eq as eq, Ordering·gt as gt}
+use mathlib.Core.List.{List, _++_}
+use Prim.Native.Nat.{ℕ, _+_, _-_, _≤_, Ordering, Ordering·lt as lt, Ordering·eq as eq, Ordering·gt as gt}
 use lib.Dec.{eqb, ltb}
-use lib.ListN.{length, take, drop}
+use lib.ListN.{length}
 use lib.Seq.{sets}
 use Rattle.value_table.specs.Value.{maxDepth, recordKind}
 use Rattle.counting_type.specs.declared.addend.Level.{Level}
@@ -14,37 +14,16 @@ use Rattle.counting_theory.specs.Payload.{join}
 use Rattle.counting_theory.specs.Trie.{size, reduce, largestBelow, largestTotal}
 use Rattle.counting_theory.specs.Label.{Equivalence, Counting, CountingType}
 use Rattle.counting_theory.specs.Place.{FieldTotals}
-use Rattle.counting_theory.specs.Encoding.{typeSize, typeKind, typeKey, typeSpan, typePayload, encode, typeOf, Tagged, Fitting}
+use Rattle.counting_theory.specs.Encoding.{typeKind, typeKey, typePayload, encode, typeOf}
 use Rattle.counting_theory.specs.WellFormed.{maxTotal, Shallow}
 use Rattle.type_arena.specs.Arena.{under, headerOf}
+use Rattle.type_arena.specs.Addend.{front, body, rest, Coded}
 
 -- the code's comparisons
 abbrev pub orderingOf : Order → Ordering
 orderingOf Less = lt
 orderingOf Same = eq
 orderingOf More = gt
-
--- The first addend or field of a run x with what stands inside it, what stands inside it, and what follows it.
-unfoldable pub front : List ℕ → List ℕ
-front x = take (typeSize * typeSpan x 0) x
-
-unfoldable pub body : List ℕ → List ℕ
-body x = take (typeSize * typeSpan x 0 - typeSize) (drop typeSize x)
-
-unfoldable pub rest : List ℕ → List ℕ
-rest x = drop (typeSize * typeSpan x 0) x
-
--- x has a whole first addend or field
-pub record Headed (x : List ℕ) : Type 0 where
-  pub some : 1 ≤ typeSpan x 0
-  pub whole : typeSize * typeSpan x 0 ≤ length x
-
--- x is the bytes of a union, or (field ≡ true) of a run of fields
-pub record Coded (e : Equivalence) (field : Bool) (x : List ℕ) : Type 0 where
-  pub trie : CountingType
-  pub bytes : x ≡ encode trie
-  pub tagged : Tagged e field trie
-  pub fitting : Fitting trie
 
 -- the depth of a run's addends, or of the record that has the fields
 abbrev pub depthOf : Level → ℕ

@@ -1,19 +1,19 @@
-// The first addend or field of a run of type records, its label against another's, and the total of a union.
+// The label of the first addend or field of a run of type records against another's.
+use type_arena::addend::body_of;
+use type_arena::addend::rest_of;
 use type_arena::type_record;
-use type_arena::type_record::count_at;
 use type_arena::type_record::key_at;
 use type_arena::type_record::kind_at;
-use type_arena::type_record::span_at;
 ghost use mathlib.Core.Path.{_≡_};
 ghost use mathlib.Core.Bool.{true, cond};
 ghost use Prim.Native.Nat.{_≤_, _<_, compare};
 ghost use lib.ListN.{length};
-ghost use Rattle.counting_theory.specs.Trie.{total};
 ghost use Rattle.counting_theory.specs.Order.{compareList};
-ghost use Rattle.counting_theory.specs.Label.{byLabel, compareLabel, Counting};
+ghost use Rattle.counting_theory.specs.Label.{byLabel, compareLabel};
 ghost use Rattle.counting_theory.specs.Encoding.{siblingKeys, typeOf};
 ghost use Rattle.type_arena.specs.Arena.{under, labelAt};
-ghost use Rattle.counting_type.specs.Merging.{orderingOf, front, body, rest, Headed, Coded, Part, insideOf};
+ghost use Rattle.type_arena.specs.Addend.{Coded};
+ghost use Rattle.counting_type.specs.Merging.{orderingOf, Part, insideOf};
 
 // How one label stands to another.
 pub enum Order {
@@ -46,51 +46,6 @@ pub fn inside(level: Level, kind: u8) -> Level
         field: kind == type_record::RECORD,
         label: level.label,
     }
-}
-
-// The first addend or field of x, with what stands inside it.
-pub fn front_of<'a>(x: &'a [u8]) -> &'a [u8]
-    requires { ⌜ Headed (now x) ⌝ }
-    ensures { λ r. ⌜ now r ≡ front (now (x .entry)) ⌝ }
-{
-    let n = type_record::SIZE * span_at(x, 0);
-    &x[..n]
-}
-
-// What stands inside the first addend or field of x.
-pub fn body_of<'a>(x: &'a [u8]) -> &'a [u8]
-    requires { ⌜ Headed (now x) ⌝ }
-    ensures { λ r. ⌜ now r ≡ body (now (x .entry)) ⌝ }
-{
-    let n = type_record::SIZE * span_at(x, 0);
-    &x[type_record::SIZE..n]
-}
-
-// What follows the first addend or field of x.
-pub fn rest_of<'a>(x: &'a [u8]) -> &'a [u8]
-    requires { ⌜ Headed (now x) ⌝ }
-    ensures { λ r. ⌜ now r ≡ rest (now (x .entry)) ⌝ }
-{
-    let n = type_record::SIZE * span_at(x, 0);
-    &x[n..]
-}
-
-// The total of a union; fields have none.
-pub fn total_of(a: &[u8], level: Level) -> usize
-    requires { ⌜ Part level (now a) ⌝ }
-    ensures { λ r. ⌜ r ≡ total Counting (typeOf (under (level .label)) (now (a .entry))) ⌝ }
-{
-    if level.field {
-        return 0;
-    }
-    let mut x = a;
-    let mut sum = 0;
-    while x.len() > 0 {
-        sum += count_at(x, 0);
-        let r = rest_of(x);
-        x = r;
-    }
-    sum
 }
 
 // How one key list stands to another: the first key that differs settles it, and a list that begins the other comes first.

@@ -1,12 +1,12 @@
 // Merges two well-formed types in one pass over both: union by union, and inside addends that have one label.
 use crate::addend::Level;
 use crate::addend::Order;
-use crate::addend::body_of;
 use crate::addend::compare_labels;
-use crate::addend::front_of;
 use crate::addend::inside;
-use crate::addend::rest_of;
-use crate::addend::total_of;
+use type_arena::addend::body_of;
+use type_arena::addend::front_of;
+use type_arena::addend::rest_of;
+use type_arena::addend::union_total;
 use type_arena::store::put_bytes;
 use type_arena::store::put_record;
 use type_arena::type_record;
@@ -24,7 +24,8 @@ ghost use Rattle.counting_theory.specs.Label.{Counting};
 ghost use Rattle.counting_theory.specs.Encoding.{typeKind, encode, typeOf};
 ghost use Rattle.counting_theory.specs.WellFormed.{maxTotal, IsType};
 ghost use Rattle.type_arena.specs.Arena.{under};
-ghost use Rattle.counting_type.specs.Merging.{Headed, Part, Kept, Ran, Stored, Joined};
+ghost use Rattle.type_arena.specs.Addend.{Headed};
+ghost use Rattle.counting_type.specs.Merging.{Part, Kept, Ran, Stored, Joined};
 
 const MAX_DEPTH: usize = 32;
 
@@ -46,12 +47,15 @@ fn either(a: bool, b: bool) -> bool
     b
 }
 
-// Whether the merge of two unions totals above the limit.
+// Whether the merge of two unions totals above the limit; fields have no total.
 fn total_over(a: &[u8], b: &[u8], level: Level) -> bool
     requires { ⌜ Part level (now a) × Part level (now b) ⌝ }
     ensures { λ r. ⌜ r ≡ ltb maxTotal (total Counting (typeOf (under (level .label)) (now (a .entry))) + total Counting (typeOf (under (level .label)) (now (b .entry)))) ⌝ }
 {
-    MAX_TOTAL < total_of(a, level) + total_of(b, level)
+    if level.field {
+        return false;
+    }
+    MAX_TOTAL < union_total(a) + union_total(b)
 }
 
 // Stores src from `at` on, and moves `at` past it.

@@ -3,7 +3,7 @@ fn main() {
     // One byte more than a table may have, so that longer input is seen to be too long.
     let mut input = [0u8; 65537];
     let n = io::read_full(0, &mut input);
-    let mut text = [0u8; 303104];
+    let mut text = [0u8; report::TEXT_LIMIT];
     let length = report::put_profile(&input[..n], &mut text);
     io::write_all(1, &text[..length]);
 }

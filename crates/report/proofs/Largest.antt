@@ -5,10 +5,9 @@ use mathlib.Core.List.{List}
 use Prim.Native.Nat.{ℕ, suc, _+_, _-_, _≤_, _<_, max}
 use native.Mathlib.Omega.{arith}
 use Rattle.counting_theory.specs.Trie.{nil, node, size}
-use Rattle.counting_theory.specs.Label.{CountingType}
+use Rattle.counting_theory.specs.Label.{Equivalence, CountingType}
 use Rattle.counting_theory.specs.Encoding.{typeSpan, typeCount}
 use Rattle.counting_theory.specs.WellFormed.{maxTotal}
-use Rattle.counting_theory.specs.Answers.{houseDefault}
 use Rattle.counting_theory.proofs.WellFormed.Holds.{Holds, holds-first}
 use Rattle.report.specs.Report.{largestCount}
 use Rattle.report.specs.Walk.{largestFrom, Shares}
@@ -26,23 +25,23 @@ max-assoc : (x y z : ℕ) → max (max x y) z ≡ max x (max y z)
 max-assoc x y z = omega arith
 
 -- the records of f, and k more
-largest-run : (b : List ℕ) (i end : ℕ) (field : Bool) (depth : ℕ) (f : CountingType) (k : ℕ) → Holds houseDefault b i end field depth f →
+largest-run : (e : Equivalence) (b : List ℕ) (i end : ℕ) (field : Bool) (depth : ℕ) (f : CountingType) (k : ℕ) → Holds e b i end field depth f →
     largestFrom b (size f + k) i ≡ max (largestCount f) (largestFrom b k end)
 unfolding largestFrom largestCount size
-largest-run b i end field depth nil k h =
-    let e : 0 + k ≡ k = omega arith in
+largest-run e b i end field depth nil k h =
+    let o : 0 + k ≡ k = omega arith in
     let j : i ≡ end = omega (arith, h .ends) in
-    rw (e, j) (omega arith)
-largest-run b i end field depth (node l a c s) k h =
-    let x = holds-first houseDefault b i end field depth l a c s h in
-    let e : 1 + (size c + size s) + k ≡ suc (size c + (size s + k)) = omega arith in
-    rw (e, x .is-node .count-is, largest-run b (i + 1) (i + typeSpan b i) _ _ c (size s + k) (x .in-children), largest-run b (i + typeSpan b i) end field depth s k (x .in-next))
+    rw (o, j) (omega arith)
+largest-run e b i end field depth (node l a c s) k h =
+    let x = holds-first e b i end field depth l a c s h in
+    let o : 1 + (size c + size s) + k ≡ suc (size c + (size s + k)) = omega arith in
+    rw (o, x .is-node .count-is, largest-run e b (i + 1) (i + typeSpan b i) _ _ c (size s + k) (x .in-children), largest-run e b (i + typeSpan b i) end field depth s k (x .in-next))
     (rw (max-assoc, max-assoc) refl)
 
-pub largest-held : {b : List ℕ} {end : ℕ} {field : Bool} {depth : ℕ} {f : CountingType} → Holds houseDefault b 0 end field depth f → largestFrom b end 0 ≡ largestCount f
+pub largest-held : {e : Equivalence} {b : List ℕ} {end : ℕ} {field : Bool} {depth : ℕ} {f : CountingType} → Holds e b 0 end field depth f → largestFrom b end 0 ≡ largestCount f
 unfolding largestFrom
-largest-held {b} {end} {field} {depth} {f} h =
-    let e : end ≡ size f + 0 = omega (arith, h .ends) in ap (λ (n : ℕ). largestFrom b n 0) e ∙ largest-run b 0 end field depth f 0 h ∙ omega arith
+largest-held {e} {b} {end} {field} {depth} {f} h =
+    let o : end ≡ size f + 0 = omega (arith, h .ends) in ap (λ (n : ℕ). largestFrom b n 0) o ∙ largest-run e b 0 end field depth f 0 h ∙ omega arith
 
 pub largest-below : (whole : ℕ) (f : CountingType) → Shares whole f → whole ≤ maxTotal → largestCount f ≤ maxTotal
 unfolding largestCount

@@ -1,4 +1,5 @@
 -- The laws behind the statements; a folder for each function's proof.
+pub mod Table
 pub mod Powers
 pub mod Storing
 pub mod Lines

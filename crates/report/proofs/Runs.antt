@@ -1,127 +1,101 @@
 -- One record of a run: what stands inside it and behind it.
-use mathlib.Core.Path.{_≡_, refl, sym, _∙_}
+use mathlib.Core.Path.{_≡_, refl, sym, ap, _∙_}
 use mathlib.Core.Bool.{Bool, true, false}
 use mathlib.Core.List.{List, [], _++_}
 use Prim.Native.Nat.{ℕ, _+_, _-_, _*_, _≤_, _<_}
 use native.Mathlib.Omega.{arith}
 use lib.Dec.{eqb}
-use lib.ListN.{length}
+use lib.ListN.{length, take, drop}
+use lib.Seq.{take-at}
 use borrow.Author.Tests.{ne-eqb}
 use Rattle.value_table.specs.Value.{recordKind}
 use Rattle.counting_theory.specs.Payload.{Payload}
-use Rattle.counting_theory.specs.Trie.{nil, node, size, total}
-use Rattle.counting_theory.specs.Label.{Label, Counting, CountingType}
-use Rattle.counting_theory.specs.Encoding.{typeSize, typeKind, typeSpan, typeCount}
+use Rattle.counting_theory.specs.Trie.{nil, node, size}
+use Rattle.counting_theory.specs.Label.{Equivalence, Label, CountingType}
+use Rattle.counting_theory.specs.Encoding.{typeSize, typeKind, typeSpan, encode}
 use Rattle.counting_theory.specs.WellFormed.{depthInside}
-use Rattle.counting_theory.specs.Answers.{houseDefault}
 use Rattle.counting_theory.proofs.Label.{kind-eq}
 use Rattle.counting_theory.proofs.Tagged.Parts.{holdsFields, Shape, tagged-parts}
-use Rattle.counting_theory.proofs.Encoding.Decode.{decode-run}
-use Rattle.counting_theory.proofs.WellFormed.Fitting.{weight-addend}
+use Rattle.counting_theory.proofs.Encoding.Header.{length-encode}
 use Rattle.counting_theory.proofs.WellFormed.Holds.{Holds, holds-first}
+use Rattle.type_arena.specs.Addend.{Coded}
+use Rattle.type_arena.proofs.FirstAddend.{coded-type}
 use Rattle.report.specs.Report.{wholeInside, linesOf}
-use Rattle.report.specs.Walk.{typeIn, lineAt, depthIn, wholeIn, Shares, Union, Run, Printable}
+use Rattle.report.specs.Walk.{bytesIn, typeIn, lineAt, depthIn, wholeIn, Shares, Inside, Run, Printable}
+
+-- the bytes of the records that hold a type are that type's
+pub coded-in : {e : Equivalence} {b : List ℕ} {i end : ℕ} {field : Bool} {depth : ℕ} {f : CountingType} → Holds e b i end field depth f → Coded e field (bytesIn b i end)
+coded-in {b = b} {i} {end} {f = f} h =
+    let n : length (encode f) ≡ typeSize * end - typeSize * i = omega (arith, length-encode f, h .ends) in
+    record {
+      trie = f;
+      bytes = ap (take (typeSize * end - typeSize * i)) (h .bytes) ∙ take-at (encode f) (drop (typeSize * end) b) (typeSize * end - typeSize * i) n;
+      tagged = h .tagged;
+      fitting = h .fitting;
+    }
 
 -- the type that records hold is the one read from them
-pub typed : {b : List ℕ} {i end : ℕ} {field : Bool} {depth : ℕ} {f : CountingType} → Holds houseDefault b i end field depth f → f ≡ typeIn b i end
-typed {b} {i} {end} {field} {depth} {f} h =
-    sym (decode-run houseDefault b (end - i) i end field f (h .tagged) (h .fitting) (omega (arith, h .ends)) (h .bytes) (h .ends))
+pub typed : {e : Equivalence} {b : List ℕ} {i end : ℕ} {field : Bool} {depth : ℕ} {f : CountingType} → Holds e b i end field depth f → f ≡ typeIn e b i end
+unfolding coded-in
+typed h = sym (coded-type (coded-in h))
 
-pub fields-inside : (field : Bool) (l : Label) (c : CountingType) → Shape houseDefault field l c → holdsFields field l ≡ eqb (l .kind) recordKind
-fields-inside true l c h = rw (kind-eq h) refl
-fields-inside false l c h = refl
-
--- the addend at p, the first of a union
-pub record Addend (b : List ℕ) (p end : ℕ) : Type 0 where
-  pub here : typeSize * p + typeSize ≤ length b
-  pub span-low : 1 ≤ typeSpan b p
-  pub span-fits : p + typeSpan b p ≤ end
-  pub sum : total Counting (typeIn b p end) ≡ typeCount b p + total Counting (typeIn b (p + typeSpan b p) end)
-  pub next : Union b (p + typeSpan b p) end
-
-module _ {b : List ℕ} {p end : ℕ} (u : Union b p end) where
-  pub union-done : end ≤ p → total Counting (typeIn b p end) ≡ 0
-  unfolding size total
-  union-done h = go (typeIn b p end) (u .holds)
-    where
-      go : (f : CountingType) → Holds houseDefault b p end false (u .depth) f → total Counting f ≡ 0
-      go nil i = refl
-      go (node l a c s) i = absurd (omega (arith, i .ends))
-
-  pub union-first : p < end → Addend b p end
-  unfolding size total
-  union-first h = go (typeIn b p end) refl (u .holds)
-    where
-      go : (f : CountingType) → typeIn b p end ≡ f → Holds houseDefault b p end false (u .depth) f → Addend b p end
-      go nil e i = absurd (omega (arith, i .ends))
-      go (node l a c s) e i =
-          let x = holds-first houseDefault b p end false (u .depth) l a c s i in
-          let n = x .is-node in
-          let w : total Counting (node l a c s) ≡ a .count + total Counting s = omega (arith, weight-addend l a (i .tagged .0 .kind-high)) in
-          let es = typed (x .in-next) in
-          let t : total Counting (typeIn b p end) ≡ typeCount b p + total Counting (typeIn b (p + typeSpan b p) end) =
-          rw (e, n .count-is, ← es) w in
-          record {
-            here = omega (arith, u .within);
-            span-low = omega (arith, n .span-is);
-            span-fits = omega (arith, x .in-next .ends);
-            sum = t;
-            next = record { depth = u .depth; holds = rw (← es) (x .in-next); limit = omega (arith, t, u .limit); within = u .within; short = u .short };
-          }
+pub fields-inside : (e : Equivalence) (field : Bool) (l : Label) (c : CountingType) → Shape e field l c → holdsFields field l ≡ eqb (l .kind) recordKind
+fields-inside e true l c h = rw (kind-eq h) refl
+fields-inside e false l c h = refl
 
 -- the record at p, the first of a run
-pub record First (b : List ℕ) (p end depth whole : ℕ) : Type 0 where
+pub record First (e : Equivalence) (b : List ℕ) (p end depth whole : ℕ) : Type 0 where
   pub printable : Printable b p whole
   pub span-low : 1 ≤ typeSpan b p
   pub span-fits : p + typeSpan b p ≤ end
-  pub lines : (width : ℕ) → linesOf width depth whole (typeIn b p end)
+  pub lines : (width : ℕ) → linesOf width depth whole (typeIn e b p end)
       ≡ lineAt b p depth whole width
-      ++ (linesOf width (depthIn b p depth) (wholeIn b p) (typeIn b (p + 1) (p + typeSpan b p)) ++ linesOf width depth whole (typeIn b (p + typeSpan b p) end))
-  pub union : (typeKind b p ≡ recordKind → ⊥) → Union b (p + 1) (p + typeSpan b p)
-  pub inside : Run b (p + 1) (p + typeSpan b p) (depthIn b p depth) (wholeIn b p)
-  pub next : Run b (p + typeSpan b p) end depth whole
+      ++ (linesOf width (depthIn b p depth) (wholeIn e b p) (typeIn e b (p + 1) (p + typeSpan b p)) ++ linesOf width depth whole (typeIn e b (p + typeSpan b p) end))
+  pub within : Inside e b p (p + typeSpan b p)
+  pub inside : Run e b (p + 1) (p + typeSpan b p) (depthIn b p depth) (wholeIn e b p)
+  pub next : Run e b (p + typeSpan b p) end depth whole
 
 depth-below : (t : Bool) (depth : ℕ) → depthInside t depth ≤ depth + 1
 depth-below true depth = omega arith
 depth-below false depth = omega arith
 
-module _ {b : List ℕ} {p end depth whole : ℕ} (r : Run b p end depth whole) where
-  pub run-done : (width : ℕ) → end ≤ p → linesOf width depth whole (typeIn b p end) ≡ []
+module _ {e : Equivalence} {b : List ℕ} {p end depth whole : ℕ} (r : Run e b p end depth whole) where
+  pub run-done : (width : ℕ) → end ≤ p → linesOf width depth whole (typeIn e b p end) ≡ []
   unfolding size linesOf
-  run-done width h = go (typeIn b p end) (r .holds)
+  run-done width h = go (typeIn e b p end) (r .holds)
     where
-      go : (f : CountingType) → Holds houseDefault b p end (r .field) depth f → linesOf width depth whole f ≡ []
+      go : (f : CountingType) → Holds e b p end (r .field) depth f → linesOf width depth whole f ≡ []
       go nil i = refl
       go (node l a c s) i = absurd (omega (arith, i .ends))
 
-  first-node : (l : Label) (a : Payload) (c s : CountingType) → typeIn b p end ≡ node l a c s → Holds houseDefault b p end (r .field) depth (node l a c s) →
-      Shares whole (node l a c s) → First b p end depth whole
+  first-node : (l : Label) (a : Payload) (c s : CountingType) → typeIn e b p end ≡ node l a c s → Holds e b p end (r .field) depth (node l a c s) →
+      Shares whole (node l a c s) → First e b p end depth whole
   unfolding linesOf
-  first-node l a c s e h sh =
-      let x = holds-first houseDefault b p end (r .field) depth l a c s h in
+  first-node l a c s q h sh =
+      let x = holds-first e b p end (r .field) depth l a c s h in
       let n = x .is-node in
-      let z = fields-inside (r .field) l c (tagged-parts houseDefault (r .field) l a c s (h .tagged) .0) in
+      let z = fields-inside e (r .field) l c (tagged-parts e (r .field) l a c s (h .tagged) .0) in
       let ec = typed (x .in-children) in
       let es = typed (x .in-next) in
       let fits : p + typeSpan b p ≤ end = omega (arith, x .in-next .ends) in
       let low : 1 ≤ typeSpan b p = omega (arith, n .span-is) in
-      let inner : Holds houseDefault b (p + 1) (p + typeSpan b p) (holdsFields (r .field) l) (depthInside (holdsFields (r .field) l) depth) (typeIn b (p + 1) (p + typeSpan b p)) =
+      let inner : Holds e b (p + 1) (p + typeSpan b p) (holdsFields (r .field) l) (depthInside (holdsFields (r .field) l) depth) (typeIn e b (p + 1) (p + typeSpan b p)) =
       rw (← ec) (x .in-children) in
       let d : depthIn b p depth ≡ depthInside (holdsFields (r .field) l) depth = rw (n .kind-is, z) refl in
-      let w : wholeIn b p ≡ wholeInside l (a .count) c = rw (n .kind-is, n .count-is, ← ec) refl in
+      let w : wholeIn e b p ≡ wholeInside l (a .count) c = rw (n .kind-is, n .count-is, ← ec) refl in
+      let plain : (typeKind b p ≡ recordKind → ⊥) → eqb (l .kind) recordKind ≡ false = λ k. ne-eqb (l .kind) recordKind (λ j. k (n .kind-is ∙ j)) in
       record {
         printable = record { here = omega (arith, r .within); count-low = rw (n .count-is) (sh .0); count-high = rw (n .count-is) (sh .1); limit = r .limit };
         span-low = low;
         span-fits = fits;
-        lines = λ width. rw (e, n .kind-is, n .key-is, n .count-is, ← ec, ← es) refl;
-        union = λ k.
-            let y = ne-eqb (l .kind) recordKind (λ q. k (n .kind-is ∙ q)) in
+        lines = λ width. rw (q, n .kind-is, n .key-is, n .count-is, ← ec, ← es) refl;
+        within =
             record {
-              depth = depth + 1;
-              holds = rw (z ∙ y) at inner;
-              limit = rw (← ec) (rw y at (sh .2));
+              ends = refl;
+              some = omega arith;
               within = omega (arith, r .within);
-              short = r .short;
+              coded = λ k. rw (z ∙ plain k) at (coded-in inner);
+              limit = λ k. rw (← ec) (rw (plain k) at (sh .2));
             };
         inside =
             record {
@@ -145,10 +119,10 @@ module _ {b : List ℕ} {p end depth whole : ℕ} (r : Run b p end depth whole) 
             };
       }
 
-  pub run-first : p < end → First b p end depth whole
+  pub run-first : p < end → First e b p end depth whole
   unfolding size
-  run-first h = go (typeIn b p end) refl (r .holds) (r .shares)
+  run-first h = go (typeIn e b p end) refl (r .holds) (r .shares)
     where
-      go : (f : CountingType) → typeIn b p end ≡ f → Holds houseDefault b p end (r .field) depth f → Shares whole f → First b p end depth whole
-      go nil e i sh = absurd (omega (arith, i .ends))
-      go (node l a c s) e i sh = first-node l a c s e i sh
+      go : (f : CountingType) → typeIn e b p end ≡ f → Holds e b p end (r .field) depth f → Shares whole f → First e b p end depth whole
+      go nil q i sh = absurd (omega (arith, i .ends))
+      go (node l a c s) q i sh = first-node l a c s q i sh

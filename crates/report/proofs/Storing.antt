@@ -1,13 +1,19 @@
 -- Bytes stored one after the other: by a loop, and by one call after another.
 use mathlib.Core.Path.{_≡_, refl, sym, ap, _∙_}
 use mathlib.Core.List.{List, [], _∷_, _++_}
-use Prim.Native.Nat.{ℕ, suc, _+_, _≤_}
-use native.Mathlib.Nat.{add-zero}
+use Prim.Native.Nat.{ℕ, zero, suc, _+_, _≤_}
 use native.Mathlib.Numerals.{add-one}
 use native.Mathlib.Omega.{arith}
-use lib.ListN.{length, take, drop, set, length-set, length-append}
+use lib.ListN.{length, take, drop, replicate, set, length-set, length-append}
 use lib.Seq.{sets, length-sets, sets-eq, take-at, drop-at}
+use Rattle.type_arena.proofs.Sets.{sets-append}
 use Rattle.report.specs.Decimal.{Stored, Front}
+
+-- a part of a run of one byte
+pub take-replicate : (n m byte : ℕ) → n ≤ m → take n (replicate m byte) ≡ replicate n byte
+take-replicate zero m byte h = refl
+take-replicate (suc n) zero byte h = absurd (omega arith)
+take-replicate (suc n) (suc m) byte h = ap (λ xs. byte ∷ xs) (take-replicate n m byte (omega arith))
 
 -- Of xs, to be stored in s from position p on, ys are left, at position q of the buffer s′.
 pub record Storing (s : List ℕ) (p : ℕ) (xs : List ℕ) (s′ : List ℕ) (q : ℕ) (ys : List ℕ) : Type 0 where
@@ -17,12 +23,6 @@ pub record Storing (s : List ℕ) (p : ℕ) (xs : List ℕ) (s′ : List ℕ) (q
 
 pub storing-all : (s : List ℕ) (p : ℕ) (xs : List ℕ) → Storing s p xs s p xs
 storing-all s p xs = record { bytes = refl; behind = refl; same = refl }
-
-sets-append : (s : List ℕ) (p : ℕ) (xs ys : List ℕ) → sets s p (xs ++ ys) ≡ sets (sets s p xs) (p + length xs) ys
-sets-append s p [] ys = rw add-zero refl
-sets-append s p (x ∷ xs) ys =
-    let e : suc p + length xs ≡ p + suc (length xs) = omega arith in
-    sets-append (set s p x) (suc p) xs ys ∙ ap (λ (n : ℕ). sets (sets (set s p x) (suc p) xs) n ys) e
 
 module _ {s : List ℕ} {p : ℕ} {xs s′ : List ℕ} {q : ℕ} where
   pub storing-next : {y : ℕ} {ys zs : List ℕ} → zs ≡ y ∷ ys → Storing s p xs s′ q zs → Storing s p xs (set s′ q y) (q + 1) ys
@@ -37,7 +37,7 @@ module _ {s : List ℕ} {p : ℕ} {xs s′ : List ℕ} {q : ℕ} where
   storing-past {ys} {zs} e h i =
       let j : Storing s p xs s′ q (ys ++ zs) = rw e at h in
       record {
-        bytes = rw (i .bytes, i .behind, ← sets-append s′ q ys zs) (j .bytes);
+        bytes = rw (i .bytes, i .behind, ← sets-append ys zs s′ q) (j .bytes);
         behind = omega (arith, i .behind, j .behind, length-append ys zs);
         same = rw (i .bytes) (length-sets s′ q ys ∙ h .same);
       }
@@ -45,7 +45,7 @@ module _ {s : List ℕ} {p : ℕ} {xs s′ : List ℕ} {q : ℕ} where
 pub stored-then : {s : List ℕ} {p : ℕ} {xs s₁ : List ℕ} {q : ℕ} {ys s₂ : List ℕ} {r : ℕ} → Stored s p xs s₁ q → Stored s₁ q ys s₂ r → Stored s p (xs ++ ys) s₂ r
 stored-then {s} {p} {xs} {s₁} {q} {ys} {s₂} {r} h i =
     record {
-      bytes = i .bytes ∙ rw (h .bytes, h .behind) (sym (sets-append s p xs ys));
+      bytes = i .bytes ∙ rw (h .bytes, h .behind) (sym (sets-append xs ys s p));
       behind = simp length-append (omega (arith, h .behind, i .behind));
     }
 

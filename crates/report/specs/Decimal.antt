@@ -13,6 +13,10 @@ abbrev pub text : String → List ℕ
 text empty = []
 text (c then s) = code c ∷ text s
 
+-- the most digits of a number that is printed, which is at most the limit of a total
+abbrev pub maxDigits : ℕ
+maxDigits = 16
+
 -- how often n can be divided by ten until nothing is left, and at least once; k bounds the divisions
 unfoldable pub divisions : ℕ → ℕ → ℕ
 divisions zero n = 1

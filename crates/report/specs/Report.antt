@@ -5,7 +5,7 @@ use Prim.Native.Nat.{ℕ, zero, suc, max}
 use lib.Dec.{eqb}
 use Rattle.value_table.specs.Value.{maxLength, recordKind}
 use Rattle.counting_theory.specs.Trie.{nil, node, total}
-use Rattle.counting_theory.specs.Label.{Label, Counting, CountingType}
+use Rattle.counting_theory.specs.Label.{Equivalence, Label, Counting, CountingType}
 use Rattle.counting_theory.specs.Encoding.{typeOf}
 use Rattle.counting_theory.specs.WellFormed.{depthInside}
 use Rattle.counting_theory.specs.Answers.{houseDefault, Written, inferredDefault}
@@ -32,12 +32,20 @@ largestCount (node l a inner next) = max (a .count) (max (largestCount inner) (l
 unfoldable pub report : CountingType → List ℕ
 report t = linesOf (digitCount (largestCount t)) 1 (total Counting t) t
 
+-- the equivalence under which the program infers
+abbrev pub programEquivalence : Equivalence
+programEquivalence = houseDefault
+
 -- the report of the type, or the line of the refusal, by the refusal number
 abbrev pub textOf : ℕ → Written → List ℕ
-textOf zero w = report (typeOf houseDefault (w .bytes))
+textOf zero w = report (typeOf programEquivalence (w .bytes))
 textOf (suc n) w = refusalLine (suc n) (w .outcome .place)
 
--- What the program prints for its input, which the house default reads with the largest arena. Input above 65,536 bytes is refused by
--- 1, as is any other wrong length.
+-- The type of the program's input, inferred by the house default with the largest arena. Input above 65,536 bytes is refused by 1, as
+-- is any other wrong length.
+abbrev pub profiled : List ℕ → Written
+profiled input = inferredDefault input maxLength maxLength
+
+-- what the program prints for its input
 unfoldable pub printed : List ℕ → List ℕ
-printed input = let w = inferredDefault input maxLength maxLength in textOf (w .outcome .number) w
+printed input = textOf (profiled input .outcome .number) (profiled input)

@@ -1,14 +1,16 @@
 // Bytes, texts and decimal numbers, stored in a buffer from a position on. Each function answers the position behind what it stored.
+use type_arena::store::put_bytes;
 ghost use mathlib.Core.Path.{_≡_};
 ghost use mathlib.Core.List.{[], _∷_};
 ghost use Prim.Native.Nat.{_+_, _-_, _^_, _≤_, _<_};
 ghost use lib.ListN.{length, replicate};
 ghost use Rattle.counting_theory.specs.WellFormed.{maxTotal};
-ghost use Rattle.report.specs.Decimal.{digitCount, digits, decimal, padded, Stored};
+ghost use Rattle.report.specs.Decimal.{maxDigits, digitCount, digits, decimal, padded, Stored};
 
-const MAX_DIGITS: usize = 16;
+// The most digits of a number that is printed.
+pub const MAX_DIGITS: usize = 16;
 
-const POWERS: [usize; 16] = [
+const POWERS: [usize; MAX_DIGITS] = [
     1,
     10,
     100,
@@ -28,7 +30,7 @@ const POWERS: [usize; 16] = [
 ];
 
 fn power(d: usize) -> usize
-    requires { ⌜ d < 16 ⌝ }
+    requires { ⌜ d < maxDigits ⌝ }
     ensures { λ r. ⌜ r ≡ 10 ^ d ⌝ }
 {
     POWERS[d]
@@ -37,7 +39,7 @@ fn power(d: usize) -> usize
 // The number of digits, by the powers of ten.
 pub fn digit_count(n: usize) -> usize
     requires { ⌜ n ≤ maxTotal ⌝ }
-    ensures { λ r. ⌜ (r ≡ digitCount n) × (1 ≤ r) × (r ≤ 16) ⌝ }
+    ensures { λ r. ⌜ (r ≡ digitCount n) × (1 ≤ r) × (r ≤ maxDigits) ⌝ }
 {
     let mut d = 1;
     while d < MAX_DIGITS {
@@ -61,31 +63,21 @@ pub fn put_text(out: &mut [u8], at: usize, text: &[u8]) -> usize
     requires { ⌜ at + length (now text) ≤ length (now out) ⌝ }
     ensures { λ r. ⌜ Stored (now (out .entry)) at (now (text .entry)) (now (out .exit)) r ⌝ }
 {
-    let n = text.len();
-    let mut p = at;
-    for i in 0..n {
-        out[p] = text[i];
-        p += 1;
-    }
-    p
+    put_bytes(text, out, at);
+    at + text.len()
 }
 
 fn put_spaces(out: &mut [u8], at: usize, count: usize) -> usize
-    requires { ⌜ at + count ≤ length (now out) ⌝ }
+    requires { ⌜ (at + count ≤ length (now out)) × (count ≤ maxDigits) ⌝ }
     ensures { λ r. ⌜ Stored (now (out .entry)) at (replicate count 32) (now (out .exit)) r ⌝ }
 {
-    let mut p = at;
-    let end = at + count;
-    while p < end {
-        out[p] = b' ';
-        p += 1;
-    }
-    p
+    let spaces: &[u8] = b"                ";
+    put_text(out, at, &spaces[..count])
 }
 
 // The last `count` digits of n.
 fn put_digits(out: &mut [u8], at: usize, n: usize, count: usize) -> usize
-    requires { ⌜ (at + count ≤ length (now out)) × (count ≤ 16) ⌝ }
+    requires { ⌜ (at + count ≤ length (now out)) × (count ≤ maxDigits) ⌝ }
     ensures { λ r. ⌜ Stored (now (out .entry)) at (digits count n) (now (out .exit)) r ⌝ }
 {
     let mut p = at;
@@ -99,8 +91,8 @@ fn put_digits(out: &mut [u8], at: usize, n: usize, count: usize) -> usize
 }
 
 pub fn put_number(out: &mut [u8], at: usize, n: usize) -> usize
-    requires { ⌜ (at + 16 ≤ length (now out)) × (n ≤ maxTotal) ⌝ }
-    ensures { λ r. ⌜ Stored (now (out .entry)) at (decimal n) (now (out .exit)) r × (r ≤ at + 16) ⌝ }
+    requires { ⌜ (at + maxDigits ≤ length (now out)) × (n ≤ maxTotal) ⌝ }
+    ensures { λ r. ⌜ Stored (now (out .entry)) at (decimal n) (now (out .exit)) r × (r ≤ at + maxDigits) ⌝ }
 {
     put_digits(out, at, n, digit_count(n))
 }
@@ -113,8 +105,8 @@ fn padding(width: usize, digits: usize) -> usize
 
 // Padded on the left with spaces to `width` bytes.
 pub fn put_padded(out: &mut [u8], at: usize, width: usize, n: usize) -> usize
-    requires { ⌜ (at + 16 ≤ length (now out)) × (width ≤ 16) × (n ≤ maxTotal) ⌝ }
-    ensures { λ r. ⌜ Stored (now (out .entry)) at (padded width n) (now (out .exit)) r × (r ≤ at + 16) ⌝ }
+    requires { ⌜ (at + maxDigits ≤ length (now out)) × (width ≤ maxDigits) × (n ≤ maxTotal) ⌝ }
+    ensures { λ r. ⌜ Stored (now (out .entry)) at (padded width n) (now (out .exit)) r × (r ≤ at + maxDigits) ⌝ }
 {
     let count = digit_count(n);
     let p = put_spaces(out, at, padding(width, count));

@@ -7,28 +7,34 @@ use counting_type::answer_of;
 use counting_type::infer_default;
 use decimal::digit_count;
 use decimal::put_text;
+use line::LINE_LIMIT;
 use line::put_number_and;
+use type_arena::addend::union_total;
 use type_arena::type_record;
 use walk::largest_count;
 use walk::put_run;
-use walk::union_total;
 ghost use Prim.Native.Nat.{_*_, _≤_};
 ghost use lib.ListN.{length};
 ghost use Rattle.counting_theory.specs.Encoding.{typeRecords, typeOf};
 ghost use Rattle.counting_theory.specs.WellFormed.{maxTotal, IsType};
-ghost use Rattle.counting_theory.specs.Answers.{houseDefault};
 ghost use Rattle.report.specs.Decimal.{Front};
 ghost use Rattle.report.specs.Line.{lineLimit, refusalLimit, refusalLine};
-ghost use Rattle.report.specs.Report.{report, printed};
+ghost use Rattle.report.specs.Report.{report, programEquivalence, printed};
+
+// The bytes of the largest arena.
+const ARENA_LENGTH: usize = 65536;
+
+// The most bytes that are printed: a line for each record of the largest arena.
+pub const TEXT_LIMIT: usize = LINE_LIMIT * (ARENA_LENGTH / type_record::SIZE);
 
 // Stores the report of a well-formed type at the front of the buffer, and answers its length.
 fn put_report(bytes: &[u8], out: &mut [u8]) -> usize
-    requires { ⌜ IsType houseDefault (now bytes) (typeOf houseDefault (now bytes)) × (lineLimit * typeRecords (now bytes) ≤ length (now out)) ⌝ }
-    ensures { λ r. ⌜ Front (now (out .entry)) (report (typeOf houseDefault (now (bytes .entry)))) (now (out .exit)) r ⌝ }
+    requires { ⌜ IsType programEquivalence (now bytes) (typeOf programEquivalence (now bytes)) × (lineLimit * typeRecords (now bytes) ≤ length (now out)) ⌝ }
+    ensures { λ r. ⌜ Front (now (out .entry)) (report (typeOf programEquivalence (now (bytes .entry)))) (now (out .exit)) r ⌝ }
 {
     let n = bytes.len() / type_record::SIZE;
     let width = digit_count(largest_count(bytes, n));
-    let whole = union_total(bytes, 0, n);
+    let whole = union_total(bytes);
     put_run(bytes, 0, n, 1, whole, width, out, 0)
 }
 
@@ -43,11 +49,11 @@ fn put_refusal(number: usize, place: usize, out: &mut [u8]) -> usize
 }
 
 // Stores what the profile program prints for its input at the front of the buffer, and answers its length.
-pub fn put_profile(input: &[u8], out: &mut [u8; 303104]) -> usize
+pub fn put_profile(input: &[u8], out: &mut [u8; TEXT_LIMIT]) -> usize
     ensures { λ r. ⌜ Front (now (out .entry)) (printed (now (input .entry))) (now (out .exit)) r ⌝ }
 {
-    let mut arena = [0u8; 65536];
-    let mut work = [0u8; 65536];
+    let mut arena = [0u8; ARENA_LENGTH];
+    let mut work = [0u8; ARENA_LENGTH];
     let answer = answer_of(infer_default(input, &mut arena, &mut work));
     if answer.number == 0 {
         let n = type_record::SIZE * (answer.count as usize);

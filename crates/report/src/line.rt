@@ -1,15 +1,25 @@
 // One line of the report, stored at a position of a buffer. Each function answers the position behind what it stored.
+use crate::decimal::MAX_DIGITS;
 use crate::decimal::put_byte;
 use crate::decimal::put_number;
 use crate::decimal::put_padded;
 use crate::decimal::put_text;
+use type_arena::type_record;
 ghost use mathlib.Core.Path.{_≡_};
 ghost use mathlib.Core.List.{[], _∷_, _++_};
 ghost use Prim.Native.Nat.{_+_, _≤_};
 ghost use lib.ListN.{length};
 ghost use Rattle.counting_theory.specs.WellFormed.{maxTotal};
-ghost use Rattle.report.specs.Decimal.{decimal, Stored};
-ghost use Rattle.report.specs.Line.{kindWord, share as shareOf, lineOf, lineLimit};
+ghost use Rattle.report.specs.Decimal.{maxDigits, decimal, Stored};
+ghost use Rattle.report.specs.Line.{wordLimit, kindWord, share as shareOf, lineOf, lineLimit};
+
+// The most bytes of a word, and the bytes of each kind's word.
+const WORD_LIMIT: usize = 5;
+
+const WORD_LENGTHS: [usize; 8] = [0, 4, 4, 3, 3, 3, 3, 5];
+
+// The most bytes of a line: four numbers, a word, four spaces and the line feed.
+pub const LINE_LIMIT: usize = 4 * MAX_DIGITS + WORD_LIMIT + 5;
 
 // In thousandths, to the nearest, halves up.
 pub fn share(count: usize, whole: usize) -> usize
@@ -19,26 +29,25 @@ pub fn share(count: usize, whole: usize) -> usize
     (2000 * count + whole) / (2 * whole)
 }
 
+// The word of a kind; kinds 1 to 7 have one.
 fn put_kind(out: &mut [u8], at: usize, kind: u8) -> usize
-    requires { ⌜ at + 5 ≤ length (now out) ⌝ }
-    ensures { λ r. ⌜ Stored (now (out .entry)) at (kindWord kind) (now (out .exit)) r × (r ≤ at + 5) ⌝ }
+    requires { ⌜ at + wordLimit ≤ length (now out) ⌝ }
+    ensures { λ r. ⌜ Stored (now (out .entry)) at (kindWord kind) (now (out .exit)) r × (r ≤ at + wordLimit) ⌝ }
 {
-    match kind {
-        1 => put_text(out, at, b"null"),
-        2 => put_text(out, at, b"bool"),
-        3 => put_text(out, at, b"num"),
-        4 => put_text(out, at, b"str"),
-        5 => put_text(out, at, b"rec"),
-        6 => put_text(out, at, b"arr"),
-        7 => put_text(out, at, b"field"),
-        _ => at,
+    if type_record::FIELD < kind {
+        return at;
     }
+    let words: &[u8] = b"     null bool num  str  rec  arr  field";
+    let k = kind as usize;
+    let from = WORD_LIMIT * k;
+    let to = from + WORD_LENGTHS[k];
+    put_text(out, at, &words[from..to])
 }
 
 // A number and the byte behind it.
 pub fn put_number_and(out: &mut [u8], at: usize, n: usize, byte: u8) -> usize
-    requires { ⌜ (at + 17 ≤ length (now out)) × (n ≤ maxTotal) ⌝ }
-    ensures { λ r. ⌜ Stored (now (out .entry)) at (decimal n ++ (byte ∷ [])) (now (out .exit)) r × (r ≤ at + 17) ⌝ }
+    requires { ⌜ (at + maxDigits + 1 ≤ length (now out)) × (n ≤ maxTotal) ⌝ }
+    ensures { λ r. ⌜ Stored (now (out .entry)) at (decimal n ++ (byte ∷ [])) (now (out .exit)) r × (r ≤ at + maxDigits + 1) ⌝ }
 {
     let p = put_number(out, at, n);
     put_byte(out, p, byte)
@@ -56,7 +65,7 @@ pub fn put_line(
     share: usize,
 ) -> usize
     requires { ⌜ at + lineLimit ≤ length (now out) ⌝ }
-    requires { ⌜ (depth ≤ maxTotal) × (key ≤ maxTotal) × (width ≤ 16) × (count ≤ maxTotal) × (share ≤ maxTotal) ⌝ }
+    requires { ⌜ (depth ≤ maxTotal) × (key ≤ maxTotal) × (width ≤ maxDigits) × (count ≤ maxTotal) × (share ≤ maxTotal) ⌝ }
     ensures { λ r. ⌜ Stored (now (out .entry)) at (lineOf depth kind key width count share) (now (out .exit)) r × (r ≤ at + lineLimit) ⌝ }
 {
     let word = put_number_and(out, at, depth, b' ');

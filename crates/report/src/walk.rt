@@ -1,6 +1,7 @@
 // The walk over the records of a type.
 use crate::line::put_line;
 use crate::line::share;
+use type_arena::addend::union_total;
 use type_arena::type_record;
 use type_arena::type_record::count_at;
 use type_arena::type_record::key_at;
@@ -9,15 +10,13 @@ use type_arena::type_record::span_at;
 ghost use mathlib.Core.Path.{_≡_};
 ghost use Prim.Native.Nat.{_+_, _-_, _*_, _≤_, _<_, max};
 ghost use lib.ListN.{length};
-ghost use Rattle.value_table.specs.Value.{recordKind, maxLength};
-ghost use Rattle.counting_theory.specs.Trie.{total};
-ghost use Rattle.counting_theory.specs.Label.{Counting};
-ghost use Rattle.counting_theory.specs.Encoding.{typeSize, typeKind, typeSpan};
+ghost use Rattle.value_table.specs.Value.{maxLength};
+ghost use Rattle.counting_theory.specs.Encoding.{typeSize};
 ghost use Rattle.counting_theory.specs.WellFormed.{maxTotal};
-ghost use Rattle.report.specs.Decimal.{Stored};
+ghost use Rattle.report.specs.Decimal.{maxDigits, Stored};
 ghost use Rattle.report.specs.Line.{lineLimit};
-ghost use Rattle.report.specs.Report.{linesOf};
-ghost use Rattle.report.specs.Walk.{typeIn, lineAt, depthIn, wholeIn, largestFrom, Union, Run, Printable};
+ghost use Rattle.report.specs.Report.{linesOf, programEquivalence};
+ghost use Rattle.report.specs.Walk.{typeIn, lineAt, depthIn, wholeIn, largestFrom, Inside, Run, Printable};
 
 fn larger(x: usize, y: usize) -> usize
     ensures { λ r. ⌜ r ≡ max x y ⌝ }
@@ -37,30 +36,18 @@ pub fn largest_count(b: &[u8], n: usize) -> usize
     largest
 }
 
-// The total of the union in records i to end.
-pub fn union_total(b: &[u8], i: usize, end: usize) -> usize
-    requires { ⌜ Union (now b) i end ⌝ }
-    ensures { λ r. ⌜ r ≡ total Counting (typeIn (now (b .entry)) i end) ⌝ }
-{
-    let mut p = i;
-    let mut sum = 0;
-    while p < end {
-        sum += count_at(b, p);
-        p += span_at(b, p);
-    }
-    sum
-}
-
 // What the shares of the records inside record p are against: a field's against its record's count, an addend's against its
 // union's total.
 fn whole_inside(b: &[u8], p: usize, end: usize) -> usize
-    requires { ⌜ (typeSize * p + typeSize ≤ length (now b)) × (end ≡ p + typeSpan (now b) p) × ((typeKind (now b) p ≡ recordKind → ⊥) → Union (now b) (p + 1) end) ⌝ }
-    ensures { λ r. ⌜ r ≡ wholeIn (now (b .entry)) p ⌝ }
+    requires { ⌜ Inside programEquivalence (now b) p end ⌝ }
+    ensures { λ r. ⌜ r ≡ wholeIn programEquivalence (now (b .entry)) p ⌝ }
 {
     if kind_at(b, p) == type_record::RECORD {
         return count_at(b, p);
     }
-    union_total(b, p + 1, end)
+    let from = type_record::SIZE * (p + 1);
+    let to = type_record::SIZE * end;
+    union_total(&b[from..to])
 }
 
 // A field has its record's depth.
@@ -85,7 +72,7 @@ fn put_record(
     out: &mut [u8],
     at: usize,
 ) -> usize
-    requires { ⌜ Printable (now b) p whole × (depth ≤ maxTotal) × (width ≤ 16) × (at + lineLimit ≤ length (now out)) ⌝ }
+    requires { ⌜ Printable (now b) p whole × (depth ≤ maxTotal) × (width ≤ maxDigits) × (at + lineLimit ≤ length (now out)) ⌝ }
     ensures { λ r. ⌜ Stored (now (out .entry)) at (lineAt (now (b .entry)) p depth whole width) (now (out .exit)) r × (r ≤ at + lineLimit) ⌝ }
 {
     let count = count_at(b, p);
@@ -113,8 +100,9 @@ pub fn put_run(
     out: &mut [u8],
     at: usize,
 ) -> usize
-    requires { ⌜ Run (now b) i end depth whole × (width ≤ 16) × (at + lineLimit * (end - i) ≤ length (now out)) ⌝ }
-    ensures { λ r. ⌜ Stored (now (out .entry)) at (linesOf width depth whole (typeIn (now (b .entry)) i end)) (now (out .exit)) r × (r ≤ at + lineLimit * (end - i)) ⌝ }
+    requires { ⌜ Run programEquivalence (now b) i end depth whole × (width ≤ maxDigits) × (at + lineLimit * (end - i) ≤ length (now out)) ⌝ }
+    ensures { λ r. ⌜ Stored (now (out .entry)) at (linesOf width depth whole (typeIn programEquivalence (now (b .entry)) i end)) (now (out .exit)) r
+        × (r ≤ at + lineLimit * (end - i)) ⌝ }
 {
     let mut p = i;
     let mut to = at;

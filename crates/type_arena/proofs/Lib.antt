@@ -2,3 +2,6 @@
 pub mod Chain
 pub mod Sets
 pub mod Clear
+pub mod Keys
+pub mod FirstAddend
+pub mod UnionTotal

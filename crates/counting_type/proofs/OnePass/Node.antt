@@ -21,7 +21,7 @@ use Rattle.counting_theory.proofs.WellFormed.Fitting.{weight-addend}
 use Rattle.counting_theory.proofs.WellFormed.Record.{TypeRecord}
 use Rattle.counting_theory.proofs.WellFormed.Holds.{Holds, holds-first}
 use Rattle.counting_type.proofs.OnePass.Fits.{isFields, depthOf, Follows}
-use Rattle.counting_type.proofs.OnePass.Keys.{label-held}
+use Rattle.type_arena.proofs.Keys.{label-held}
 use Rattle.counting_type.proofs.OnePass.Ruled.{NodeRuled, ruled-node, ruled-parts}
 use Rattle.counting_type.proofs.OnePass.Rest.{sumOf, Totals, Rest, total-positive, inside-told, inside-holds}
 

@@ -11,10 +11,10 @@ use Rattle.counting_theory.specs.Order.{then, comparePair, compareList, compare
 use Rattle.counting_theory.specs.Label.{Equivalence, byKind, byLabel, Label, listed, compareLabel}
 use Rattle.counting_theory.specs.Encoding.{typeKind, typeKey, siblingKeys, typeOf}
 use Rattle.type_arena.specs.Arena.{under, labelAt}
-use Rattle.counting_type.specs.Merging.{body, rest, Coded}
+use Rattle.type_arena.specs.Addend.{body, rest, Coded}
 use Rattle.counting_theory.proofs.Order.{number-refl, less-compare, more-compare}
 use Rattle.counting_theory.proofs.Label.{label-order, kind-eq, keys-eq}
-use Rattle.counting_type.proofs.TypeMerge.Addend.{Addend, addend, type-empty}
+use Rattle.type_arena.proofs.FirstAddend.{Addend, addend, type-empty}
 
 by-parts : (l m : Label) → compareLabel l m ≡ then (compare (l .kind) (m .kind)) (then (compare (l .key) (m .key)) (compareList compare (l .keys) (m .keys)))
 unfolding compareOn comparePair

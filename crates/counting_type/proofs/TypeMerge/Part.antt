@@ -1,7 +1,7 @@
 -- The first addend or field of a run of a well-formed type: its count, what stands inside it and what follows are within the limits.
 use mathlib.Core.Path.{_≡_, refl, ap}
 use mathlib.Core.Bool.{Bool, true, false, cond, not, _&&_}
-use mathlib.Core.List.{List, [], _∷_}
+use mathlib.Core.List.{List}
 use Prim.Native.Nat.{ℕ, _+_, _*_, _-_, _≤_, _<_}
 use native.Mathlib.Nat.{zero-add, le-refl}
 use native.Mathlib.Omega.{arith}
@@ -16,14 +16,15 @@ use Rattle.counting_theory.specs.Place.{FieldTotals}
 use Rattle.counting_theory.specs.Encoding.{typePayload, typeKind, typeCount, typeOf, Tagged}
 use Rattle.counting_theory.specs.WellFormed.{maxTotal, depthInside, Shallow, IsType}
 use Rattle.type_arena.specs.Arena.{under, labelAt}
-use Rattle.counting_type.specs.Merging.{body, rest, Coded, depthOf, Part, insideOf, exceeds}
+use Rattle.type_arena.specs.Addend.{body, rest, Coded, Union}
+use Rattle.counting_type.specs.Merging.{depthOf, Part, insideOf, exceeds}
 use Rattle.counting_theory.proofs.Label.{kind-eq}
 use Rattle.counting_theory.proofs.Tagged.Parts.{holdsFields}
 use Rattle.counting_theory.proofs.WellFormed.Nodes.{Placed, depthUnder, shallow-parts}
-use Rattle.counting_theory.proofs.WellFormed.Fitting.{weight-addend, count-within, type-fitting}
+use Rattle.counting_theory.proofs.WellFormed.Fitting.{count-within}
 use Rattle.counting_theory.proofs.Encoding.Header.{length-encode, payload-count}
 use Rattle.counting_theory.proofs.WellFormed.Limit.{limit-totals}
-use Rattle.counting_type.proofs.TypeMerge.Addend.{Addend, addend, coded-type, type-empty}
+use Rattle.type_arena.proofs.FirstAddend.{Addend, addend, coded-type, type-coded}
 
 -- an addend has a level left
 level-left : (field : Bool) (left : ℕ) (l : Label) → Placed field (maxDepth + 1 - (left + cond field 1 0)) l → cond field 0 1 ≤ left
@@ -84,7 +85,7 @@ head {level} {x} p h =
 pub type-part : (label : Bool) (x : List ℕ) → IsType (under label) x (typeOf (under label) x) → Part (record { left = maxDepth; field = false; label = label }) x
 type-part label x t =
     record {
-      coded = record { trie = typeOf (under label) x; bytes = t .bytes; tagged = t .tagged; fitting = type-fitting t };
+      coded = type-coded t;
       shallow = t .shallow;
       left-low = le-refl maxDepth;
       limit = limit-totals (typeOf (under label) x) (t .limit);
@@ -106,42 +107,22 @@ rank-inside {level} {x} h = go (level .field) (eqb (typeKind x 0) recordKind) (h
     go false true i = omega arith
     go false false i = omega arith
 
--- The total of a union, addend by addend; fields weigh nothing.
-module _ {e : Equivalence} {x : List ℕ} where
-  total-next : Addend e false x → total Counting (typeOf e x) ≡ typeCount x 0 + total Counting (typeOf e (rest x))
-  unfolding total
-  total-next a = rw (a .is-type, weight-addend (labelAt e x 0) (typePayload x 0) (a .is-shape .kind-high), payload-count x 0) refl
-
-  pub total-fields : Coded e true x → total Counting (typeOf e x) ≡ 0
-  unfolding total
-  total-fields k = rw (coded-type k) (go (k .trie) (k .tagged))
-    where
-      go : (f : CountingType) → Tagged e true f → total Counting f ≡ 0
-      go nil t = refl
-      go (node l a c s) t = rw (eq-eqb (l .kind) fieldKind (kind-eq (t .0)), zero-add) (go s (t .2))
-
-total-none : (e : Equivalence) (x : List ℕ) → length x ≡ 0 → total Counting (typeOf e x) ≡ 0
-unfolding total
-total-none e [] h = rw (type-empty e) refl
-total-none e (b ∷ x) h = absurd (omega arith)
-
 pub total-low : {level : Level} {x : List ℕ} → Part level x → total Counting (typeOf (under (level .label)) x) ≤ maxTotal
 unfolding largestTotal
 total-low p = omega (arith, p .limit)
 
--- The sum so far and the total of what is left, x, give the total of a.
-pub record Adding (level : Level) (a x : List ℕ) (sum : ℕ) : Type 0 where
-  pub left : Part level x
-  pub same : sum + total Counting (typeOf (under (level .label)) x) ≡ total Counting (typeOf (under (level .label)) a)
+-- fields weigh nothing; a run of addends is a union
+pub total-fields : {e : Equivalence} {x : List ℕ} → Coded e true x → total Counting (typeOf e x) ≡ 0
+unfolding total
+total-fields {e} k = rw (coded-type k) (go (k .trie) (k .tagged))
+  where
+    go : (f : CountingType) → Tagged e true f → total Counting f ≡ 0
+    go nil t = refl
+    go (node l a c s) t = rw (eq-eqb (l .kind) fieldKind (kind-eq (t .0)), zero-add) (go s (t .2))
 
-pub adding-start : (a : List ℕ) (level : Level) → level .field ≡ false → Part level a → Adding level a a 0
-adding-start a level f p = record { left = p; same = zero-add _ }
+pub part-union : {level : Level} {x : List ℕ} → level .field ≡ false → Part level x → Union x
+part-union {level} f p = record { equivalence = under (level .label); coded = rw f at (p .coded); limit = total-low p }
 
-module _ {level : Level} {a x : List ℕ} {sum : ℕ} (w : Adding level a x sum) where
-  pub adding-next : {n : ℕ} {r : List ℕ} → level .field ≡ false → 0 < length x → n ≡ typeCount x 0 → r ≡ rest x → Adding level a r (sum + n)
-  adding-next f h e z =
-      let g = head (w .left) h in
-      rw z (record { left = g .in-rest; same = omega (arith, w .same, total-next (rw f at (g .first))) })
-
-  pub adding-done : length x ≡ 0 → sum ≡ total Counting (typeOf (under (level .label)) a)
-  adding-done h = omega (arith, w .same, total-none (under (level .label)) x h)
+pub part-total : {level : Level} {x : List ℕ} {n : ℕ} → level .field ≡ false → Part level x → ((e : Equivalence) → Coded e false x → n ≡ total Counting (typeOf e x)) →
+    n ≡ total Counting (typeOf (under (level .label)) x)
+part-total {level} f p h = h (under (level .label)) (rw f at (p .coded))

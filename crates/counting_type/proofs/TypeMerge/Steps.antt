@@ -15,12 +15,13 @@ use Rattle.counting_theory.specs.Label.{Equivalence, Counting, CountingType}
 use Rattle.counting_theory.specs.Encoding.{typeSize, typeKind, typeKey, typePayload, header, encode, typeOf}
 use Rattle.counting_theory.specs.WellFormed.{maxTotal}
 use Rattle.type_arena.specs.Arena.{under, labelAt, headerOf}
-use Rattle.counting_type.specs.Merging.{front, body, rest, Coded, Part, exceeds, exceedsBelow, both, mergedBytes, joinedBytes}
+use Rattle.type_arena.specs.Addend.{front, body, rest, Coded}
+use Rattle.counting_type.specs.Merging.{Part, exceeds, exceedsBelow, both, mergedBytes, joinedBytes}
 use Rattle.counting_theory.proofs.Label.{counting-laws}
 use Rattle.counting_theory.proofs.Trie.Sizes.{reduce-nil, size-reduce, total-reduce}
 use Rattle.counting_theory.proofs.Encoding.Header.{length-encode}
 use Rattle.type_arena.proofs.Sets.{length-headerOf}
-use Rattle.counting_type.proofs.TypeMerge.Addend.{coded-type, coded-length, type-empty}
+use Rattle.type_arena.proofs.FirstAddend.{coded-type, coded-length, type-empty}
 use Rattle.counting_type.proofs.TypeMerge.Part.{Head}
 use Rattle.counting_type.proofs.TypeMerge.Labels.{order}
 

@@ -16,9 +16,10 @@ use Rattle.counting_theory.specs.Label.{Equivalence, Counting}
 use Rattle.counting_theory.specs.Encoding.{typePayload, typeSize, typeKind, typeKey, typeCount, typeOf}
 use Rattle.counting_theory.specs.WellFormed.{maxTotal}
 use Rattle.type_arena.specs.Arena.{headerOf}
-use Rattle.counting_type.specs.Merging.{front, body, rest, Part, insideOf, exceedsBelow, both, mergedBytes, joinedBytes, Kept, Ran, Stored, Joined}
+use Rattle.type_arena.specs.Addend.{front, body, rest}
+use Rattle.counting_type.specs.Merging.{Part, insideOf, exceedsBelow, both, mergedBytes, joinedBytes, Kept, Ran, Stored, Joined}
 use Rattle.type_arena.proofs.Sets.{sets-append, sets-last, length-headerOf}
-use Rattle.counting_type.proofs.TypeMerge.Addend.{body-rest, front-rest}
+use Rattle.type_arena.proofs.FirstAddend.{body-rest, front-rest}
 use Rattle.counting_type.proofs.TypeMerge.Part.{Head}
 use Rattle.counting_type.proofs.TypeMerge.Labels.{order}
 use Rattle.counting_type.proofs.TypeMerge.Steps.{Step, At, step-less, step-more, step-same, second-out, first-out, length-merged, length-joined, merged-le, union-over}

@@ -1,12 +1,10 @@
 -- `put_report` meets its contract: the whole type is one run.
-use mathlib.Core.Path.{sym, ap, _∙_}
+use mathlib.Core.Path.{ap, _∙_}
 use native.Mathlib.Omega.{arith}
 use borrow.Author.Needs.{needs}
-use Rattle.counting_theory.specs.Trie.{total}
-use Rattle.counting_theory.specs.Label.{Counting}
 use Rattle.report.specs.Decimal.{digitCount}
 use Rattle.report.proofs.Storing.{stored-front}
-use Rattle.report.proofs.Whole.{whole-type, whole-short, whole-run, whole-union, whole-largest, whole-lines}
+use Rattle.report.proofs.Whole.{whole-short, whole-run, whole-union, whole-total, whole-largest, whole-lines}
 use Rattle.report.proofs.put_report.Statement.{statement}
 use Rattle.report.proofs.put_report.Tie as tie
 
@@ -22,7 +20,7 @@ union-total-requires c κs = whole-union (c .before .before .before .before .pre
 put-run-requires : tie.Need-put-run-requires
 put-run-requires c κs =
     let t = c .before .before .before .before .before .before .pre .0 in
-    (rw (c .before .union-total .ensures ∙ ap (total Counting) (sym (whole-type t))) (whole-run t), c .before .before .digit-count .ensures .2, omega (arith, c .before .before .before .before .before .before .pre .1))
+    (rw (whole-total t (c .before .union-total .ensures)) (whole-run t), c .before .before .digit-count .ensures .2, omega (arith, c .before .before .before .before .before .before .pre .1))
 
 same-length : tie.Need-same-length
 same-length c = search needs
@@ -31,7 +29,7 @@ returns : tie.Need-returns
 returns c =
     let w = c .before .before .before .before .before .digit-count .ensures .0 ∙ ap digitCount (c .before .before .before .before .before .before .largest-count .ensures) in
     let h = c .before .before .put-run .ensures in
-    stored-front (rw (whole-lines (c .before .before .before .before .before .before .before .before .before .pre .0) _ _ w (c .before .before .before .before .union-total .ensures)) at (h .0)) (omega (arith, h .1, c .before .before .before .before .before .before .before .before .before .pre .1))
+    stored-front (rw (whole-lines (c .before .before .before .before .before .before .before .before .before .pre .0) _ _ w (whole-total (c .before .before .before .before .before .before .before .before .before .pre .0) (c .before .before .before .before .union-total .ensures))) at (h .0)) (omega (arith, h .1, c .before .before .before .before .before .before .before .before .before .pre .1))
 
 pub put-report-spec : {M : Type 1} → statement M
 put-report-spec =

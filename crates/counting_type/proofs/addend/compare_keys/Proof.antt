@@ -2,7 +2,7 @@
 use mathlib.Core.Path.{refl, ap}
 use Prim.Native.Nat.{_+_}
 use lib.ListN.{length}
-use Rattle.counting_type.proofs.TypeMerge.Addend.{headed}
+use Rattle.type_arena.proofs.FirstAddend.{headed}
 use Rattle.counting_type.proofs.TypeMerge.Labels.{Comparing, comparing-left, comparing-right, comparing-done, comparing-first, comparing-second, comparing-less, comparing-more, comparing-next}
 use native.Mathlib.Omega.{arith}
 use Rattle.counting_type.proofs.addend.compare_keys.Statement.{statement}

@@ -1,7 +1,7 @@
 -- `compare_labels` meets its contract.
 use borrow.Author.Tests.{not-true, not-false}
 use Rattle.type_arena.specs.Arena.{under}
-use Rattle.counting_type.proofs.TypeMerge.Addend.{addend, headed}
+use Rattle.type_arena.proofs.FirstAddend.{addend, headed}
 use Rattle.counting_type.proofs.TypeMerge.Labels.{kind-less, kind-more, key-less, key-more, plain-labels, no-lists, record-body, record-labels}
 use native.Mathlib.Omega.{arith}
 use Rattle.counting_type.proofs.addend.compare_labels.Statement.{statement}

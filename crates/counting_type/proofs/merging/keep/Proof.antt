@@ -3,7 +3,7 @@ use mathlib.Core.Path.{ap, _∙_}
 use Prim.Native.Nat.{_+_}
 use lib.ListN.{length}
 use lib.Seq.{sets}
-use Rattle.counting_type.proofs.TypeMerge.Addend.{front-le}
+use Rattle.type_arena.proofs.FirstAddend.{front-le}
 use borrow.Author.Needs.{needs}
 use native.Mathlib.Omega.{arith}
 use Rattle.counting_type.proofs.merging.keep.Statement.{statement}

@@ -1,22 +1,33 @@
 -- `total_over` meets its contract.
 use mathlib.Core.Path.{refl}
-use Rattle.counting_type.proofs.TypeMerge.Part.{total-low}
-use borrow.Author.Needs.{needs}
+use Rattle.counting_type.proofs.TypeMerge.Part.{total-low, total-fields, part-union, part-total}
 use native.Mathlib.Omega.{arith}
 use Rattle.counting_type.proofs.merging.total_over.Statement.{statement}
 use Rattle.counting_type.proofs.merging.total_over.Tie as tie
 
-total-of-requires : tie.Need-total-of-requires
-total-of-requires c κs = search needs
+returns : tie.Need-returns
+returns c =
+    let p = c .before .before .before .pre in
+    let f = c .if1 .taken in
+    rw (total-fields (rw f at (p .0 .coded)), total-fields (rw f at (p .1 .coded))) refl
 
-total-of-requires-2 : tie.Need-total-of-requires-2
-total-of-requires-2 c κs = search needs
+union-total-requires : tie.Need-union-total-requires
+union-total-requires c κs = part-union (c .if1 .left) (c .before .before .before .pre .0)
+
+union-total-requires-2 : tie.Need-union-total-requires-2
+union-total-requires-2 c κs = part-union (c .before .if1 .left) (c .before .before .before .before .pre .1)
 
 add-result : tie.Need-add-result
-add-result c = omega (arith, total-low (c .before .before .before .before .pre .0), total-low (c .before .before .before .before .pre .1))
+add-result c =
+    let p = c .before .before .before .before .before .pre in
+    let f = c .before .before .if1 .left in
+    omega (arith, part-total f (p .0) (c .before .union-total .ensures), part-total f (p .1) (c .union-total2 .ensures), total-low (p .0), total-low (p .1))
 
-returns : tie.Need-returns
-returns c = rw (c .before .total-of .ensures, c .total-of2 .ensures) refl
+returns-2 : tie.Need-returns-2
+returns-2 c =
+    let p = c .before .before .before .before .before .pre in
+    let f = c .before .before .if1 .left in
+    rw (part-total f (p .0) (c .before .union-total .ensures), part-total f (p .1) (c .union-total2 .ensures)) refl
 
 pub total-over-spec : {M : Type 1} → statement M
-total-over-spec = tie.close (tie.spec total-of-requires total-of-requires-2 add-result returns)
+total-over-spec = tie.close (tie.spec returns union-total-requires union-total-requires-2 add-result returns-2)

@@ -3,15 +3,16 @@ use mathlib.Core.Path.{_≡_}
 use Prim.Native.Nat.{_+_, _-_, _^_, _≤_, _<_}
 use borrow.Author.Needs.{needs}
 use native.Mathlib.Omega.{arith}
+use Rattle.report.specs.Decimal.{maxDigits}
 use Rattle.report.proofs.Powers.{digit-count}
 use Rattle.report.proofs.decimal.digit_count.Statement.{statement}
 use Rattle.report.proofs.decimal.digit_count.Tie as tie
 
 abbrev Inv-loop : tie.InvT-loop
-Inv-loop n d₀ d = (1 ≤ d) × (d ≤ 16) × (1 < d → 10 ^ (d - 1) ≤ n)
+Inv-loop n d₀ d = (1 ≤ d) × (d ≤ maxDigits) × (1 < d → 10 ^ (d - 1) ≤ n)
 
 abbrev μ-loop : tie.MeasureT-loop
-μ-loop n d₀ d = 16 - d
+μ-loop n d₀ d = maxDigits - d
 
 loop-holds : tie.Need-loop-holds Inv-loop μ-loop
 loop-holds c = search needs
@@ -39,7 +40,7 @@ loop-again c =
 returns-2 : tie.Need-returns-2 Inv-loop μ-loop
 returns-2 c =
     let l = c .before .loop in
-    let e : l .d ≡ 16 = omega arith in
+    let e : l .d ≡ maxDigits = omega arith in
     (digit-count (l .d) _ (l .inv .0) (rw e (omega arith)) (l .inv .2), l .inv .0, l .inv .1)
 
 pub digit-count-spec : {M : Type 1} → statement M

@@ -2,7 +2,7 @@
 use mathlib.Core.Path.{_≡_, ap}
 use Prim.Native.Nat.{ℕ, _-_, _≤_}
 use native.Mathlib.Nat.{one-le-pow}
-use Rattle.report.specs.Decimal.{digits}
+use Rattle.report.specs.Decimal.{maxDigits, digits}
 use Rattle.report.proofs.Powers.{digits-first, length-digits}
 use Rattle.report.proofs.Storing.{Storing, storing-all, storing-next, storing-none}
 use borrow.Author.Needs.{needs}
@@ -11,7 +11,7 @@ use Rattle.report.proofs.decimal.put_digits.Statement.{statement}
 use Rattle.report.proofs.decimal.put_digits.Tie as tie
 
 abbrev Inv-loop : tie.InvT-loop
-Inv-loop out₀ at n count p₀ d₀ out p d = (d ≤ 16) × Storing out₀ at (digits count n) out p (digits d n)
+Inv-loop out₀ at n count p₀ d₀ out p d = (d ≤ maxDigits) × Storing out₀ at (digits count n) out p (digits d n)
 
 abbrev μ-loop : tie.MeasureT-loop
 μ-loop out₀ at n count p₀ d₀ out p d = d

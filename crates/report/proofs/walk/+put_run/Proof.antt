@@ -1,10 +1,10 @@
 -- `put_run` meets its contract: the lines of the records from p on are left to store.
-use mathlib.Core.Path.{refl}
 use Prim.Native.Nat.{ℕ, _-_, _<_}
 use native.Mathlib.Omega.{arith}
 use borrow.Author.Needs.{needs}
 use borrow.Fn.Kinds.{In}
 use borrow.Fn.PlainCycle.{Measures, is, falls, and}
+use Rattle.report.specs.Report.{programEquivalence}
 use Rattle.report.proofs.Runs.{run-first}
 use Rattle.report.proofs.Walking.{Walking, walking-start, walking-next, walking-done}
 use Rattle.report.proofs.walk.put_run.Reads as put-run
@@ -27,7 +27,7 @@ abbrev put-run-below : ℕ → In 2 put-run-kinds.ps
 put-run-below t = and 2 put-run-kinds.ps (falls 2 put-run-kinds.ps _<_ μ-put-run t) put-run.Pre
 
 abbrev Inv-loop : put-run-lts.InvT-loop
-Inv-loop b i end depth whole width out₀ at p₀ to₀ out p to = Walking b i end depth whole width out₀ at p out to
+Inv-loop b i end depth whole width out₀ at p₀ to₀ out p to = Walking programEquivalence b i end depth whole width out₀ at p out to
 
 abbrev μ-loop : put-run-lts.MeasureT-loop
 μ-loop b i end depth whole width out₀ at p₀ to₀ out p to = end - p
@@ -52,7 +52,7 @@ module _ (t : ℕ) where
   depth-inside-requires c κs = let l = c .before .before .before .before .before .before .loop .inv in (run-first (c .before .before .before .before .before .before .loop .inv .run) (c .before .before .before .before .before .loop-test .taken) .printable .here, omega (arith, l .run .deep, l .run .within, l .run .short))
 
   whole-inside-requires : put-run-lts.Need-whole-inside-requires (calls t) (put-run-at t) put-run.Post Inv-loop μ-loop
-  whole-inside-requires c κs = let f = run-first (c .before .before .before .before .before .before .before .loop .inv .run) (c .before .before .before .before .before .before .loop-test .taken) in let e = c .before .span-at .ensures .0 in (f .printable .here, rw e refl, rw e (f .union))
+  whole-inside-requires c κs = let f = run-first (c .before .before .before .before .before .before .before .loop .inv .run) (c .before .before .before .before .before .before .loop-test .taken) in let e = c .before .span-at .ensures .0 in rw e (f .within)
 
   add-put-run : put-run-lts.Need-add-put-run (calls t) (put-run-at t) put-run.Post Inv-loop μ-loop
   add-put-run c = search needs

@@ -1,7 +1,10 @@
 -- `whole_inside` meets its contract.
 use borrow.Author.Needs.{needs}
-use mathlib.Core.Path.{sym, _∙_}
+use mathlib.Core.Path.{_≡_, sym, _∙_}
 use borrow.Author.Tests.{eq-eqb, ne-eqb}
+use Rattle.value_table.specs.Value.{recordKind}
+use Rattle.counting_theory.specs.Encoding.{typeKind}
+use Rattle.report.specs.Report.{programEquivalence}
 use Rattle.report.proofs.walk.whole_inside.Statement.{statement}
 use Rattle.report.proofs.walk.whole_inside.Tie as tie
 
@@ -14,14 +17,35 @@ count-at-requires c κs = search needs
 returns : tie.Need-returns
 returns c = rw (eq-eqb _ _ (sym (c .before .before .kind-at .ensures) ∙ c .before .if1 .taken)) (c .count-at .ensures)
 
-add-union-total : tie.Need-add-union-total
-add-union-total c = search needs
+add-from : tie.Need-add-from
+add-from c = search needs
+
+mul-from : tie.Need-mul-from
+mul-from c = search needs
+
+mul-to : tie.Need-mul-to
+mul-to c = search needs
+
+sub-union-total : tie.Need-sub-union-total
+sub-union-total c = search needs
+
+part-union-total-start : tie.Need-part-union-total-start
+part-union-total-start c = search needs
+
+part-union-total-end : tie.Need-part-union-total-end
+part-union-total-end c = search needs
 
 union-total-requires : tie.Need-union-total-requires
-union-total-requires c κs = c .before .before .before .pre .2 (λ e. c .if1 .left (c .before .kind-at .ensures ∙ e))
+union-total-requires c κs =
+    let s = c .before .before .before .before in
+    let k : typeKind (s .args .b .now) (s .args .p) ≡ recordKind → ⊥ = λ e. c .before .if1 .left (c .before .before .kind-at .ensures ∙ e) in
+    record { equivalence = programEquivalence; coded = s .pre .coded k; limit = s .pre .limit k }
 
 returns-2 : tie.Need-returns-2
-returns-2 c = rw (ne-eqb _ _ (λ e. c .before .if1 .left (c .before .before .kind-at .ensures ∙ e)), ← (c .before .before .before .before .pre .1)) (c .union-total .ensures)
+returns-2 c =
+    let s = c .before .before .before .before .before in
+    let k : typeKind (s .args .b .now) (s .args .p) ≡ recordKind → ⊥ = λ e. c .before .before .if1 .left (c .before .before .before .kind-at .ensures ∙ e) in
+    rw (ne-eqb _ _ k, ← s .pre .ends) (c .union-total .ensures programEquivalence (s .pre .coded k))
 
 pub whole-inside-spec : {M : Type 1} → statement M
 whole-inside-spec =
@@ -30,6 +54,11 @@ whole-inside-spec =
     kind-at-requires
     count-at-requires
     returns
-    add-union-total
+    add-from
+    mul-from
+    mul-to
+    sub-union-total
+    part-union-total-start
+    part-union-total-end
     union-total-requires
     returns-2)

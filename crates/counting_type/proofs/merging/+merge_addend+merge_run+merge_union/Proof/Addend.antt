@@ -4,7 +4,7 @@ use Prim.Native.Nat.{ℕ}
 use native.Mathlib.Omega.{arith}
 use lib.ListN.{length}
 use Rattle.counting_type.specs.Merging.{insideOf}
-use Rattle.counting_type.proofs.TypeMerge.Addend.{headed, body-rest}
+use Rattle.type_arena.proofs.FirstAddend.{headed, body-rest}
 use Rattle.counting_type.proofs.TypeMerge.Part.{Head, head, rank-inside}
 use Rattle.counting_type.proofs.TypeMerge.Turns.{inside-fits, stored-inside, addend-done}
 use Rattle.counting_type.proofs.merging.merge_addend.Reads as merge-addend

@@ -5,7 +5,7 @@ use native.Mathlib.Omega.{arith}
 use lib.ListN.{length}
 use borrow.Author.Needs.{needs}
 use Rattle.counting_type.specs.Merging.{orderingOf}
-use Rattle.counting_type.proofs.TypeMerge.Addend.{headed}
+use Rattle.type_arena.proofs.FirstAddend.{headed}
 use Rattle.counting_type.proofs.TypeMerge.Part.{Head, head}
 use Rattle.counting_type.proofs.TypeMerge.Labels.{same-kinds}
 use Rattle.counting_type.proofs.TypeMerge.Turns.{start, turn-less, turn-more, turn-same, second-done, first-done}

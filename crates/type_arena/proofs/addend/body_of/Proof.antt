@@ -2,10 +2,10 @@
 use mathlib.Core.Path.{ap}
 use Prim.Native.Nat.{_*_}
 use Rattle.counting_theory.specs.Encoding.{typeSize}
-use Rattle.counting_type.proofs.TypeMerge.Addend.{body-is}
+use Rattle.type_arena.proofs.FirstAddend.{body-is}
 use borrow.Author.Needs.{needs}
-use Rattle.counting_type.proofs.addend.body_of.Statement.{statement}
-use Rattle.counting_type.proofs.addend.body_of.Tie as tie
+use Rattle.type_arena.proofs.addend.body_of.Statement.{statement}
+use Rattle.type_arena.proofs.addend.body_of.Tie as tie
 
 span-at-requires : tie.Need-span-at-requires
 span-at-requires c κs = search needs

@@ -3,11 +3,11 @@ use mathlib.Core.Path.{sym, ap}
 use Prim.Native.Nat.{_*_}
 use lib.Seq.{length-take-le}
 use Rattle.counting_theory.specs.Encoding.{typeSize}
-use Rattle.counting_type.proofs.TypeMerge.Addend.{front-is}
+use Rattle.type_arena.proofs.FirstAddend.{front-is}
 use borrow.Author.Needs.{needs}
 use native.Mathlib.Omega.{arith}
-use Rattle.counting_type.proofs.addend.front_of.Statement.{statement}
-use Rattle.counting_type.proofs.addend.front_of.Tie as tie
+use Rattle.type_arena.proofs.addend.front_of.Statement.{statement}
+use Rattle.type_arena.proofs.addend.front_of.Tie as tie
 
 span-at-requires : tie.Need-span-at-requires
 span-at-requires c κs = search needs

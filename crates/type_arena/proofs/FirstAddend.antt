@@ -12,14 +12,16 @@ use Rattle.counting_theory.specs.Payload.{Payload}
 use Rattle.counting_theory.specs.Trie.{nil, node, size}
 use Rattle.counting_theory.specs.Label.{Equivalence, Label, labelOf, CountingType}
 use Rattle.counting_theory.specs.Encoding.{typeSize, typeKind, typeKey, typeSpan, typePayload, header, encode, siblingKeys, decode, typeOf, Fitting}
+use Rattle.counting_theory.specs.WellFormed.{IsType}
 use Rattle.type_arena.specs.Arena.{keysIn, labelAt, headerOf}
-use Rattle.counting_type.specs.Merging.{front, body, rest, Headed, Coded}
+use Rattle.type_arena.specs.Addend.{front, body, rest, Headed, Coded}
 use Rattle.counting_theory.proofs.Tagged.Parts.{holdsFields, Shape, Parts, tagged-parts, shape-label}
+use Rattle.counting_theory.proofs.WellFormed.Fitting.{type-fitting}
 use Rattle.counting_theory.proofs.Encoding.Header.{length-encode}
 use Rattle.counting_theory.proofs.Encoding.Node.{NodeAt, node-read}
 use Rattle.counting_theory.proofs.Encoding.Decode.{decode-run, decode-encode}
-use Rattle.counting_type.proofs.OnePass.Keys.{keys-decode}
+use Rattle.type_arena.proofs.Keys.{keys-decode}
 use Rattle.type_arena.proofs.Sets.{length-headerOf}
 
 -- the header of a label, and that of its kind and key
 header-parts : (l : Label) (span : ℕ) (a : Payload) → header l span a ≡ headerOf (l .kind) (l .key) span a
@@ -40,6 +42,10 @@ coded-type {e} {field} k = ap (typeOf e) (k .bytes) ∙ decode-encode e field (k
 
 pub coded-length : {e : Equivalence} {field : Bool} {x : List ℕ} (k : Coded e field x) → length x ≡ typeSize * size (typeOf e x)
 coded-length k = rw (coded-type k) (ap length (k .bytes) ∙ length-encode (k .trie))
+
+-- the bytes of a well-formed type are a union
+pub type-coded : {e : Equivalence} {x : List ℕ} {f : CountingType} → IsType e x f → Coded e false x
+type-coded {f = f} t = record { trie = f; bytes = t .bytes; tagged = t .tagged; fitting = type-fitting t }
 
 -- the first addend or field of x
 pub record Addend (e : Equivalence) (field : Bool) (x : List ℕ) : Type 0 where
