@@ -1,6 +1,5 @@
 -- The merge on bytes.
 pub mod Addend
 pub mod Part
-pub mod Labels
 pub mod Steps
 pub mod Turns
