@@ -1,21 +1,23 @@
 -- The laws of labels and counts.
 use mathlib.Core.Path.{_≡_, refl, ap}
 use mathlib.Core.Bool.{Bool, true, false, cond}
+use mathlib.Core.List.{[]}
 use Prim.Native.Nat.{ℕ, _+_, compare, Ordering, Ordering·lt as lt, Ordering·eq as eq, Ordering·gt as gt}
 use native.Mathlib.Omega.{arith}
 use lib.Dec.{eqb}
 use Rattle.counting_theory.specs.Payload.{Payload, join}
-use Rattle.counting_theory.specs.Order.{IsOrder, then, comparePair, compareList, compareOn}
+use Rattle.counting_theory.specs.Order.{IsOrder, then, comparePair, compareOn}
 use Rattle.counting_theory.specs.Trie.{TrieLaws}
 use Rattle.counting_theory.specs.Label.{Label, fieldKind, fieldLabel, parts, compareLabel, Counting}
 use Rattle.counting_theory.proofs.Payload.{join-comm, join-assoc, count-join}
-use Rattle.counting_theory.proofs.Order.{number-order, pair-order, list-order, order-on}
+use Rattle.counting_theory.proofs.Order.{number-order, pair-order, order-on}
+use Rattle.counting_theory.proofs.KeyOrder.{keys-order}
 
 parts-apart : (l m : Label) → parts l ≡ parts m → l ≡ m
 parts-apart l m e = λ i. record { kind = e i .0; key = e i .1 .0; keys = e i .1 .1 }
 
 pub label-order : IsOrder compareLabel
-label-order = order-on (pair-order number-order (pair-order number-order (list-order number-order))) parts parts-apart
+label-order = order-on (pair-order number-order (pair-order number-order keys-order)) parts parts-apart
 
 pub kind-eq : {l m : Label} → l ≡ m → l .kind ≡ m .kind
 kind-eq e = ap (λ (n : Label). n .kind) e
@@ -27,8 +29,8 @@ pub keys-eq : {l m : Label} → l ≡ m → l .keys ≡ m .keys
 keys-eq e = ap (λ (n : Label). n .keys) e
 
 pub compare-fields : (k j : ℕ) → compareLabel (fieldLabel k) (fieldLabel j) ≡ compare k j
-unfolding compareOn comparePair compareList then
-compare-fields k j = go (compare k j)
+unfolding compareOn comparePair then
+compare-fields k j = rw (keys-order .compare-refl []) (go (compare k j))
   where
     go : (o : Ordering) → then o eq ≡ o
     go lt = refl

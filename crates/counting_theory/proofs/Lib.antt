@@ -3,6 +3,8 @@ pub mod Order
 pub mod Trie
 pub mod KeyList
 pub mod Payload
+pub mod KeyOrder
+pub mod LabelOrder
 pub mod Label
 pub mod Tagged
 pub mod Encoding

@@ -8,7 +8,7 @@ use Rattle.value_table.specs.Judged as judging
 use Rattle.counting_theory.specs.Payload.{numbers, ofNumbers, one, oneField, join, proper}
 use Rattle.counting_theory.specs.Order.{then, comparePair, compareList, compareOn}
 use Rattle.counting_theory.specs.Trie as trie
-use Rattle.counting_theory.specs.Label.{listed}
+use Rattle.counting_theory.specs.Label.{listed, compareKeys}
 use Rattle.counting_theory.specs.Raw.{insertKey, ascending, raw, profileOf}
 use Rattle.counting_theory.specs.Encoding as types
 use Rattle.counting_theory.specs.WellFormed as rules
@@ -20,7 +20,7 @@ unfolding tableBytes typeBytes trials inferred merged flatMap bytesOf numberOf n
     table.header table.kindAt table.zeroAt table.keyAt table.spanAt table.keys table.member
     judging.badLength judging.badKind judging.badSpan judging.badKey judging.repeated judging.tooDeep judging.fault judging.faultIn
     judging.close judging.enter judging.walk judging.judged judging.decode judging.messages
-    numbers ofNumbers one oneField join proper listed insertKey ascending raw profileOf then comparePair compareList compareOn
+    numbers ofNumbers one oneField join proper listed insertKey ascending raw profileOf then comparePair compareList compareOn compareKeys
     trie.size trie.insertStep trie.insert trie.add trie.reduceNode trie.reduce trie.total trie.largestBelow trie.largestTotal
     types.typeKind types.typeZero types.typeKey types.typeSpan types.typePayload types.header types.encode types.decode types.typeOf
     rules.typeRecord rules.laidOut rules.counted rules.withinLimit rules.ascends rules.fieldTotals rules.fieldCounts rules.measured rules.wellFormed rules.badTypeLength

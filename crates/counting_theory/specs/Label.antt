@@ -32,12 +32,16 @@ labelOf eq kind key keys = record { kind = kind; key = key; keys = listed eq kin
 abbrev pub fieldLabel : ℕ → Label
 fieldLabel key = record { kind = fieldKind; key = key; keys = [] }
 
--- by kind, then by key, then by key list: the first key that differs settles, and a list that begins the other comes first
+-- the first key that differs settles, and a list that begins the other comes first
+unfoldable pub compareKeys : List ℕ → List ℕ → Ordering
+compareKeys = compareList compare
+
+-- by kind, then by key, then by key list
 abbrev pub parts : Label → ℕ × (ℕ × List ℕ)
 parts l = (l .kind, (l .key, l .keys))
 
 abbrev pub compareLabel : Label → Label → Ordering
-compareLabel = compareOn (comparePair compare (comparePair compare (compareList compare))) parts
+compareLabel = compareOn (comparePair compare (comparePair compare compareKeys)) parts
 
 -- the counts of a union total, those of a record's fields don't
 abbrev pub weightOf : Label → Payload → ℕ

@@ -1,6 +1,5 @@
 -- Well-formedness in one pass over the records, as the code checks it: each addend against the one before it, each field against
 -- its record, and the total of each union on the way.
-use mathlib.Core.Path.{_≡_}
 use mathlib.Core.Bool.{Bool, true, false, cond, _&&_, _||_}
 use mathlib.Core.List.{List, []}
 use mathlib.Core.Option.{Option, none, some}
@@ -12,7 +11,7 @@ use Rattle.counting_type.specs.declared.checker.Checked.{Checked}
 use Rattle.counting_type.specs.declared.checker.Checked.the-variants.{Total, Faulty}
 use Rattle.counting_theory.specs.Label.{Equivalence, compareLabel}
 use Rattle.counting_theory.specs.Encoding.{typeSize, typeKind, typeKey, typeSpan, typeCount}
-use Rattle.type_arena.specs.Arena.{labelAt, InTable, FieldsInside}
+use Rattle.type_arena.specs.Arena.{labelAt}
 use Rattle.counting_theory.specs.WellFormed.{maxTotal, typeRecord, isLt, fieldCount}
 
 -- What a run of records is, and what has been seen of it: the addends of a union at some depth, with the addend before the next one
@@ -78,12 +77,6 @@ checkedOf Faulty = none
 abbrev pub isSome : {A : Type 0} → Option A → Bool
 isSome none = false
 isSome (some x) = true
-
--- an addend that has been checked
-pub record AddendInside (b : List ℕ) (p : ℕ) : Type 0 where
-  pub here : InTable b p
-  pub no-key : typeKey b p ≡ 0
-  pub fields : typeKind b p ≡ recordKind → FieldsInside b p
 
 -- records i to end stand in b, which is no longer than a type may be
 pub record RunOf (b : List ℕ) (i end : ℕ) : Type 0 where

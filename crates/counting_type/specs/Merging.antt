@@ -2,14 +2,12 @@
 use mathlib.Core.Path.{_≡_}
 use mathlib.Core.Bool.{Bool, cond, not, _&&_, _||_}
 use mathlib.Core.List.{List, _++_}
-use Prim.Native.Nat.{ℕ, _+_, _-_, _≤_, Ordering, Ordering·lt as lt, Ordering·eq as eq, Ordering·gt as gt}
+use Prim.Native.Nat.{ℕ, _+_, _-_, _≤_}
 use lib.Dec.{eqb, ltb}
 use lib.ListN.{length}
 use lib.Seq.{sets}
 use Rattle.value_table.specs.Value.{maxDepth, recordKind}
 use Rattle.counting_type.specs.declared.addend.Level.{Level}
-use Rattle.counting_type.specs.declared.addend.Order.{Order}
-use Rattle.counting_type.specs.declared.addend.Order.the-variants.{Less, Same, More}
 use Rattle.counting_theory.specs.Payload.{join}
 use Rattle.counting_theory.specs.Trie.{size, reduce, largestBelow, largestTotal}
 use Rattle.counting_theory.specs.Label.{Equivalence, Counting, CountingType}
@@ -18,12 +16,6 @@ use Rattle.counting_theory.specs.Encoding.{typeKind, typeKey, typePayload, enco
 use Rattle.counting_theory.specs.WellFormed.{maxTotal, Shallow}
 use Rattle.type_arena.specs.Arena.{under, headerOf}
 use Rattle.type_arena.specs.Addend.{front, body, rest, Coded}
-
--- the code's comparisons
-abbrev pub orderingOf : Order → Ordering
-orderingOf Less = lt
-orderingOf Same = eq
-orderingOf More = gt
 
 -- the depth of a run's addends, or of the record that has the fields
 abbrev pub depthOf : Level → ℕ

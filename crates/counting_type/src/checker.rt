@@ -1,4 +1,6 @@
 // Well-formedness of a type, in one pass over its records.
+use type_arena::label_order::Order;
+use type_arena::label_order::compare_labels;
 use type_arena::type_record;
 use type_arena::type_record::count_at;
 use type_arena::type_record::key_at;
@@ -7,16 +9,15 @@ use type_arena::type_record::span_at;
 use type_arena::type_record::zero_at;
 ghost use mathlib.Core.Path.{_≡_};
 ghost use mathlib.Core.Bool.{false, _&&_, _||_};
-ghost use Prim.Native.Nat.{ℕ, _+_, _-_, _≤_, _<_, compare};
+ghost use Prim.Native.Nat.{ℕ, _+_, _-_, _≤_, _<_};
 ghost use lib.ListN.{length};
 ghost use lib.Dec.{eqb, leb, ltb};
 ghost use Rattle.value_table.specs.Value.{maxDepth, arrayKind, lastScalar};
-ghost use Rattle.counting_theory.specs.Order.{compareList};
-ghost use Rattle.counting_theory.specs.Label.{Equivalence, compareLabel};
+ghost use Rattle.counting_theory.specs.Label.{Equivalence};
 ghost use Rattle.counting_theory.specs.Encoding.{typeKind, typeSpan, typeCount};
-ghost use Rattle.counting_theory.specs.WellFormed.{maxTotal, badTypeLength, wellFormed, isLt, placedRecord, fieldRecord, typeRecord, fieldCount};
-ghost use Rattle.type_arena.specs.Arena.{InTable, under, keysIn, labelAt, FieldsInside};
-ghost use Rattle.counting_type.specs.Checker.{RunOf, checkedOf, isSome, hasTotal, addends, fields, fits, ordered, addendRight, checkRun, AddendInside};
+ghost use Rattle.counting_theory.specs.WellFormed.{maxTotal, badTypeLength, wellFormed, placedRecord, fieldRecord, typeRecord, fieldCount};
+ghost use Rattle.type_arena.specs.Arena.{InTable, under, Labelled};
+ghost use Rattle.counting_type.specs.Checker.{RunOf, checkedOf, isSome, hasTotal, addends, fields, fits, ordered, addendRight, checkRun};
 
 const MAX_TOTAL: usize = 1000000000000000;
 
@@ -124,61 +125,19 @@ fn count_agrees(count: usize, of_record: usize, label: bool) -> bool
     }
 }
 
-// Whether the key list of the record at x comes before that of the record at y: the first key that differs settles it.
-fn keys_precede(b: &[u8], x: usize, y: usize) -> bool
-    requires { ⌜ FieldsInside (now b) x × FieldsInside (now b) y ⌝ }
-    ensures { λ r. ⌜ r ≡ isLt (compareList compare (keysIn (now (b .entry)) x) (keysIn (now (b .entry)) y)) ⌝ }
-{
-    let x_end = x + span_at(b, x);
-    let y_end = y + span_at(b, y);
-    let mut i = x + 1;
-    let mut j = y + 1;
-    let precedes = loop {
-        if j == y_end {
-            break false;
-        }
-        if i == x_end {
-            break true;
-        }
-        let k = key_at(b, i);
-        let m = key_at(b, j);
-        if k != m {
-            break k < m;
-        }
-        i += span_at(b, i);
-        j += span_at(b, j);
-    };
-    precedes
-}
-
-// Whether the addend at x comes before the addend at y, by class.
-fn addend_precedes(b: &[u8], x: usize, y: usize, label: bool) -> bool
-    requires { ⌜ AddendInside (now b) x × AddendInside (now b) y ⌝ }
-    ensures { λ r. ⌜ r ≡ isLt (compareLabel (labelAt (under label) (now (b .entry)) x) (labelAt (under label) (now (b .entry)) y)) ⌝ }
-{
-    let kind = kind_at(b, x);
-    let other = kind_at(b, y);
-    if kind != other {
-        return kind < other;
-    }
-    if !label {
-        return false;
-    }
-    if kind != type_record::RECORD {
-        return false;
-    }
-    keys_precede(b, x, y)
-}
-
-// The same where x is the addend before y, or y itself where there is none.
+// Whether the addend at x comes before the one at y, by class, or is that one itself.
 fn in_order(b: &[u8], x: usize, y: usize, label: bool) -> bool
-    requires { ⌜ AddendInside (now b) x × AddendInside (now b) y ⌝ }
+    requires { ⌜ Labelled (now b) x × Labelled (now b) y ⌝ }
     ensures { λ r. ⌜ r ≡ ordered (under label) (now (b .entry)) x y ⌝ }
 {
     if x == y {
         return true;
     }
-    addend_precedes(b, x, y, label)
+    match compare_labels(b, x, b, y, label) {
+        Order::Less => true,
+        Order::Same => false,
+        Order::More => false,
+    }
 }
 
 // The record of a field, its key above the last one and its count against its record's.

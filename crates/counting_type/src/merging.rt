@@ -1,12 +1,12 @@
 // Merges two well-formed types in one pass over both: union by union, and inside addends that have one label.
 use crate::addend::Level;
-use crate::addend::Order;
-use crate::addend::compare_labels;
 use crate::addend::inside;
 use type_arena::addend::body_of;
 use type_arena::addend::front_of;
 use type_arena::addend::rest_of;
 use type_arena::addend::union_total;
+use type_arena::label_order::Order;
+use type_arena::label_order::compare_labels;
 use type_arena::store::put_bytes;
 use type_arena::store::put_record;
 use type_arena::type_record;
@@ -96,7 +96,7 @@ fn merge_run<'a>(
             append(y, out, at);
             return x;
         }
-        match compare_labels(x, y, level) {
+        match compare_labels(x, 0, y, 0, level.label) {
             Order::Less => {
                 let r = keep(x, out, at);
                 x = r;

@@ -14,8 +14,6 @@ use Rattle.value_table.specs.Judged.{messages}
 use Rattle.value_table.specs.Acceptance.{Table}
 use Rattle.inference.specs.declared.key_list.Listed.{Listed}
 use Rattle.inference.specs.declared.key_list.Listed.the-variants.{Keys, TooMany}
-use Rattle.inference.specs.declared.search.Compared.{Compared}
-use Rattle.inference.specs.declared.search.Compared.the-variants.{Less, Equal, Greater}
 use Rattle.inference.specs.declared.search.Found.{Found}
 use Rattle.inference.specs.declared.search.Found.the-variants.{Here, Missing}
 use Rattle.inference.specs.declared.placing.Put.{Put}
@@ -28,8 +26,7 @@ use Rattle.counting_theory.specs.Times.{times}
 use Rattle.counting_theory.specs.Trie.{nil, node, append, size, insert, add, Sorted}
 use Rattle.counting_theory.specs.Label.{Equivalence, Label, fieldKind, listed, labelOf, compareLabel, Counting, CountingType}
 use Rattle.counting_theory.specs.Raw.{ascending, raw}
-use Rattle.counting_theory.specs.Encoding.{typeSize, typeKind, typeSpan, header, encode, Tagged}
-use Rattle.type_arena.specs.Arena.{InTable, FieldsInside}
+use Rattle.counting_theory.specs.Encoding.{typeSize, typeSpan, header, encode, Tagged}
 
 -- the first n numbers in bytes, each of `width` bytes
 unfoldable pub numbersOf : ℕ → ℕ → List ℕ → List ℕ
@@ -73,17 +70,6 @@ pub record SomeRun (field : Bool) (t : List ℕ) : Type 0 where
 abbrev pub ListedIn : Values → Listed → List ℕ → Type 0
 ListedIn vs (Keys n) w = (keysOf n w ≡ ascending (keys vs)) × (2 * n ≤ length w)
 ListedIn vs TooMany w = length w < 2 * length (keys vs)
-
-abbrev pub comparedOf : Ordering → Compared
-comparedOf lt = Less
-comparedOf eq = Equal
-comparedOf gt = Greater
-
--- the record at p of b can be compared with a label whose key list is the first n keys of w
-pub record Comparable (b : List ℕ) (p : ℕ) (w : List ℕ) (n : ℕ) : Type 0 where
-  pub here : InTable b p
-  pub fields : typeKind b p ≡ recordKind → FieldsInside b p
-  pub listed : 2 * n ≤ length w
 
 -- the label of a kind and a key, with the first n keys of w as its key list
 abbrev pub wanted : Equivalence → ℕ → ℕ → ℕ → List ℕ → Label

@@ -1,4 +1,5 @@
 // The search for a label among siblings in an arena. The key list of the label stands in the working buffer.
+use type_arena::label_order::Order;
 use type_arena::type_record;
 use type_arena::type_record::key_at;
 use type_arena::type_record::kind_at;
@@ -7,20 +8,13 @@ use value_table::little_endian::number16;
 ghost use mathlib.Core.Path.{_≡_};
 ghost use mathlib.Core.Bool.{Bool, cond};
 ghost use mathlib.Core.List.{List};
-ghost use Prim.Native.Nat.{ℕ, _*_, _≤_, compare};
+ghost use Prim.Native.Nat.{ℕ, _*_, _≤_};
 ghost use lib.Dec.{ltb};
 ghost use lib.ListN.{length};
-ghost use Rattle.counting_theory.specs.Order.{compareList};
-ghost use Rattle.counting_theory.specs.Label.{compareLabel, CountingType};
-ghost use Rattle.type_arena.specs.Arena.{under, keysIn, labelAt, InTable, FieldsInside};
-ghost use Rattle.inference.specs.Inferring.{keysOf, comparedOf, Comparable, wanted, spot, Holds, Starts, resumed, Shown};
-
-// A label against that of a record.
-pub enum Compared {
-    Less,
-    Equal,
-    Greater,
-}
+ghost use Rattle.counting_theory.specs.Label.{compareKeys, compareLabel, CountingType};
+ghost use Rattle.type_arena.specs.Arena.{under, keysIn, labelAt, InTable, FieldsInside, Labelled};
+ghost use Rattle.type_arena.specs.LabelOrder.{orderingOf};
+ghost use Rattle.inference.specs.Inferring.{keysOf, wanted, spot, Holds, Starts, resumed, Shown};
 
 // Where a label stands among siblings, or would.
 pub enum Found {
@@ -29,9 +23,9 @@ pub enum Found {
 }
 
 // The first n keys of the working buffer against the key list of the record at p: the first key that differs settles it.
-fn compare_keys(b: &[u8], p: usize, work: &[u8], n: usize) -> Compared
+fn compare_keys(b: &[u8], p: usize, work: &[u8], n: usize) -> Order
     requires { ⌜ FieldsInside (now b) p × (2 * n ≤ length (now work)) ⌝ }
-    ensures { λ r. ⌜ r ≡ comparedOf (compareList compare (keysOf n (now (work .entry))) (keysIn (now (b .entry)) p)) ⌝ }
+    ensures { λ r. ⌜ orderingOf r ≡ compareKeys (keysOf n (now (work .entry))) (keysIn (now (b .entry)) p) ⌝ }
 {
     let end = p + span_at(b, p);
     let mut i = 0;
@@ -39,20 +33,20 @@ fn compare_keys(b: &[u8], p: usize, work: &[u8], n: usize) -> Compared
     let order = loop {
         if i == n {
             if j == end {
-                break Compared::Equal;
+                break Order::Same;
             }
-            break Compared::Less;
+            break Order::Less;
         }
         if j == end {
-            break Compared::Greater;
+            break Order::More;
         }
         let k = number16(work, 2 * i);
         let m = key_at(b, j);
         if k < m {
-            break Compared::Less;
+            break Order::Less;
         }
         if m < k {
-            break Compared::Greater;
+            break Order::More;
         }
         i += 1;
         j += span_at(b, j);
@@ -69,29 +63,29 @@ fn compare_label(
     work: &[u8],
     n: usize,
     label: bool,
-) -> Compared
-    requires { ⌜ Comparable (now b) p (now work) n ⌝ }
-    ensures { λ r. ⌜ r ≡ comparedOf (compareLabel (wanted (under label) kind key n (now (work .entry))) (labelAt (under label) (now (b .entry)) p)) ⌝ }
+) -> Order
+    requires { ⌜ Labelled (now b) p × (2 * n ≤ length (now work)) ⌝ }
+    ensures { λ r. ⌜ orderingOf r ≡ compareLabel (wanted (under label) kind key n (now (work .entry))) (labelAt (under label) (now (b .entry)) p) ⌝ }
 {
     let other_kind = kind_at(b, p);
     if kind < other_kind {
-        return Compared::Less;
+        return Order::Less;
     }
     if other_kind < kind {
-        return Compared::Greater;
+        return Order::More;
     }
     let other_key = key_at(b, p);
     if key < other_key {
-        return Compared::Less;
+        return Order::Less;
     }
     if other_key < key {
-        return Compared::Greater;
+        return Order::More;
     }
     if !label {
-        return Compared::Equal;
+        return Order::Same;
     }
     if kind != type_record::RECORD {
-        return Compared::Equal;
+        return Order::Same;
     }
     compare_keys(b, p, work, n)
 }
@@ -136,17 +130,17 @@ pub fn search(
     let mut resumed = 0 < at;
     while at < n {
         match compare_label(b, at, kind, key, work, keys, label) {
-            Compared::Less => {
+            Order::Less => {
                 if !resumed {
                     return Found::Missing(at);
                 }
                 resumed = false;
                 at = 0;
             }
-            Compared::Equal => {
+            Order::Same => {
                 return Found::Here(at);
             }
-            Compared::Greater => {
+            Order::More => {
                 resumed = false;
                 at += span_at(b, at);
             }

@@ -9,7 +9,7 @@ use Rattle.value_table.specs.Format.{fieldAt, fieldsFrom, recordBytes}
 use Rattle.counting_theory.specs.Payload.{numbers, ofNumbers, one, oneField, join}
 use Rattle.counting_theory.specs.Order.{then, comparePair, compareList, compareOn}
 use Rattle.counting_theory.specs.Trie.{nil, node, size, insertStep, insert, add, total}
-use Rattle.counting_theory.specs.Label.{byKind, listed, labelOf, CountingType}
+use Rattle.counting_theory.specs.Label.{byKind, listed, labelOf, compareKeys, CountingType}
 use Rattle.counting_theory.specs.Raw.{insertKey, ascending, raw, profileOf}
 use Rattle.counting_theory.specs.Encoding as type
 use Rattle.counting_theory.specs.WellFormed.{badTypeLength}
@@ -41,5 +41,5 @@ pub record Examples : Type 0 where
   pub halves : report sixteen ≡ text "1 null 0  1 63\n" ++ text "1 num 0 15 938\n"
 
 pub examples : Examples
-unfolding printed header bytesOf numberOf numberAt fieldAt fieldsFrom recordBytes numbers ofNumbers one oneField join keys member kindAt zeroAt keyAt spanAt badLength badKind badSpan badKey repeated tooDeep fault faultIn close enter walk judged decode messages then comparePair compareList compareOn size insertStep insert add total listed insertKey ascending raw profileOf type.typeKind type.typeKey type.typeSpan type.typePayload type.header type.encode type.siblingKeys type.decode type.typeOf badTypeLength inferred report linesOf largestCount lineOf kindWord share digitCount divisions digits refusalLine
+unfolding printed header bytesOf numberOf numberAt fieldAt fieldsFrom recordBytes numbers ofNumbers one oneField join keys member kindAt zeroAt keyAt spanAt badLength badKind badSpan badKey repeated tooDeep fault faultIn close enter walk judged decode messages then comparePair compareList compareOn compareKeys size insertStep insert add total listed insertKey ascending raw profileOf type.typeKind type.typeKey type.typeSpan type.typePayload type.header type.encode type.siblingKeys type.decode type.typeOf badTypeLength inferred report linesOf largestCount lineOf kindWord share digitCount divisions digits refusalLine
 examples = record { seven-lines = refl; nothing = refl; refusal = refl; halves = refl }

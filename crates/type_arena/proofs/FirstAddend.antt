@@ -10,17 +10,17 @@ use lib.Seq.{take-at, drop-at, drop-length, take-all}
 use Rattle.value_table.specs.Value.{recordKind}
 use Rattle.counting_theory.specs.Payload.{Payload}
 use Rattle.counting_theory.specs.Trie.{nil, node, size}
-use Rattle.counting_theory.specs.Label.{Equivalence, Label, labelOf, CountingType}
-use Rattle.counting_theory.specs.Encoding.{typeSize, typeKind, typeKey, typeSpan, typePayload, header, encode, siblingKeys, decode, typeOf, Fitting}
+use Rattle.counting_theory.specs.Label.{Equivalence, Label, CountingType}
+use Rattle.counting_theory.specs.Encoding.{typeSize, typeKind, typeKey, typeSpan, typePayload, header, encode, decode, typeOf, Fitting}
 use Rattle.counting_theory.specs.WellFormed.{IsType}
-use Rattle.type_arena.specs.Arena.{keysIn, labelAt, headerOf}
+use Rattle.type_arena.specs.Arena.{labelAt, headerOf, Labelled}
 use Rattle.type_arena.specs.Addend.{front, body, rest, Headed, Coded}
-use Rattle.counting_theory.proofs.Tagged.Parts.{holdsFields, Shape, Parts, tagged-parts, shape-label}
+use Rattle.counting_theory.proofs.Tagged.Parts.{holdsFields, Shape, Parts, tagged-parts}
 use Rattle.counting_theory.proofs.WellFormed.Fitting.{type-fitting}
 use Rattle.counting_theory.proofs.Encoding.Header.{length-encode}
 use Rattle.counting_theory.proofs.Encoding.Node.{NodeAt, node-read}
-use Rattle.counting_theory.proofs.Encoding.Decode.{decode-run, decode-encode}
-use Rattle.type_arena.proofs.Keys.{keys-decode}
+use Rattle.counting_theory.proofs.Encoding.Decode.{decode-encode}
+use Rattle.type_arena.proofs.Nodes.{fitting-heads, NodeIn, node-in}
 use Rattle.type_arena.proofs.Sets.{length-headerOf}
 
 -- the header of a label, and that of its kind and key
@@ -50,7 +50,7 @@ type-coded {f = f} t = record { trie = f; bytes = t .bytes; tagged = t .tagged; 
 -- the first addend or field of x
 pub record Addend (e : Equivalence) (field : Bool) (x : List ℕ) : Type 0 where
   pub is-type : typeOf e x ≡ node (labelAt e x 0) (typePayload x 0) (typeOf e (body x)) (typeOf e (rest x))
-  pub is-label : labelAt e x 0 ≡ labelOf e (typeKind x 0) (typeKey x 0) (siblingKeys (typeOf e (body x)))
+  pub here : Labelled x 0
   pub is-shape : Shape e field (labelAt e x 0) (typeOf e (body x))
   pub is-body : encode (typeOf e (body x)) ≡ body x
   pub is-front : front x ≡ headerOf (typeKind x 0) (typeKey x 0) (1 + size (typeOf e (body x))) (typePayload x 0) ++ body x
@@ -75,15 +75,8 @@ module _ {e : Equivalence} {field : Bool} {x : List ℕ} (l : Label) (a : Payloa
       let n : length x ≡ typeSize * (1 + (size c + size s)) = ap length bytes ∙ length-encode (node l a c s) in
       node-read x 0 (1 + (size c + size s)) l a c s fits (bytes ∙ rw (← n, drop-length) (sym (append-nil (encode (node l a c s)))))
 
-  label-is : labelAt e x 0 ≡ l
-  unfolding labelAt Fitting
-  label-is =
-      let n = node-at in
-      let keys : keysIn x 0 ≡ siblingKeys c =
-      keys-decode e x (typeSpan x 0 - 1) 1 (0 + typeSpan x 0)
-      ∙ ap siblingKeys (decode-run e x (typeSpan x 0 - 1) 1 (0 + typeSpan x 0) _ c (parts .1) (fits .1) (omega (arith, n .span-is)) (n .in-children)
-      (omega (arith, n .span-is))) in
-      rw (keys, n .kind-is, n .key-is) (sym (shape-label e field l c (parts .0)))
+  in-bytes : NodeIn x 0 l a c s []
+  in-bytes = node-in x 0 l a c s [] (fitting-heads (node l a c s) fits) (bytes ∙ sym (append-nil (encode (node l a c s))))
 
   -- the parts of x
   record Split : Type 0 where
@@ -122,10 +115,10 @@ module _ {e : Equivalence} {field : Bool} {x : List ℕ} (l : Label) (a : Payloa
       let i : typeOf e (body x) ≡ c = coded-type u in
       let j : typeOf e (rest x) ≡ s = coded-type v in
       let w : typeOf e x ≡ node l a c s = coded-type k ∙ z in
-      let o : labelAt e x 0 ≡ l = label-is in
+      let o : labelAt e x 0 ≡ l = in-bytes .label-is e field (rw z at (k .tagged)) in
       record {
         is-type = cc (n .payload-is);
-        is-label = rw (o, n .kind-is, n .key-is, i) (shape-label e field l c (parts .0));
+        here = in-bytes .here;
         is-shape = rw (o, i) (parts .0);
         is-body = rw i (sym (m .is-body));
         is-front = rw (n .kind-is, n .key-is, n .payload-is, i, m .is-body) (m .is-front);

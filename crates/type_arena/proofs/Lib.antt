@@ -1,7 +1,7 @@
 -- The laws behind the loops over type records and buffers; a folder for each function's proof.
-pub mod Chain
+pub mod Fields
+pub mod Nodes
 pub mod Sets
 pub mod Clear
-pub mod Keys
 pub mod FirstAddend
 pub mod UnionTotal

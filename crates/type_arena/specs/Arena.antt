@@ -1,10 +1,12 @@
 -- Records of a type in bytes, as the contracts inside state it: the label of a record, the fields inside it, and what is stored.
+use mathlib.Core.Path.{_≡_}
 use mathlib.Core.Bool.{Bool, true, false}
 use mathlib.Core.List.{List, [], _∷_}
-use Prim.Native.Nat.{ℕ, zero, suc, _+_, _*_, _-_, _≤_, _<_}
+use Prim.Native.Nat.{ℕ, zero, suc, _+_, _*_, _-_, _≤_}
 use lib.Dec.{ltb}
 use lib.ListN.{length}
-use Rattle.value_table.specs.Value.{maxLength}
+use Rattle.value_table.specs.Value.{maxLength, recordKind}
+use Rattle.value_table.specs.Chain.{Chain}
 use Rattle.counting_theory.specs.Payload.{Payload}
 use Rattle.counting_theory.specs.Label.{Equivalence, byKind, byLabel, Label, labelOf}
 use Rattle.counting_theory.specs.Encoding.{typeSize, typeKind, typeKey, typeSpan, header}
@@ -35,17 +37,16 @@ pub record InTable (b : List ℕ) (p : ℕ) : Type 0 where
   pub whole : typeSize * p + typeSize ≤ length b
   pub short : length b ≤ maxLength
 
--- from record p on, spans lead to `end` by way of fields with these keys
-pub data FieldChain (b : List ℕ) (end : ℕ) : ℕ → List ℕ → Type 0 where
-  done : FieldChain b end end []
-  then : {p : ℕ} {ks : List ℕ} → p < end → 1 ≤ typeSpan b p → FieldChain b end (p + typeSpan b p) ks → FieldChain b end p (typeKey b p ∷ ks)
-
 -- the fields inside the record at p, which has been checked
 pub record FieldsInside (b : List ℕ) (p : ℕ) : Type 0 where
   pub keys : List ℕ
-  pub chain : FieldChain b (p + typeSpan b p) (p + 1) keys
+  pub chain : Chain (typeSpan b) (typeKey b) (p + typeSpan b p) (p + 1) keys
   pub within : typeSize * (p + typeSpan b p) ≤ length b
-  pub short : length b ≤ maxLength
+
+-- record p stands in b, with what its label is read from
+pub record Labelled (b : List ℕ) (p : ℕ) : Type 0 where
+  pub whole : typeSize * p + typeSize ≤ length b
+  pub fields : typeKind b p ≡ recordKind → FieldsInside b p
 
 -- the bytes of a type record
 abbrev pub headerOf : ℕ → ℕ → ℕ → Payload → List ℕ

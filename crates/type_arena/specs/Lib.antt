@@ -1,3 +1,4 @@
 -- What the contracts on type records cite beside the theory.
 pub mod Arena
 pub mod Addend
+pub mod LabelOrder

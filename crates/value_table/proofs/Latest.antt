@@ -12,7 +12,8 @@ use lib.Seq.{getD-set-same, getD-set-other}
 use borrow.Author.Tests.{eqb-true, eqb-false}
 use Rattle.value_table.specs.Value.{keyAt, member}
 use Rattle.value_table.specs.Judged.{repeated}
-use Rattle.value_table.specs.Siblings.{Hops, here, hop, Before, field, other, keyBuckets, Latest}
+use Rattle.value_table.specs.Chain.{Chain, done, next}
+use Rattle.value_table.specs.Siblings.{Before, field, other, keyBuckets, Latest}
 use Rattle.value_table.proofs.Siblings.{member-tail}
 
 -- a bound of what stands at j holds after a larger number is stored at i
@@ -23,13 +24,13 @@ set-upto l i j x a inside le old = by (eqb j i) refl
     by true e = rw (eqb-true j i e, getD-set-same l i x 0 inside) le
     by false e = rw (getD-set-other l i j x 0 (eqb-false j i e)) (old (eqb-false j i e))
 
-module _ {b : List ℕ} {i : ℕ} where
-  -- a key that no record from p on has is none of the siblings'
-  unseen : {p key : ℕ} {ks : List ℕ} → ((q : ℕ) → p ≤ q → q < i → key ≡ keyAt b q → ⊥) → Hops b i p ks → member key ks ≡ false
-  unfolding member
-  unseen n here = refl
-  unseen n (hop {p = p} {ks = ks} l s h) = member-tail ks (n p (le-refl p) l) ∙ unseen (λ q m. n q (omega arith)) h
+-- a key that no record from p on has is none of the siblings'
+unseen : {span key : ℕ → ℕ} {i p k : ℕ} {ks : List ℕ} → ((q : ℕ) → p ≤ q → q < i → k ≡ key q → ⊥) → Chain span key i p ks → member k ks ≡ false
+unfolding member
+unseen n done = refl
+unseen n (next {p = p} {ks = ks} l s h) = member-tail ks (n p (le-refl p) l) ∙ unseen (λ q m. n q (omega arith)) h
 
+module _ {b : List ℕ} {i : ℕ} where
   pub unrepeated-latest : {latest : List ℕ} {first : ℕ} {f : Bool} {ks : List ℕ} → Latest b i latest → getD latest (keyAt b i % keyBuckets) 0 < first → Before b i first f ks → false ≡ repeated b i f ks
   unfolding repeated
   unrepeated-latest {latest} w l (field m h) = sym (unseen (λ q p u e. absurd (omega (arith, w .upto q u, ap (λ k. getD latest (k % keyBuckets) 0) e))) h)

@@ -10,7 +10,9 @@ use lib.ListN.{length, getD, set}
 use lib.Seq.{getD-set-same, getD-set-other}
 use Rattle.value_table.specs.Value.{recordKind, kindAt, keyAt, spanAt}
 use Rattle.value_table.specs.Judged.{Open, endOf, inRecord, seen, withKey, enter}
-use Rattle.value_table.specs.Siblings.{Hops, here, hop, Before, field, other, innermostOf, firstOf}
+use Rattle.value_table.specs.Chain.{done}
+use Rattle.value_table.specs.Siblings.{Before, field, other, innermostOf, firstOf}
+use Rattle.value_table.proofs.Chain.{chain-more}
 
 -- `depth` levels of the arrays hold the open values around record i, in a table of n records
 pub data Levels (b ends fields : List ℕ) (n : ℕ) : ℕ → ℕ → List Open → Type 0 where
@@ -18,12 +20,8 @@ pub data Levels (b ends fields : List ℕ) (n : ℕ) : ℕ → ℕ → List Open
   inside : {depth i : ℕ} {o : Open} {os : List Open} → i ≤ o .end → getD ends depth 0 ≡ o .end →
       Before b i (getD fields depth 0) (eqb (o .kind) recordKind) (o .keys) → Levels b ends fields n depth (o .end) os → Levels b ends fields n (suc depth) i (o ∷ os)
 
-hops-next : {b : List ℕ} {i p : ℕ} {ks : List ℕ} → 1 ≤ spanAt b i → Hops b i p ks → Hops b (i + spanAt b i) p (ks ++ (keyAt b i ∷ []))
-hops-next {b} {i} s here = hop {p = i} (omega arith) s here
-hops-next s (hop {p = p} l t h) = hop {p = p} (omega arith) t (hops-next s h)
-
 before-next : {b : List ℕ} {i first : ℕ} {f : Bool} {ks : List ℕ} → 1 ≤ spanAt b i → Before b i first f ks → Before b (i + spanAt b i) first f (ks ++ (keyAt b i ∷ []))
-before-next s (field l h) = field l (hops-next s h)
+before-next s (field l h) = field l (chain-more s h)
 before-next s (other e) = other e
 
 module _ {b ends fields : List ℕ} {n : ℕ} where
@@ -63,5 +61,5 @@ levels-enter {b} {ends} {fields} {n} {depth} {i} {around} le lf s t h =
     (levels-set depth (i + spanAt b i) (firstOf (kindAt b i) i) (le-refl depth) (levels-next h s t))
   where
     first : (f : Bool) → Before b (i + 1) (cond f (i + 1) 0) f []
-    first true = field (omega arith) here
+    first true = field (omega arith) done
     first false = other refl

@@ -10,6 +10,7 @@ pub mod Decode
 pub mod Nested
 pub mod Rest
 pub mod Walked
+pub mod Chain
 pub mod Siblings
 pub mod Latest
 pub mod Levels

@@ -5,4 +5,5 @@ pub mod Value
 pub mod Outcome
 pub mod Judged
 pub mod Acceptance
+pub mod Chain
 pub mod Siblings

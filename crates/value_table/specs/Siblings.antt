@@ -1,26 +1,22 @@
 -- The earlier siblings of a record, as the code finds them: from the first one on by spans.
 use mathlib.Core.Path.{_≡_}
 use mathlib.Core.Bool.{Bool, true, false, cond}
-use mathlib.Core.List.{List, [], _∷_}
+use mathlib.Core.List.{List}
 use Prim.Native.Nat.{ℕ, zero, suc, _+_, _%_, _≤_, _<_}
 use lib.Dec.{eqb}
 use lib.ListN.{length, getD}
 use Rattle.value_table.specs.Value.{keyAt, spanAt, recordKind}
 use Rattle.value_table.specs.Judged.{fault}
-
--- from record p on, spans lead to record i by way of siblings with these keys
-pub data Hops (b : List ℕ) (i : ℕ) : ℕ → List ℕ → Type 0 where
-  here : Hops b i i []
-  hop : {p : ℕ} {ks : List ℕ} → p < i → 1 ≤ spanAt b p → Hops b i (p + spanAt b p) ks → Hops b i p (keyAt b p ∷ ks)
+use Rattle.value_table.specs.Chain.{Chain}
 
 -- `first` is the first field of a record that has had these keys before record i, or 0 outside records
 pub data Before (b : List ℕ) (i first : ℕ) : Bool → List ℕ → Type 0 where
-  field : {ks : List ℕ} → 1 ≤ first → Hops b i first ks → Before b i first true ks
+  field : {ks : List ℕ} → 1 ≤ first → Chain (spanAt b) (keyAt b) i first ks → Before b i first true ks
   other : {ks : List ℕ} → first ≡ 0 → Before b i first false ks
 
 pub record Siblings (b : List ℕ) (i first : ℕ) : Type 0 where
   pub keys : List ℕ
-  pub hops : Hops b i first keys
+  pub chain : Chain (spanAt b) (keyAt b) i first keys
 
 pub record Parent (b : List ℕ) (i first : ℕ) : Type 0 where
   pub isField : Bool

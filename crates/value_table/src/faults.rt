@@ -11,10 +11,11 @@ ghost use mathlib.Core.Bool.{Bool, true, false};
 ghost use mathlib.Core.List.{List};
 ghost use Prim.Native.Nat.{ℕ, _+_, _*_, _%_, _≤_, _<_};
 ghost use lib.ListN.{length};
-ghost use Rattle.value_table.specs.Value.{recordSize, maxLength, keyAt, member};
+ghost use Rattle.value_table.specs.Value.{recordSize, maxLength, keyAt, spanAt, member};
 ghost use Rattle.value_table.specs.Outcome.{numberOfFault};
 ghost use Rattle.value_table.specs.Judged.{badKind, badSpan, badKey, repeated};
-ghost use Rattle.value_table.specs.Siblings.{Hops, Siblings, Before, Parent, FaultIs, keyBuckets, Latest};
+ghost use Rattle.value_table.specs.Chain.{Chain};
+ghost use Rattle.value_table.specs.Siblings.{Siblings, Before, Parent, FaultIs, keyBuckets, Latest};
 
 const MAX_DEPTH: usize = 32;
 
@@ -87,7 +88,8 @@ fn bad_key(table: &[u8], i: usize, field: bool) -> bool
 // Whether the key of record i stands in an earlier field, the first of which is `first`.
 fn key_before(table: &[u8], i: usize, first: usize) -> bool
     requires { ⌜ (recordSize * i + recordSize ≤ length (now table)) × Siblings (now table) i first ⌝ }
-    ensures { λ r. ⌜ ((ks : List ℕ) → Hops (now (table .entry)) i first ks → r ≡ member (keyAt (now (table .entry)) i) ks) ⌝ }
+    ensures { λ r. ⌜ ((ks : List ℕ) → Chain (spanAt (now (table .entry))) (keyAt (now (table .entry))) i first ks →
+        r ≡ member (keyAt (now (table .entry)) i) ks) ⌝ }
 {
     let key = key_at(table, i);
     let mut p = first;

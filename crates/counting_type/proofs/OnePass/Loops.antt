@@ -13,8 +13,8 @@ use Rattle.value_table.proofs.Tests.{and-parts}
 use Rattle.counting_theory.specs.Label.{Equivalence}
 use Rattle.counting_theory.specs.Encoding.{typeKind, typeKey, typeSpan, typeCount}
 use Rattle.counting_theory.specs.WellFormed.{maxTotal, typeRecord}
-use Rattle.type_arena.specs.Arena.{InTable}
-use Rattle.counting_type.specs.Checker.{addends, fields, fits, ordered, checkRun, isSome, hasTotal, addendRight, RunOf, AddendInside}
+use Rattle.type_arena.specs.Arena.{InTable, Labelled}
+use Rattle.counting_type.specs.Checker.{addends, fields, fits, ordered, checkRun, isSome, hasTotal, addendRight, RunOf}
 use Rattle.counting_type.proofs.OnePass.Fits.{fits-record}
 use Rattle.counting_type.proofs.OnePass.Steps.{check-end}
 use Rattle.counting_type.proofs.OnePass.Turns.{countFits, union-step, fields-step, addend-inside, record-span, wrong-record, with-nothing}
@@ -34,7 +34,7 @@ pub record Addends (e : Equivalence) (b : List ℕ) (i end depth p last total : 
   pub upto : p ≤ end
   pub left : checkRun e b p end (addends depth last total) ≡ checkRun e b i end (addends depth i 0)
   pub limit : total ≤ maxTotal
-  pub before : (last ≡ p) ⊎ AddendInside b last
+  pub before : (last ≡ p) ⊎ Labelled b last
 
 pub addends-start : (e : Equivalence) (b : List ℕ) (i end depth : ℕ) → i ≤ end → Addends e b i end depth i i 0
 addends-start e b i end depth h = record { upto = h; left = refl; limit = omega arith; before = inl refl }
@@ -45,10 +45,10 @@ module _ {e : Equivalence} {b : List ℕ} {i end depth p last total : ℕ} (w : 
       let z : p ≡ end = omega (arith, w .upto) in
       sym (check-end e b end (addends depth last total)) ∙ rw z at (w .left)
 
-  pub last-inside : AddendInside b p → AddendInside b last
+  pub last-inside : Labelled b p → Labelled b last
   last-inside h = go (w .before)
     where
-      go : (last ≡ p) ⊎ AddendInside b last → AddendInside b last
+      go : (last ≡ p) ⊎ Labelled b last → Labelled b last
       go (inl z) = rw z h
       go (inr x) = x
 

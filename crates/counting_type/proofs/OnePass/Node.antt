@@ -13,6 +13,7 @@ use Rattle.counting_theory.specs.Trie.{node, total}
 use Rattle.counting_theory.specs.Label.{Equivalence, Label, fieldLabel, compareLabel, CountingType}
 use Rattle.counting_theory.specs.Encoding.{typeKey, typeSpan}
 use Rattle.counting_theory.specs.WellFormed.{fieldCount, fieldsOf}
+use Rattle.type_arena.specs.Arena.{labelAt}
 use Rattle.counting_type.specs.Checker.{Run, addends, fields, after, content}
 use Rattle.counting_theory.proofs.Order.{compare-less, less-compare}
 use Rattle.counting_theory.proofs.Label.{kind-eq, compare-fields}
@@ -20,8 +21,8 @@ use Rattle.counting_theory.proofs.WellFormed.Tests.{both}
 use Rattle.counting_theory.proofs.WellFormed.Fitting.{weight-addend}
 use Rattle.counting_theory.proofs.WellFormed.Record.{TypeRecord}
 use Rattle.counting_theory.proofs.WellFormed.Holds.{Holds, holds-first}
+use Rattle.type_arena.proofs.Nodes.{fitting-heads, node-in}
 use Rattle.counting_type.proofs.OnePass.Fits.{isFields, depthOf, Follows}
-use Rattle.type_arena.proofs.Keys.{label-held}
 use Rattle.counting_type.proofs.OnePass.Ruled.{NodeRuled, ruled-node, ruled-parts}
 use Rattle.counting_type.proofs.OnePass.Rest.{sumOf, Totals, Rest, total-positive, inside-told, inside-holds}
 
@@ -33,11 +34,14 @@ module _ (e : Equivalence) (b : List ℕ) (p end : ℕ) (l : Label) (a : Payload
     pub inside : Rest e b (p + 1) (content b p r) c
     pub behind : Rest e b (p + typeSpan b p) (after b p r) s
 
+  label-held : (depth : ℕ) → Holds e b p end false depth (node l a c s) → labelAt e b p ≡ l
+  label-held depth h = node-in b p l a c s _ (fitting-heads _ (h .fitting)) (h .bytes) .label-is e false (h .tagged)
+
   pub rest-node : (r : Run) → Holds e b p end (isFields r) (depthOf r) (node l a c s) → TypeRecord b p end (isFields r) (depthOf r) → Parts r → Rest e b p r (node l a c s)
   unfolding total fieldsOf
   rest-node (addends depth last sum) h g x =
       let n = holds-first e b p end false depth l a c s h .is-node in
-      let label = label-held e b p end false depth l a c s h in
+      let label = label-held depth h in
       let inner = inside-told e b p depth (a .count) c (eqb (l .kind) recordKind) (h .tagged .1) (rw (n .kind-is, n .count-is) at (x .inside .beside)) in
       let own : NodeRuled e l a c s =
       record {
@@ -75,7 +79,7 @@ module _ (e : Equivalence) (b : List ℕ) (p end : ℕ) (l : Label) (a : Payload
   unfolding total fieldsOf
   rest-parts (addends depth last sum) h x =
       let n = holds-first e b p end false depth l a c s h .is-node in
-      let label = label-held e b p end false depth l a c s h in
+      let label = label-held depth h in
       let (own, ruledC, ruledS) = ruled-parts e l a c s (x .ruled) in
       let weight = weight-addend l a (h .tagged .0 .kind-high) in
       let inner = inside-holds e b p depth (a .count) c (eqb (l .kind) recordKind) _ (h .tagged .1) (h .shallow .1) (own .within) (own .fields-of) in

@@ -8,12 +8,13 @@ use native.Mathlib.Omega.{arith}
 use lib.Dec.{eqb, leb}
 use borrow.Author.Tests.{eqb-true, eqb-false, eq-eqb, ne-eqb}
 use Rattle.value_table.specs.Value.{recordKind, maxDepth}
+use Rattle.value_table.specs.Chain.{Chain, done, next}
 use Rattle.value_table.proofs.Tests.{and-parts}
 use Rattle.counting_theory.specs.Label.{Equivalence}
 use Rattle.counting_theory.specs.Encoding.{typeKind, typeKey, typeSpan, typeCount}
 use Rattle.counting_theory.specs.WellFormed.{maxTotal, typeRecord}
-use Rattle.type_arena.specs.Arena.{FieldChain, done, then as next}
-use Rattle.counting_type.specs.Checker.{addends, fields, fits, ordered, agrees, checkRun, isSome, hasTotal, addendRight, RunOf, AddendInside}
+use Rattle.type_arena.specs.Arena.{Labelled}
+use Rattle.counting_type.specs.Checker.{addends, fields, fits, ordered, agrees, checkRun, isSome, hasTotal, addendRight, RunOf}
 use Rattle.counting_theory.proofs.WellFormed.Record.{type-record}
 use Rattle.counting_type.proofs.OnePass.Fits.{fits-record}
 use Rattle.counting_type.proofs.OnePass.Steps.{check-end, check-step}
@@ -58,7 +59,7 @@ passed false x h = absurd (true≢false (sym h))
 module _ (e : Equivalence) (b : List ℕ) where
   -- fields that have passed lead by their spans to their end
   fields-chain : (n p end depth ofRecord lastKey : ℕ) → p ≤ end → end - p ≤ n → isSome (checkRun e b p end (fields depth ofRecord lastKey)) ≡ true →
-      (ks : List ℕ) × FieldChain b end p ks
+      (ks : List ℕ) × Chain (typeSpan b) (typeKey b) end p ks
   fields-chain zero p end depth ofRecord lastKey l m h =
       let z : p ≡ end = omega arith in
       rw z ([], done)
@@ -66,8 +67,8 @@ module _ (e : Equivalence) (b : List ℕ) where
     where
       go : (t : Bool) → eqb p end ≡ t →
           (p + typeSpan b p ≤ end → end - (p + typeSpan b p) ≤ n → isSome (checkRun e b (p + typeSpan b p) end (fields depth ofRecord (typeKey b p))) ≡ true →
-          (ks : List ℕ) × FieldChain b end (p + typeSpan b p) ks) →
-          (ks : List ℕ) × FieldChain b end p ks
+          (ks : List ℕ) × Chain (typeSpan b) (typeKey b) end (p + typeSpan b p) ks) →
+          (ks : List ℕ) × Chain (typeSpan b) (typeKey b) end p ks
       go true z ih = rw (eqb-true p end z) ([], done)
       go false z ih =
           let less : p < end = omega (arith, eqb-false p end z) in
@@ -79,19 +80,18 @@ module _ (e : Equivalence) (b : List ℕ) where
           (typeKey b p ∷ r .0, next {p = p} less s (r .1))
 
   -- an addend that has passed by itself
-  pub addend-inside : (p end depth : ℕ) → RunOf b p end → addendRight e b p end depth ≡ true → AddendInside b p
+  pub addend-inside : (p end depth : ℕ) → RunOf b p end → addendRight e b p end depth ≡ true → Labelled b p
   addend-inside p end depth r h =
       let a = and-parts _ _ h in
       let f = type-record b p end false depth (a .0) in
       let s = f .span-low in
       let t = f .span-fits in
       record {
-        here = record { whole = omega (arith, r .within); short = r .short };
-        no-key = f .own .unkeyed;
+        whole = omega (arith, r .within);
         fields = λ k.
             let c = fields-chain (typeSpan b p) (p + 1) (p + typeSpan b p) depth (typeCount b p) 0 (omega arith) (omega arith)
             (rw (eq-eqb (typeKind b p) recordKind k) at (a .1)) in
-            record { keys = c .0; chain = c .1; within = omega (arith, r .within); short = r .short };
+            record { keys = c .0; chain = c .1; within = omega (arith, r .within) };
       }
 
 -- An addend by itself: wrong by its record, or as right as what stands inside it.

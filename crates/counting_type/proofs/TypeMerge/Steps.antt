@@ -2,7 +2,7 @@
 use mathlib.Core.Path.{_≡_, refl, sym, ap, _∙_}
 use mathlib.Core.Bool.{Bool, false, _||_}
 use mathlib.Core.List.{List, [], _++_, append-assoc}
-use Prim.Native.Nat.{ℕ, _+_, _*_, _≤_, _<_, max, Ordering·lt as lt, Ordering·eq as eq, Ordering·gt as gt}
+use Prim.Native.Nat.{ℕ, _+_, _*_, _≤_, _<_, max, Ordering, Ordering·lt as lt, Ordering·eq as eq, Ordering·gt as gt}
 use native.Mathlib.Decide.{decLt}
 use native.Mathlib.Omega.{arith}
 use lib.Dec.{ltb}
@@ -11,19 +11,18 @@ use borrow.Author.Tests.{le-ltb, lt-ltb}
 use Rattle.counting_type.specs.declared.addend.Level.{Level}
 use Rattle.counting_theory.specs.Payload.{Payload, join}
 use Rattle.counting_theory.specs.Trie.{node, size, reduceStep, reduceNode, reduce, total, largestBelow, largestTotal}
-use Rattle.counting_theory.specs.Label.{Equivalence, Counting, CountingType}
+use Rattle.counting_theory.specs.Label.{Equivalence, compareLabel, Counting, CountingType}
 use Rattle.counting_theory.specs.Encoding.{typeSize, typeKind, typeKey, typePayload, header, encode, typeOf}
 use Rattle.counting_theory.specs.WellFormed.{maxTotal}
 use Rattle.type_arena.specs.Arena.{under, labelAt, headerOf}
 use Rattle.type_arena.specs.Addend.{front, body, rest, Coded}
 use Rattle.counting_type.specs.Merging.{Part, exceeds, exceedsBelow, both, mergedBytes, joinedBytes}
-use Rattle.counting_theory.proofs.Label.{counting-laws}
+use Rattle.counting_theory.proofs.Label.{label-order, kind-eq, counting-laws}
 use Rattle.counting_theory.proofs.Trie.Sizes.{reduce-nil, size-reduce, total-reduce}
 use Rattle.counting_theory.proofs.Encoding.Header.{length-encode}
 use Rattle.type_arena.proofs.Sets.{length-headerOf}
 use Rattle.type_arena.proofs.FirstAddend.{coded-type, coded-length, type-empty}
 use Rattle.counting_type.proofs.TypeMerge.Part.{Head}
-use Rattle.counting_type.proofs.TypeMerge.Labels.{order}
 
 max-over : (m p q : ℕ) → ltb m (max p q) ≡ (ltb m p || ltb m q)
 max-over m p q = go (decLt m p)
@@ -59,6 +58,14 @@ module _ (e : Equivalence) where
 -- the equivalence that a level is under
 abbrev pub At : Level → Equivalence
 At level = under (level .label)
+
+-- how the first labels compare
+abbrev pub order : Equivalence → List ℕ → List ℕ → Ordering
+order e x y = compareLabel (labelAt e x 0) (labelAt e y 0)
+
+pub same-kinds : (e : Equivalence) (x y : List ℕ) → eq ≡ order e x y → typeKind x 0 ≡ typeKind y 0
+unfolding labelAt
+same-kinds e x y h = kind-eq (label-order .compare-eq (sym h))
 
 module _ {level : Level} {x y : List ℕ} where
   -- the first addend of w as it is

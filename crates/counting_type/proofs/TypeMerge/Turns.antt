@@ -21,8 +21,7 @@ use Rattle.counting_type.specs.Merging.{Part, insideOf, exceedsBelow, bo
 use Rattle.type_arena.proofs.Sets.{sets-append, sets-last, length-headerOf}
 use Rattle.type_arena.proofs.FirstAddend.{body-rest, front-rest}
 use Rattle.counting_type.proofs.TypeMerge.Part.{Head}
-use Rattle.counting_type.proofs.TypeMerge.Labels.{order}
-use Rattle.counting_type.proofs.TypeMerge.Steps.{Step, At, step-less, step-more, step-same, second-out, first-out, length-merged, length-joined, merged-le, union-over}
+use Rattle.counting_type.proofs.TypeMerge.Steps.{Step, At, order, step-less, step-more, step-same, second-out, first-out, length-merged, length-joined, merged-le, union-over}
 
 -- what is left to do: x and y are still to be merged into out from byte k on, as against a and b at the start
 pub record State (level : Level) (a b out₀ : List ℕ) (k₀ : ℕ) (over₀ : Bool) (x y out : List ℕ) (k : ℕ) (over : Bool) : Type 0 where

@@ -24,13 +24,13 @@ use Rattle.counting_theory.specs.Times.{times}
 use Rattle.inference.specs.Inferring.{numbersOf, StandsAt, Holds, Starts, split, grown, Counted, Grown, AddedAt, labelFor, ItemAt, EqualRecords, resumed}
 use Rattle.inference.specs.ScalarFields.{Ran, plain, fieldStart, withScalar}
 use Rattle.counting_theory.proofs.Label.{kind-eq, key-eq}
+use Rattle.counting_theory.proofs.LabelOrder.{kind-less, kind-more, key-more, no-record}
 use Rattle.counting_theory.proofs.Tagged.Parts.{listed-field, Shape, tagged-parts}
 use Rattle.inference.proofs.InPlace.Append.{siblings-last}
-use Rattle.inference.proofs.InPlace.Compare.{kind-less, kind-greater, key-greater, label-unlisted, label-no-record}
 use Rattle.inference.proofs.InPlace.Items.{label-is, item-is}
-use Rattle.inference.proofs.InPlace.Nodes.{node-in, table-in}
+use Rattle.inference.proofs.InPlace.Nodes.{node-in}
 use Rattle.inference.proofs.InPlace.Placing.{holds-length, here-as-is}
-use Rattle.inference.proofs.InPlace.Seeking.{Seen, from-bytes, from-count, seen-start, seen-at, stop, not-both, compared-less, compared-equal, compared-greater}
+use Rattle.inference.proofs.InPlace.Seeking.{Seen, from-bytes, from-count, seen-start, seen-at, stop, not-both}
 use Rattle.inference.proofs.InPlace.Splits.{HereAt, here-at}
 use Rattle.inference.proofs.InPlace.Steps.{step-within, step-span, step-empty, step-holds, step-kept}
 use Rattle.inference.proofs.InPlace.Turns.{ran-first, below, grown as grownBy, turn-room, turn-added}
@@ -52,7 +52,7 @@ module _ {e : Equivalence} {field : Bool} {a : List ℕ} {n rest : ℕ} {f : Cou
       let s = siblings-last first (rw whole at (h .siblings)) in
       let bytes = from-bytes h first (node k c d t) whole at count in
       let y = node-in a (h .short) at k c d t (q ++ free) (s .keyed) bytes in
-      record { label = k; children = d; kind-is = y .kind-is; key-is = y .key-is; shape = tagged-parts e field k c d t (s .tagged) .0; here = table-in a (h .short) e field at k c d t (q ++ free) (s .keyed) bytes }
+      record { label = k; children = d; kind-is = y .kind-is; key-is = y .key-is; shape = tagged-parts e field k c d t (s .tagged) .0; here = record { whole = y .here .whole; short = h .short } }
 
   sibling-at : {at : ℕ} → Starts at f → at < n → SiblingAt e field a at
   sibling-at {at} s u = sibling-in (s .first) (s .last) (s .whole) at (s .count) u
@@ -73,17 +73,20 @@ module _ (label : Bool) (b : List ℕ) (p kind key : ℕ) where
   compared = compareLabel (plain (under label) kind key) (labelAt (under label) b p)
 
   pub plain-kind-less : kind < typeKind b p → compared ≡ lt
-  plain-kind-less h = compared-less _ (kind-less b p kind key 0 [] label h)
+  unfolding labelAt
+  plain-kind-less h = sym (kind-less (plain (under label) kind key) (labelAt (under label) b p) h)
 
   pub plain-kind-greater : typeKind b p < kind → compared ≡ gt
-  plain-kind-greater h = compared-greater _ (kind-greater b p kind key 0 [] label h)
+  unfolding labelAt
+  plain-kind-greater h = sym (kind-more (plain (under label) kind key) (labelAt (under label) b p) h)
 
   pub plain-key-greater : kind ≡ typeKind b p → typeKey b p < key → compared ≡ gt
-  plain-key-greater ek h = compared-greater _ (key-greater b p kind key 0 [] ek label h)
+  unfolding labelAt
+  plain-key-greater ek h = sym (key-more (plain (under label) kind key) (labelAt (under label) b p) ek h)
 
 pub plain-equal : (label : Bool) (b : List ℕ) (p kind key : ℕ) → kind ≡ typeKind b p → key ≡ typeKey b p → (kind ≡ recordKind → ⊥) → compareLabel (plain (under label) kind key) (labelAt (under label) b p) ≡ eq
-plain-equal false b p kind key ek ey m = compared-equal _ (label-unlisted b p kind key 0 [] ek ey)
-plain-equal true b p kind key ek ey m = compared-equal _ (label-no-record b p kind key 0 [] ek ey m)
+unfolding labelAt
+plain-equal label b p kind key ek ey m = sym (no-record (under label) ek ey _ _ m)
 
 -- where a search has come to, and what it has seen
 pub record Begun (e : Equivalence) (b : List ℕ) (n : ℕ) (l : Label) (f : CountingType) (at : ℕ) : Type 0 where

@@ -10,17 +10,16 @@ use lib.Dec.{ltb}
 use lib.ListN.{length, drop}
 use borrow.Author.Tests.{lt-ltb, le-ltb, ltb-true}
 use Rattle.value_table.specs.Value.{maxLength}
-use Rattle.inference.specs.declared.search.Compared.the-variants.{Less, Equal, Greater}
 use Rattle.inference.specs.declared.search.Found.the-variants.{Here, Missing}
 use Rattle.counting_theory.specs.Trie.{nil, node, append, size}
 use Rattle.counting_theory.specs.Label.{Equivalence, Label, compareLabel, CountingType}
 use Rattle.counting_theory.specs.Encoding.{typeSize, typeSpan, encode}
-use Rattle.type_arena.specs.Arena.{labelAt, InTable, FieldsInside}
-use Rattle.inference.specs.Inferring.{comparedOf, Comparable, spotHere, spot, Siblings, Holds, Starts, resumed}
+use Rattle.type_arena.specs.Arena.{labelAt, Labelled}
+use Rattle.inference.specs.Inferring.{spotHere, spot, Siblings, Holds, Starts, resumed}
 use Rattle.counting_theory.proofs.Trie.Profile.{append-assoc as forest-assoc}
 use Rattle.counting_theory.proofs.Encoding.Header.{length-encode}
 use Rattle.inference.proofs.InPlace.Part.{tail-drop}
-use Rattle.inference.proofs.InPlace.Nodes.{node-in, fields-in, table-in, label-in}
+use Rattle.inference.proofs.InPlace.Nodes.{node-in}
 use Rattle.inference.proofs.InPlace.Append.{encode-append, size-append, siblings-next, siblings-last, AllBefore, all-before}
 
 -- The siblings g from record `at` on. A search among them gives what a search of all siblings f gives, unless it was resumed here and
@@ -96,7 +95,7 @@ module _ {e : Equivalence} {field : Bool} {a : List ℕ} {n rest : ℕ} {f : Cou
     unfolding size
     before-last u m nil z b w i = absurd (omega arith)
     before-last u m (node k c d t) z b w i =
-        let label = label-in a (h .short) e field from k c d t (q ++ free) (i .keyed) b (i .tagged) in
+        let label = node-in a (h .short) from k c d t (q ++ free) (i .keyed) b .label-is e field (i .tagged) in
         all-before l first k c d t (rw z at (h .siblings .sorted)) (λ y. m (rw label y))
 
     first-before : from < n → (compareLabel l (labelAt e a from) ≡ lt → ⊥) → AllBefore l first
@@ -131,8 +130,7 @@ module _ {e : Equivalence} {field : Bool} {a : List ℕ} {n rest : ℕ} {f : Cou
 
 -- a sibling where the search has come to
 pub record Stop (e : Equivalence) (a : List ℕ) (n : ℕ) (l : Label) (f : CountingType) (resumed : Bool) (at : ℕ) : Type 0 where
-  pub here : InTable a at
-  pub fields : FieldsInside a at
+  pub here : Labelled a at
   pub some : 1 ≤ typeSpan a at
   pub upto : at + typeSpan a at ≤ n
   pub equal : compareLabel l (labelAt e a at) ≡ eq → Here at ≡ spot l 0 f
@@ -146,10 +144,9 @@ module _ {e : Equivalence} {a : List ℕ} {n : ℕ} {l : Label} {f : CountingTyp
   stop-at u nil h z s m = absurd (omega arith)
   stop-at u (node k c d t) h z s m =
       let y = node-in a short at k c d t (x .q) (s .keyed) h in
-      let label = label-in a short e (x .field) at k c d t (x .q) (s .keyed) h (s .tagged) in
+      let label = y .label-is e (x .field) (s .tagged) in
       record {
-        here = table-in a short e (x .field) at k c d t (x .q) (s .keyed) h;
-        fields = fields-in a short e (x .field) at k c d t (x .q) (s .keyed) h;
+        here = y .here;
         some = omega (arith, y .span-is);
         upto = omega (arith, y .span-is);
         equal = λ w. rw (rw label at w) at (m (λ r v. not-both _ v .0 w));
@@ -176,23 +173,3 @@ module _ {e : Equivalence} {a : List ℕ} {n : ℕ} {l : Label} {f : CountingTyp
 
   pub seen-end : n ≤ at → Missing at ≡ spot l 0 f
   seen-end u = end-at u (x .g) (x .count) (x .same (λ r. absurd (omega (arith, x .within r))))
-
-pub stop-comparable : {e : Equivalence} {a : List ℕ} {n : ℕ} {l : Label} {f : CountingType} {resumed : Bool} {at : ℕ} → Stop e a n l f resumed at →
-    (w : List ℕ) (keys : ℕ) → 2 * keys ≤ length w → Comparable a at w keys
-stop-comparable s w keys h = record { here = s .here; fields = λ z. s .fields; listed = h }
-
--- the three answers of a comparison
-pub compared-less : (o : Ordering) → Less ≡ comparedOf o → o ≡ lt
-compared-less lt e = refl
-compared-less eq e = cc
-compared-less gt e = cc
-
-pub compared-equal : (o : Ordering) → Equal ≡ comparedOf o → o ≡ eq
-compared-equal lt e = cc
-compared-equal eq e = refl
-compared-equal gt e = cc
-
-pub compared-greater : (o : Ordering) → Greater ≡ comparedOf o → o ≡ gt
-compared-greater lt e = cc
-compared-greater eq e = cc
-compared-greater gt e = refl

@@ -1,54 +1,68 @@
 -- `compare_label` meets its contract.
+use mathlib.Core.Path.{ap, _∙_}
 use native.Mathlib.Omega.{arith}
 use borrow.Author.Tests.{not-true, not-false}
 use borrow.Author.Needs.{needs}
-use Rattle.inference.proofs.InPlace.Compare.{kind-less, kind-greater, key-less, key-greater, label-unlisted, label-no-record, label-listed}
+use Rattle.counting_theory.specs.Label.{Label}
+use Rattle.counting_theory.proofs.LabelOrder.{kind-less, kind-more, key-less, key-more, under-kind, no-record, by-lists}
+use Rattle.type_arena.specs.Arena.{under, labelAt}
+use Rattle.inference.specs.Inferring.{wanted}
 use Rattle.inference.proofs.search.compare_label.Statement.{statement}
 use Rattle.inference.proofs.search.compare_label.Tie as tie
+
+-- the label that is looked for, and that of the record
+abbrev sought : tie.Start → Label
+sought s = wanted (under (s .args .label)) (s .args .kind) (s .args .key) (s .args .n) (s .args .work .now)
+
+abbrev there : tie.Start → Label
+there s = labelAt (under (s .args .label)) (s .args .b .now) (s .args .p)
 
 kind-at-requires : tie.Need-kind-at-requires
 kind-at-requires c κs = search needs
 
 returns : tie.Need-returns
-returns c =
-    let a = c .before .before .before .before .args in
-    kind-less (a .b .now) (a .p) (a .kind) (a .key) (a .n) (a .work .now) (a .label) (omega (arith, c .before .kind-at .ensures, c .if1 .taken))
+unfolding labelAt
+returns c = let s = c .before .before .before .before in kind-less (sought s) (there s) (omega arith)
 
 returns-2 : tie.Need-returns-2
-returns-2 c =
-    let a = c .before .before .before .before .before .args in
-    kind-greater (a .b .now) (a .p) (a .kind) (a .key) (a .n) (a .work .now) (a .label) (omega (arith, c .before .before .kind-at .ensures, c .if2 .taken))
+unfolding labelAt
+returns-2 c = let s = c .before .before .before .before .before in kind-more (sought s) (there s) (omega arith)
 
 key-at-requires : tie.Need-key-at-requires
 key-at-requires c κs = search needs
 
 returns-3 : tie.Need-returns-3
+unfolding labelAt
 returns-3 c =
-    let a = c .before .before .before .before .before .before .before .args in
-    key-less (a .b .now) (a .p) (a .kind) (a .key) (a .n) (a .work .now) (omega (arith, c .before .before .before .before .kind-at .ensures, c .before .before .before .if1 .left, c .before .before .if2 .left)) (a .label) (omega (arith, c .before .key-at .ensures, c .if3 .taken))
+    let s = c .before .before .before .before .before .before .before in
+    key-less (sought s) (there s) (omega arith) (omega arith)
 
 returns-4 : tie.Need-returns-4
+unfolding labelAt
 returns-4 c =
-    let a = c .before .before .before .before .before .before .before .before .args in
-    key-greater (a .b .now) (a .p) (a .kind) (a .key) (a .n) (a .work .now) (omega (arith, c .before .before .before .before .before .kind-at .ensures, c .before .before .before .before .if1 .left, c .before .before .before .if2 .left)) (a .label) (omega (arith, c .before .before .key-at .ensures, c .if4 .taken))
+    let s = c .before .before .before .before .before .before .before .before in
+    key-more (sought s) (there s) (omega arith) (omega arith)
 
 returns-5 : tie.Need-returns-5
+unfolding labelAt
 returns-5 c =
-    let a = c .before .before .before .before .before .before .before .before .before .args in
-    rw (not-true (a .label) (c .if5 .taken)) (label-unlisted (a .b .now) (a .p) (a .kind) (a .key) (a .n) (a .work .now) (omega (arith, c .before .before .before .before .before .before .kind-at .ensures, c .before .before .before .before .before .if1 .left, c .before .before .before .before .if2 .left)) (omega (arith, c .before .before .before .key-at .ensures, c .before .before .if3 .left, c .before .if4 .left)))
+    let s = c .before .before .before .before .before .before .before .before .before in
+    under-kind _ (omega arith) (omega arith) _ _ (ap under (not-true (s .args .label) (c .if5 .taken)))
 
 returns-6 : tie.Need-returns-6
-returns-6 c =
-    let a = c .before .before .before .before .before .before .before .before .before .before .args in
-    rw (not-false (a .label) (c .before .if5 .left)) (label-no-record (a .b .now) (a .p) (a .kind) (a .key) (a .n) (a .work .now) (omega (arith, c .before .before .before .before .before .before .before .kind-at .ensures, c .before .before .before .before .before .before .if1 .left, c .before .before .before .before .before .if2 .left)) (omega (arith, c .before .before .before .before .key-at .ensures, c .before .before .before .if3 .left, c .before .before .if4 .left)) (c .if6 .taken))
+unfolding labelAt
+returns-6 c = no-record _ (omega arith) (omega arith) _ _ (c .if6 .taken)
 
 compare-keys-requires : tie.Need-compare-keys-requires
-compare-keys-requires c κs = (c .before .before .before .before .before .before .before .before .before .before .pre .fields (omega (arith, c .before .before .before .before .before .before .before .kind-at .ensures, c .before .before .before .before .before .before .if1 .left, c .before .before .before .before .before .if2 .left, c .if6 .left)), c .before .before .before .before .before .before .before .before .before .before .pre .listed)
+compare-keys-requires c κs =
+    let s = c .before .before .before .before .before .before .before .before .before .before in
+    (s .pre .0 .fields (omega arith), s .pre .1)
 
 returns-7 : tie.Need-returns-7
+unfolding labelAt
 returns-7 c =
-    let a = c .before .before .before .before .before .before .before .before .before .before .before .args in
-    rw (not-false (a .label) (c .before .before .if5 .left)) (label-listed (a .b .now) (a .p) (a .kind) (a .key) (a .n) (a .work .now) (omega (arith, c .before .before .before .before .before .before .before .before .kind-at .ensures, c .before .before .before .before .before .before .before .if1 .left, c .before .before .before .before .before .before .if2 .left)) (omega (arith, c .before .before .before .before .before .key-at .ensures, c .before .before .before .before .if3 .left, c .before .before .before .if4 .left)) (c .before .if6 .left) _ (c .compare-keys .ensures))
+    let s = c .before .before .before .before .before .before .before .before .before .before .before in
+    c .compare-keys .ensures ∙ by-lists _ (omega arith) (omega arith) _ _ (ap under (not-false (s .args .label) (c .before .before .if5 .left))) (omega arith)
 
 pub compare-label-spec : {M : Type 1} → statement M
 compare-label-spec =

@@ -1,15 +1,16 @@
 -- `search` meets its contract.
 use mathlib.Core.List.{List}
 use mathlib.Core.Bool.{Bool, cond}
-use mathlib.Core.Path.{sym, _∙_}
+use mathlib.Core.Path.{ap, sym, _∙_}
 use Prim.Native.Nat.{ℕ, _+_, _-_}
 use native.Mathlib.Omega.{arith}
 use borrow.Author.Tests.{not-true, not-false}
 use borrow.Author.Needs.{needs}
 use Rattle.inference.specs.Inferring.{wanted, Holds, Starts}
 use Rattle.type_arena.specs.Arena.{under}
+use Rattle.type_arena.specs.LabelOrder.{orderingOf}
 use Rattle.counting_theory.specs.Label.{Label, CountingType}
-use Rattle.inference.proofs.InPlace.Seeking.{Seen, Stop, seen-start, seen-resumed, stop, seen-end, stop-comparable, compared-less, compared-equal, compared-greater}
+use Rattle.inference.proofs.InPlace.Seeking.{Seen, Stop, seen-start, seen-resumed, stop, seen-end}
 use Rattle.inference.proofs.search.search.Statement.{statement}
 use Rattle.inference.proofs.search.search.Tie as tie
 
@@ -38,13 +39,13 @@ loop-holds : tie.Need-loop-holds Inv-loop μ-loop
 loop-holds c field rest f q free h s = rw (c .search-start .ensures) (seen-resumed h _ s)
 
 compare-label-requires : tie.Need-compare-label-requires Inv-loop μ-loop
-compare-label-requires c κs = stop-comparable (one c) _ _ (c .before .before .before .before .before .pre .1)
+compare-label-requires c κs = (one c .here, c .before .before .before .before .before .pre .1)
 
 enum-told : tie.Need-enum-told Inv-loop μ-loop
 enum-told c = search needs
 
 returns : tie.Need-returns Inv-loop μ-loop
-returns c field rest f q free h s = all (c .before .before .before .before) field rest f q free h s .less (compared-less _ (sym (c .before .enum-told .given .1) ∙ c .before .before .before .compare-label .ensures)) (not-true _ (c .if1 .taken))
+returns c field rest f q free h s = all (c .before .before .before .before) field rest f q free h s .less (sym (ap orderingOf (sym (c .before .enum-told .given .1)) ∙ c .before .before .before .compare-label .ensures)) (not-true _ (c .if1 .taken))
 
 loop-less : tie.Need-loop-less Inv-loop μ-loop
 loop-less c = rw (not-false (c .before .before .before .before .before .loop .resumed) (c .if1 .left)) (omega arith)
@@ -56,7 +57,7 @@ enum-told-2 : tie.Need-enum-told-2 Inv-loop μ-loop
 enum-told-2 c = search needs
 
 returns-2 : tie.Need-returns-2 Inv-loop μ-loop
-returns-2 c field rest f q free h s = all (c .before .before .before) field rest f q free h s .equal (compared-equal _ (sym (c .enum-told2 .given .1) ∙ c .before .before .compare-label .ensures))
+returns-2 c field rest f q free h s = all (c .before .before .before) field rest f q free h s .equal (sym (ap orderingOf (sym (c .enum-told2 .given .1)) ∙ c .before .before .compare-label .ensures))
 
 enum-told-3 : tie.Need-enum-told-3 Inv-loop μ-loop
 enum-told-3 c = search needs
@@ -71,7 +72,7 @@ loop-less-2 : tie.Need-loop-less-2 Inv-loop μ-loop
 loop-less-2 c = omega (arith, one (c .before .before .before .before) .upto, one (c .before .before .before .before) .some, c .span-at .ensures .0)
 
 loop-again-2 : tie.Need-loop-again-2 Inv-loop μ-loop
-loop-again-2 c field rest f q free h s = rw (c .span-at .ensures .0) (all (c .before .before .before .before) field rest f q free h s .greater (compared-greater _ (sym (c .before .enum-told3 .given .1) ∙ c .before .before .before .compare-label .ensures)))
+loop-again-2 c field rest f q free h s = rw (c .span-at .ensures .0) (all (c .before .before .before .before) field rest f q free h s .greater (sym (ap orderingOf (sym (c .before .enum-told3 .given .1)) ∙ c .before .before .before .compare-label .ensures)))
 
 returns-3 : tie.Need-returns-3 Inv-loop μ-loop
 returns-3 c field rest f q free h s = seen-end (h .short) (c .before .loop .inv field rest f q free h s) (c .loop-test .left)

@@ -4,13 +4,14 @@ use mathlib.Core.List.{List}
 use Prim.Native.Nat.{ℕ, _-_}
 use native.Mathlib.Omega.{arith}
 use borrow.Author.Needs.{needs}
-use Rattle.value_table.specs.Siblings.{Hops}
+use Rattle.value_table.specs.Value.{keyAt, spanAt}
+use Rattle.value_table.specs.Chain.{Chain}
 use Rattle.value_table.proofs.Siblings.{Left, left-step, left-found, left-next, left-none}
 use Rattle.value_table.proofs.faults.key_before.Statement.{statement}
 use Rattle.value_table.proofs.faults.key_before.Tie as tie
 
 abbrev Inv-loop : tie.InvT-loop
-Inv-loop table i first key p₀ p = (all : List ℕ) → Hops table i first all → Left table i key all p
+Inv-loop table i first key p₀ p = (all : List ℕ) → Chain (spanAt table) (keyAt table) i first all → Left table i key all p
 
 abbrev μ-loop : tie.MeasureT-loop
 μ-loop table i first key p₀ p = i - p
@@ -19,7 +20,7 @@ key-at-requires : tie.Need-key-at-requires Inv-loop μ-loop
 key-at-requires c κs = search needs
 
 loop-holds : tie.Need-loop-holds Inv-loop μ-loop
-loop-holds c = λ all h. record { keys = all; hops = h; same = refl }
+loop-holds c = λ all h. record { keys = all; chain = h; same = refl }
 
 key-at-requires-2 : tie.Need-key-at-requires-2 Inv-loop μ-loop
 key-at-requires-2 c κs = search needs
@@ -33,13 +34,13 @@ span-at-requires c κs = search needs
 add-p : tie.Need-add-p Inv-loop μ-loop
 add-p c =
     let s = c .before .before .before .before .before .before .before .pre .1 in
-    let w = left-step (c .before .before .before .before .loop .inv (s .keys) (s .hops)) (c .before .before .before .loop-test .taken) in
+    let w = left-step (c .before .before .before .before .loop .inv (s .keys) (s .chain)) (c .before .before .before .loop-test .taken) in
     omega (arith, w .some, w .upto, c .span-at .ensures .0)
 
 loop-less : tie.Need-loop-less Inv-loop μ-loop
 loop-less c =
     let s = c .before .before .before .before .before .before .before .pre .1 in
-    let w = left-step (c .before .before .before .before .loop .inv (s .keys) (s .hops)) (c .before .before .before .loop-test .taken) in
+    let w = left-step (c .before .before .before .before .loop .inv (s .keys) (s .chain)) (c .before .before .before .loop-test .taken) in
     omega (arith, w .some, w .upto, c .span-at .ensures .0)
 
 loop-again : tie.Need-loop-again Inv-loop μ-loop

@@ -16,7 +16,7 @@ use Rattle.counting_type.proofs.merging.merge_union.Reads as merge-unio
 use Rattle.counting_type.proofs.merging.merge_union.Kinds as merge-union-kinds
 use Rattle.counting_type.proofs.merging.+merge_addend+merge_run+merge_union.Lts-merge_union as merge-union-lts
 use Rattle.type_arena.proofs.addend.body_of.Reads as body-of-reads
-use Rattle.counting_type.proofs.addend.compare_labels.Reads as compare-labels-reads
+use Rattle.type_arena.proofs.label_order.compare_labels.Reads as compare-labels-reads
 use Rattle.counting_type.proofs.addend.inside.Reads as inside-reads
 use Rattle.type_arena.proofs.addend.rest_of.Reads as rest-of-reads
 use Rattle.counting_type.proofs.merging.append.Reads as append-reads

@@ -4,10 +4,10 @@ use Prim.Native.Nat.{ℕ}
 use native.Mathlib.Omega.{arith}
 use lib.ListN.{length}
 use borrow.Author.Needs.{needs}
-use Rattle.counting_type.specs.Merging.{orderingOf}
+use Rattle.type_arena.specs.LabelOrder.{orderingOf}
 use Rattle.type_arena.proofs.FirstAddend.{headed}
 use Rattle.counting_type.proofs.TypeMerge.Part.{Head, head}
-use Rattle.counting_type.proofs.TypeMerge.Labels.{same-kinds}
+use Rattle.counting_type.proofs.TypeMerge.Steps.{same-kinds}
 use Rattle.counting_type.proofs.TypeMerge.Turns.{start, turn-less, turn-more, turn-same, second-done, first-done}
 use Rattle.counting_type.proofs.merging.merge_run.Reads as merge-run
 use Rattle.counting_type.proofs.merging.+merge_addend+merge_run+merge_union.Lts-merge_run as merge-run-lts
@@ -41,8 +41,7 @@ module _ (t : ℕ) where
 
   pub compare-labels-requires : merge-run-lts.Need-compare-labels-requires (run-calls t) (run-at t) merge-run.Post Inv-loop μ-loop
   compare-labels-requires c κs =
-      let l = c .before .before .loop in
-      ((l .inv .first, omega arith), (l .inv .second, c .before .loop-test .taken))
+      (first-head c .first .here, second-head c .first .here)
 
   pub enum-told : merge-run-lts.Need-enum-told (run-calls t) (run-at t) merge-run.Post Inv-loop μ-loop
   enum-told c = search needs

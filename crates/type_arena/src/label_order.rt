@@ -1,0 +1,80 @@
+// The order of labels, and of the key lists that records have.
+use crate::type_record;
+use crate::type_record::key_at;
+use crate::type_record::kind_at;
+use crate::type_record::span_at;
+ghost use mathlib.Core.Path.{_≡_};
+ghost use Rattle.counting_theory.specs.Label.{compareKeys, compareLabel};
+ghost use Rattle.type_arena.specs.Arena.{under, keysIn, labelAt, FieldsInside, Labelled};
+ghost use Rattle.type_arena.specs.LabelOrder.{orderingOf};
+
+// How one label, or one key list, stands to another.
+pub enum Order {
+    Less,
+    Same,
+    More,
+}
+
+// How the key list of record x of b stands to that of record y of c: the first key that differs settles it, and a list that begins the
+// other comes first.
+fn compare_keys(b: &[u8], x: usize, c: &[u8], y: usize) -> Order
+    requires { ⌜ FieldsInside (now b) x × FieldsInside (now c) y ⌝ }
+    ensures { λ r. ⌜ orderingOf r ≡ compareKeys (keysIn (now (b .entry)) x) (keysIn (now (c .entry)) y) ⌝ }
+{
+    let x_end = x + span_at(b, x);
+    let y_end = y + span_at(c, y);
+    let mut i = x + 1;
+    let mut j = y + 1;
+    let order = loop {
+        if i == x_end {
+            if j == y_end {
+                break Order::Same;
+            }
+            break Order::Less;
+        }
+        if j == y_end {
+            break Order::More;
+        }
+        let key = key_at(b, i);
+        let other = key_at(c, j);
+        if key < other {
+            break Order::Less;
+        }
+        if other < key {
+            break Order::More;
+        }
+        i += span_at(b, i);
+        j += span_at(c, j);
+    };
+    order
+}
+
+// How the label of record x of b stands to that of record y of c: by kind, then by key, then, for records under label, by key list.
+pub fn compare_labels(b: &[u8], x: usize, c: &[u8], y: usize, label: bool) -> Order
+    requires { ⌜ Labelled (now b) x × Labelled (now c) y ⌝ }
+    ensures { λ r. ⌜ orderingOf r ≡ compareLabel (labelAt (under label) (now (b .entry)) x) (labelAt (under label) (now (c .entry)) y) ⌝ }
+{
+    let kind = kind_at(b, x);
+    let other_kind = kind_at(c, y);
+    if kind < other_kind {
+        return Order::Less;
+    }
+    if other_kind < kind {
+        return Order::More;
+    }
+    let key = key_at(b, x);
+    let other_key = key_at(c, y);
+    if key < other_key {
+        return Order::Less;
+    }
+    if other_key < key {
+        return Order::More;
+    }
+    if !label {
+        return Order::Same;
+    }
+    if kind != type_record::RECORD {
+        return Order::Same;
+    }
+    compare_keys(b, x, c, y)
+}
