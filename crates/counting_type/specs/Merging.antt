@@ -1,7 +1,7 @@
 -- The merge of two types on their bytes, as the code goes about it: what a run of records is, its first addend, and what is stored.
 use mathlib.Core.Path.{_≡_}
 use mathlib.Core.Bool.{Bool, cond, not, _&&_, _||_}
-use mathlib.Core.List.{List, [], _++_}
+use mathlib.Core.List.{List, _++_}
 use Prim.Native.Nat.{ℕ, _+_, _*_, _-_, _≤_, Ordering, Ordering·lt as lt, Ordering·eq as eq, Ordering·gt as gt}
 use lib.Dec.{eqb, ltb}
 use lib.ListN.{length, take, drop}
@@ -13,7 +13,6 @@ use Rattle.counting_type.specs.declared.addend.Order.the-variants.{Less,
 use Rattle.counting_theory.specs.Payload.{join}
 use Rattle.counting_theory.specs.Trie.{size, reduce, largestBelow, largestTotal}
 use Rattle.counting_theory.specs.Label.{Equivalence, Counting, CountingType}
-use Rattle.counting_theory.specs.Place.{FieldTotals}
 use Rattle.counting_theory.specs.Encoding.{typeSize, typeKind, typeKey, typeSpan, typePayload, encode, typeOf, Tagged, Fitting}
 use Rattle.counting_theory.specs.WellFormed.{maxTotal, Shallow}
 use Rattle.type_arena.specs.Arena.{under, headerOf}
@@ -56,7 +55,6 @@ pub record Part (level : Level) (x : List ℕ) : Type 0 where
   pub shallow : Shallow (level .field) (depthOf level) (typeOf (under (level .label)) x)
   pub left-low : level .left ≤ maxDepth
   pub limit : largestTotal Counting (typeOf (under (level .label)) x) ≤ maxTotal
-  pub totals : FieldTotals (typeOf (under (level .label)) x)
 
 -- what stands inside a record of this kind: the depth falls at an addend
 abbrev pub insideOf : Level → ℕ → Level

@@ -3,11 +3,12 @@ use mathlib.Core.Bool.{Bool, true, false}
 use mathlib.Core.List.{List, [], _∷_}
 use Prim.Native.Nat.{ℕ, zero, suc, _+_, _*_, _-_, _≤_, _<_}
 use lib.Dec.{ltb}
-use lib.ListN.{length}
+use lib.ListN.{length, take}
+use Rattle.value_table.specs.Format.{widthOf}
 use Rattle.value_table.specs.Value.{maxLength}
 use Rattle.counting_theory.specs.Payload.{Payload}
 use Rattle.counting_theory.specs.Label.{Equivalence, byKind, byLabel, Label, labelOf}
-use Rattle.counting_theory.specs.Encoding.{typeSize, typeKind, typeKey, typeSpan, header}
+use Rattle.counting_theory.specs.Encoding.{typeFormat, typeSize, typeKind, typeKey, typeSpan, header}
 
 -- the code's flag for label equivalence
 abbrev pub under : Bool → Equivalence
@@ -47,6 +48,9 @@ pub record FieldsInside (b : List ℕ) (p : ℕ) : Type 0 where
   pub within : typeSize * (p + typeSpan b p) ≤ length b
   pub short : length b ≤ maxLength
 
--- the bytes of a type record
+-- where the span stands in a type record, and the bytes of one
+abbrev pub spanOffset : ℕ
+spanOffset = widthOf (take 3 typeFormat)
+
 abbrev pub headerOf : ℕ → ℕ → ℕ → Payload → List ℕ
 headerOf kind key span a = header (record { kind = kind; key = key; keys = [] }) span a

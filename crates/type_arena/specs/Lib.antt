@@ -1,2 +1,3 @@
 -- What the contracts on type records cite beside the theory.
 pub mod Arena
+pub mod Payload
