@@ -40,10 +40,6 @@ pub copies-add : (m n : ℕ) (a : Payload) → copies (m + n) a ≡ join (copies
 unfolding copies join
 copies-add m n a = λ i. record { count = add-mul m n (a .count) i }
 
-pub count-copies : (n : ℕ) (a : Payload) → copies n a .count ≡ n * a .count
-unfolding copies
-count-copies n a = refl
-
 -- numbers and bytes
 pub length-numbers : (a : Payload) → length (numbers a) ≡ length payloadFormat
 unfolding numbers

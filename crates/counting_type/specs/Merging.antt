@@ -11,7 +11,6 @@ use Rattle.counting_type.specs.declared.addend.Level.{Level}
 use Rattle.counting_theory.specs.Payload.{join}
 use Rattle.counting_theory.specs.Trie.{size, reduce, largestBelow, largestTotal}
 use Rattle.counting_theory.specs.Label.{Equivalence, Counting, CountingType}
-use Rattle.counting_theory.specs.Place.{FieldTotals}
 use Rattle.counting_theory.specs.Encoding.{typeKind, typeKey, typePayload, encode, typeOf}
 use Rattle.counting_theory.specs.WellFormed.{maxTotal, Shallow}
 use Rattle.type_arena.specs.Arena.{under, headerOf}
@@ -27,7 +26,6 @@ pub record Part (level : Level) (x : List ℕ) : Type 0 where
   pub shallow : Shallow (level .field) (depthOf level) (typeOf (under (level .label)) x)
   pub left-low : level .left ≤ maxDepth
   pub limit : largestTotal Counting (typeOf (under (level .label)) x) ≤ maxTotal
-  pub totals : FieldTotals (typeOf (under (level .label)) x)
 
 -- what stands inside a record of this kind: the depth falls at an addend
 abbrev pub insideOf : Level → ℕ → Level

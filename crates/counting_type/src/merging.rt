@@ -7,10 +7,11 @@ use type_arena::addend::rest_of;
 use type_arena::addend::union_total;
 use type_arena::label_order::Order;
 use type_arena::label_order::compare_labels;
+use type_arena::payload::join;
+use type_arena::payload::payload_at;
+use type_arena::record_store::put_record;
 use type_arena::store::put_bytes;
-use type_arena::store::put_record;
 use type_arena::type_record;
-use type_arena::type_record::count_at;
 use type_arena::type_record::key_at;
 use type_arena::type_record::kind_at;
 ghost use mathlib.Core.Path.{_≡_};
@@ -122,14 +123,15 @@ fn merge_addend(x: &[u8], y: &[u8], out: &mut [u8], at: &mut usize, over: &mut b
     requires { ⌜ Part level (now x) × (0 < length (now x)) ⌝ }
     requires { ⌜ Part level (now y) × (0 < length (now y)) × (typeKind (now x) 0 ≡ typeKind (now y) 0) ⌝ }
     requires { ⌜ now at + length (now x) + length (now y) < 2 ^ 64 ⌝ }
-    ensures { λ _. ⌜ Joined (under (level .label)) (now (x .entry)) (now (y .entry)) (now (out .entry)) (now (at .entry)) (now (over .entry)) (now (out .exit)) (now (at .exit)) (now (over .exit)) ⌝ }
+    ensures { λ _. ⌜ Joined (under (level .label)) (now (x .entry)) (now (y .entry)) (now (out .entry)) (now (at .entry)) (now (over .entry))
+        (now (out .exit)) (now (at .exit)) (now (over .exit)) ⌝ }
 {
     let kind = kind_at(x, 0);
     let inner = inside(level, kind);
     let s = merge_union(body_of(x), body_of(y), out, *at + type_record::SIZE, inner);
     let span = s.bytes / type_record::SIZE + 1;
-    let count = count_at(x, 0) + count_at(y, 0);
-    put_record(out, *at, kind, key_at(x, 0), span, count);
+    let joined = join(payload_at(x, 0), payload_at(y, 0));
+    put_record(out, *at, kind, key_at(x, 0), span, joined);
     *at = *at + type_record::SIZE + s.bytes;
     *over = either(*over, s.over);
 }

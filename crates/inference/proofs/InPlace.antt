@@ -1,6 +1,4 @@
 -- The laws behind inference in place.
-pub mod Stores
-pub mod Gap
 pub mod Part
 pub mod Numbers
 pub mod KeyBytes

@@ -4,7 +4,7 @@ use mathlib.Core.Path.{_≡_}
 use mathlib.Core.Bool.{Bool, true, cond}
 use mathlib.Core.List.{List, [], _∷_, _++_}
 use mathlib.Core.Option.{Option, none, some}
-use Prim.Native.Nat.{ℕ, zero, suc, _+_, _*_, _≤_, _<_, Ordering, Ordering·lt as lt, Ordering·eq as eq, Ordering·gt as gt}
+use Prim.Native.Nat.{ℕ, zero, suc, _+_, _*_, _/_, _≤_, _<_, Ordering, Ordering·lt as lt, Ordering·eq as eq, Ordering·gt as gt}
 use lib.Dec.{eqb, ltb}
 use lib.ListN.{length, take, drop}
 use Rattle.value_table.specs.Number.{numberOf, numberAt}
@@ -21,21 +21,29 @@ use Rattle.inference.specs.declared.placing.Put.the-variants.{NoRoom, At
 use Rattle.inference.specs.declared.inferring.Inferred.{Inferred}
 use Rattle.inference.specs.declared.inferring.Inferred.the-variants.{Records, Full}
 use Rattle.inference.specs.declared.inferring.Item.{Item}
-use Rattle.counting_theory.specs.Payload.{Payload, one, oneField, join, copies}
+use Rattle.counting_theory.specs.Payload.{Payload, join}
 use Rattle.counting_theory.specs.Times.{times}
 use Rattle.counting_theory.specs.Trie.{nil, node, append, size, insert, add, Sorted}
 use Rattle.counting_theory.specs.Label.{Equivalence, Label, fieldKind, listed, labelOf, compareLabel, Counting, CountingType}
 use Rattle.counting_theory.specs.Raw.{ascending, raw}
 use Rattle.counting_theory.specs.Encoding.{typeSize, typeSpan, header, encode, Tagged}
+use Rattle.type_arena.specs.Payload.{itemPayload}
 
 -- the first n numbers in bytes, each of `width` bytes
 unfoldable pub numbersOf : ℕ → ℕ → List ℕ → List ℕ
 numbersOf width zero w = []
 numbersOf width (suc n) w = numberOf (take width w) ∷ numbersOf width n (drop width w)
 
--- the first n keys of a key list in bytes
+-- the bytes of a key, and the first n keys of a key list in bytes
+abbrev pub keySize : ℕ
+keySize = 2
+
 abbrev pub keysOf : ℕ → List ℕ → List ℕ
-keysOf n w = numbersOf 2 n w
+keysOf n w = numbersOf keySize n w
+
+-- how many keys have the bytes of a type record
+abbrev pub keysPerRecord : ℕ
+keysPerRecord = typeSize / keySize
 
 -- no key is above the next one
 abbrev pub AtMostFirst : ℕ → List ℕ → Type 0
@@ -193,10 +201,6 @@ Added g q rest (Records n) b = Grown g q n b
 -- the label of an item with the values vs below it: the class of a value with this content, or a field
 abbrev pub labelFor : Equivalence → ℕ → ℕ → Values → Label
 labelFor e kind key vs = labelOf e kind key (ascending (keys vs))
-
--- what the item gives, w times
-abbrev pub itemPayload : ℕ → ℕ → Values → Payload
-itemPayload w kind vs = copies w (cond (eqb kind fieldKind) oneField (one (record { kind = kind }) vs))
 
 -- the siblings f with that item added w times
 abbrev pub withItem : Equivalence → ℕ → ℕ → ℕ → Values → CountingType → CountingType

@@ -7,4 +7,3 @@ mod repeats;
 mod scalar_fields;
 mod search;
 mod slots;
-mod type_store;

@@ -1,7 +1,8 @@
 // Fields with a scalar that stand in the arena already: only counts grow, and no record moves.
-use crate::placing::count_here;
 use crate::search::Found;
 use crate::search::resume_at;
+use type_arena::payload::given;
+use type_arena::record_store::join_payload;
 use type_arena::type_record;
 use type_arena::type_record::key_at;
 use type_arena::type_record::kind_at;
@@ -48,8 +49,8 @@ fn field_start(b: &[u8], from: usize, n: usize, key: usize) -> usize
 // Looks for a field among n records of fields.
 fn seek_field(b: &[u8], from: usize, n: usize, key: usize) -> Sought
     requires { ⌜ SomeFrom true (now b) n from ⌝ }
-    ensures { λ r. ⌜ ((label : Bool) (rest : ℕ) (f : CountingType) (q free : List ℕ) → Holds (under label) true (now (b .entry)) n rest f q free → Starts from f →
-        SoughtIn (plain (under label) fieldKind key) f r) ⌝ }
+    ensures { λ r. ⌜ ((label : Bool) (rest : ℕ) (f : CountingType) (q free : List ℕ) →
+        Holds (under label) true (now (b .entry)) n rest f q free → Starts from f → SoughtIn (plain (under label) fieldKind key) f r) ⌝ }
 {
     let mut at = field_start(b, from, n, key);
     let mut before = at;
@@ -70,8 +71,8 @@ fn seek_field(b: &[u8], from: usize, n: usize, key: usize) -> Sought
 // The same, where the field is mostly the one at `from`.
 fn find_field(b: &[u8], from: usize, n: usize, key: usize) -> Sought
     requires { ⌜ SomeFrom true (now b) n from ⌝ }
-    ensures { λ r. ⌜ ((label : Bool) (rest : ℕ) (f : CountingType) (q free : List ℕ) → Holds (under label) true (now (b .entry)) n rest f q free → Starts from f →
-        SoughtIn (plain (under label) fieldKind key) f r) ⌝ }
+    ensures { λ r. ⌜ ((label : Bool) (rest : ℕ) (f : CountingType) (q free : List ℕ) →
+        Holds (under label) true (now (b .entry)) n rest f q free → Starts from f → SoughtIn (plain (under label) fieldKind key) f r) ⌝ }
 {
     if from < n {
         if key == key_at(b, from) {
@@ -105,22 +106,24 @@ fn find_scalar(b: &[u8], n: usize, kind: u8) -> Found
 fn count_scalar(a: &mut [u8], p: usize, kind: u8, weight: usize) -> bool
     requires { ⌜ SomeField (now a) p × (kind ≤ lastScalar) ⌝ }
     ensures { λ r. ⌜ ((label : Bool) (n rest key : ℕ) (f : CountingType) (q free : List ℕ) → Holds (under label) true (now (a .entry)) n rest f q free →
-        StandsAt (plain (under label) fieldKind key) f p → ScalarCounted (withScalar (under label) key kind weight f) q n (now (a .entry)) r (now (a .exit))) ⌝ }
+        StandsAt (plain (under label) fieldKind key) f p →
+        ScalarCounted (withScalar (under label) key kind weight f) q n (now (a .entry)) r (now (a .exit))) ⌝ }
 {
     let inner = type_record::SIZE * p + type_record::SIZE;
     let held = span_at(a, p) - 1;
     let Found::Here(q) = find_scalar(&a[inner..], held, kind) else {
         return false;
     };
-    count_here(a, p, weight);
-    count_here(&mut a[inner..], q, weight);
+    join_payload(a, p, given(type_record::FIELD, weight));
+    join_payload(&mut a[inner..], q, given(kind, weight));
     true
 }
 
 // Counts a field with a scalar among n records of fields, if it stands there with this scalar.
 fn count_field(a: &mut [u8], from: usize, n: usize, kind: u8, key: usize, weight: usize) -> Sought
     requires { ⌜ SomeFrom true (now a) n from × (kind ≤ lastScalar) ⌝ }
-    ensures { λ r. ⌜ ((label : Bool) (rest : ℕ) (f : CountingType) (q free : List ℕ) → Holds (under label) true (now (a .entry)) n rest f q free → Starts from f →
+    ensures { λ r. ⌜ ((label : Bool) (rest : ℕ) (f : CountingType) (q free : List ℕ) →
+        Holds (under label) true (now (a .entry)) n rest f q free → Starts from f →
         FieldCounted (under label) key kind weight f q n (now (a .entry)) r (now (a .exit))) ⌝ }
 {
     match find_field(a, from, n, key) {
@@ -138,7 +141,8 @@ fn count_field(a: &mut [u8], from: usize, n: usize, kind: u8, key: usize, weight
 fn count_fields(a: &mut [u8], from: usize, n: usize, t: &[u8], i: usize, weight: usize) -> Progress
     requires { ⌜ SomeRan true weight (now a) (now t) n i from ⌝ }
     ensures { λ r. ⌜ (i ≤ r .next) × ((label : Bool) (vs : Values) (f : CountingType) (q : List ℕ) (rest : ℕ) → length q ≡ typeSize * rest →
-        Ran (under label) true weight vs f q (now (a .entry)) (now (t .entry)) n i from → Ran (under label) true weight vs f q (now (a .exit)) (now (t .entry)) n (r .next) (r .from)) ⌝ }
+        Ran (under label) true weight vs f q (now (a .entry)) (now (t .entry)) n i from →
+        Ran (under label) true weight vs f q (now (a .exit)) (now (t .entry)) n (r .next) (r .from)) ⌝ }
 {
     let end = t.len() / record::SIZE;
     let mut next = i;
@@ -182,7 +186,8 @@ pub fn count_standing(
 ) -> Progress
     requires { ⌜ SomeRan field weight (now a) (now t) n i from ⌝ }
     ensures { λ r. ⌜ (i ≤ r .next) × ((label : Bool) (vs : Values) (f : CountingType) (q : List ℕ) (rest : ℕ) → length q ≡ typeSize * rest →
-        Ran (under label) field weight vs f q (now (a .entry)) (now (t .entry)) n i from → Ran (under label) field weight vs f q (now (a .exit)) (now (t .entry)) n (r .next) (r .from)) ⌝ }
+        Ran (under label) field weight vs f q (now (a .entry)) (now (t .entry)) n i from →
+        Ran (under label) field weight vs f q (now (a .exit)) (now (t .entry)) n (r .next) (r .from)) ⌝ }
 {
     if !field {
         return Progress {

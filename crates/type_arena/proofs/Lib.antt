@@ -2,6 +2,8 @@
 pub mod Fields
 pub mod Nodes
 pub mod Sets
+pub mod PayloadBytes
 pub mod Clear
 pub mod FirstAddend
 pub mod UnionTotal
+pub mod Gap

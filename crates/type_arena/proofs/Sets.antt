@@ -14,7 +14,8 @@ use Rattle.value_table.specs.Format.{recordBytes}
 use Rattle.value_table.proofs.Format.{length-record}
 use Rattle.counting_theory.specs.Payload.{Payload, numbers}
 use Rattle.counting_theory.specs.Encoding.{typeFormat, typeSize, header}
-use Rattle.type_arena.specs.Arena.{headerOf}
+use Rattle.type_arena.specs.Arena.{spanOffset, headerOf}
+use Rattle.type_arena.specs.Payload.{payloadOffset, payloadBytes}
 
 pub sets-append : (xs ys l : List ℕ) (i : ℕ) → sets l i (xs ++ ys) ≡ sets (sets l i xs) (i + length xs) ys
 sets-append [] ys l i = rw add-zero
@@ -50,12 +51,12 @@ pub length-headerOf : (kind key span : ℕ) (a : Payload) → length (headerOf k
 unfolding header
 length-headerOf kind key span a = length-record typeFormat _
 
--- a type record in its four numbers, the first with the zero byte behind the kind
-pub sets-record : (kind key span count : ℕ) (l : List ℕ) (at : ℕ) → kind < 256 →
-    sets (sets (sets (sets l at (bytesOf 2 kind)) (at + 2) (bytesOf 2 key)) (at + 4) (bytesOf 4 span)) (at + 8) (bytesOf 8 count)
-    ≡ sets l at (headerOf kind key span (record { count = count }))
-unfolding header bytesOf recordBytes numbers
-sets-record kind key span count l at h =
+-- a type record in its parts, the first with the zero byte behind the kind
+pub sets-record : (kind key span : ℕ) (a : Payload) (l : List ℕ) (at : ℕ) → kind < 256 →
+    sets (sets (sets (sets l at (bytesOf 2 kind)) (at + 2) (bytesOf 2 key)) (at + spanOffset) (bytesOf 4 span)) (at + payloadOffset) (payloadBytes a)
+    ≡ sets l at (headerOf kind key span a)
+unfolding header bytesOf recordBytes numbers payloadBytes
+sets-record kind key span a l at h =
     let high : kind / 256 % 256 ≡ 0 = omega arith in
     rw high (simp towards-suc)
 
@@ -65,6 +66,10 @@ sets-whole vs l h = sets-eq vs l 0 (omega arith) ∙ rw (zero-add, drop-of-lengt
 -- what was stored aside, over all of l, and then copied
 pub sets-aside : (vs l out : List ℕ) (at : ℕ) {made out′ : List ℕ} → length l ≡ length vs → made ≡ sets l 0 vs → out′ ≡ sets out at made → out′ ≡ sets out at vs
 sets-aside vs l out at h e f = f ∙ ap (sets out at) (e ∙ sets-whole vs l h)
+
+-- a record stored over the first of its length
+pub sets-front : (vs l x : List ℕ) {out : List ℕ} → length vs ≤ length l → drop (length vs) l ≡ x → out ≡ sets l 0 vs → out ≡ vs ++ x
+sets-front vs l x h e f = f ∙ sets-eq vs l 0 (omega arith) ∙ rw (zero-add, e) refl
 
 -- one byte of a copy
 pub copy-more : (src out : List ℕ) (at i : ℕ) → i < length src →

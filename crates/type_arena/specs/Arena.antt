@@ -4,12 +4,13 @@ use mathlib.Core.Bool.{Bool, true, false}
 use mathlib.Core.List.{List, [], _∷_}
 use Prim.Native.Nat.{ℕ, zero, suc, _+_, _*_, _-_, _≤_}
 use lib.Dec.{ltb}
-use lib.ListN.{length}
+use lib.ListN.{length, take}
+use Rattle.value_table.specs.Format.{widthOf}
 use Rattle.value_table.specs.Value.{maxLength, recordKind}
 use Rattle.value_table.specs.Chain.{Chain}
 use Rattle.counting_theory.specs.Payload.{Payload}
 use Rattle.counting_theory.specs.Label.{Equivalence, byKind, byLabel, Label, labelOf}
-use Rattle.counting_theory.specs.Encoding.{typeSize, typeKind, typeKey, typeSpan, header}
+use Rattle.counting_theory.specs.Encoding.{typeFormat, typeSize, typeKind, typeKey, typeSpan, header}
 
 -- the code's flag for label equivalence
 abbrev pub under : Bool → Equivalence
@@ -48,6 +49,9 @@ pub record Labelled (b : List ℕ) (p : ℕ) : Type 0 where
   pub whole : typeSize * p + typeSize ≤ length b
   pub fields : typeKind b p ≡ recordKind → FieldsInside b p
 
--- the bytes of a type record
+-- where the span stands in a type record, and the bytes of one
+abbrev pub spanOffset : ℕ
+spanOffset = widthOf (take 3 typeFormat)
+
 abbrev pub headerOf : ℕ → ℕ → ℕ → Payload → List ℕ
 headerOf kind key span a = header (record { kind = kind; key = key; keys = [] }) span a

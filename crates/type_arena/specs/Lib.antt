@@ -2,3 +2,4 @@
 pub mod Arena
 pub mod Addend
 pub mod LabelOrder
+pub mod Payload

@@ -1,12 +1,10 @@
-// Stores of type records and of runs of bytes, as far as there is room.
-use crate::type_record;
+// Stores of numbers and of runs of bytes.
 ghost use mathlib.Core.Path.{_≡_};
+ghost use mathlib.Core.List.{_++_};
 ghost use Prim.Native.Nat.{_+_, _-_, _%_, _^_, _≤_, _<_, min};
-ghost use lib.ListN.{length};
+ghost use lib.ListN.{length, take, drop};
 ghost use lib.Seq.{sets};
 ghost use Rattle.value_table.specs.Number.{bytesOf};
-ghost use Rattle.counting_theory.specs.Encoding.{typeSize};
-ghost use Rattle.type_arena.specs.Arena.{headerOf};
 
 // The lowest byte of v.
 fn low(v: usize) -> u8
@@ -42,15 +40,16 @@ pub fn store64(out: &mut [u8], at: usize, v: usize)
     store32(out, at + 4, v / 4294967296);
 }
 
-// Stores a type record where there is room for it.
-pub fn store_record(out: &mut [u8], at: usize, kind: u8, key: usize, span: usize, count: usize)
-    requires { ⌜ at + typeSize ≤ length (now out) ⌝ }
-    ensures { λ _. ⌜ now (out .exit) ≡ sets (now (out .entry)) at (headerOf kind key span (record { count = count })) ⌝ }
+// Moves the first n bytes up by `gap`, the last one first.
+pub fn open_gap(b: &mut [u8], n: usize, gap: usize)
+    requires { ⌜ n + gap ≤ length (now b) ⌝ }
+    ensures { λ _. ⌜ drop gap (now (b .exit)) ≡ take n (now (b .entry)) ++ drop (n + gap) (now (b .entry)) ⌝ }
 {
-    store16(out, at, kind as usize);
-    store16(out, at + 2, key);
-    store32(out, at + 4, span);
-    store64(out, at + 8, count);
+    let mut i = n;
+    while 0 < i {
+        i -= 1;
+        b[i + gap] = b[i];
+    }
 }
 
 // How many of n bytes there is room for from `at` on, in len bytes.
@@ -77,18 +76,4 @@ pub fn put_bytes(src: &[u8], out: &mut [u8], at: usize)
         out[at + i] = src[i];
         i += 1;
     }
-}
-
-// Stores a type record, as far as there is room.
-pub fn put_record(out: &mut [u8], at: usize, kind: u8, key: usize, span: usize, count: usize)
-    requires { ⌜ at + typeSize < 2 ^ 64 ⌝ }
-    ensures { λ _. ⌜ now (out .exit) ≡ sets (now (out .entry)) at (headerOf kind key span (record { count = count })) ⌝ }
-{
-    if at + type_record::SIZE <= out.len() {
-        store_record(out, at, kind, key, span, count);
-        return;
-    }
-    let mut bytes = [0u8; 16];
-    store_record(&mut bytes, 0, kind, key, span, count);
-    put_bytes(&bytes, out, at);
 }

@@ -10,6 +10,15 @@ ghost use Rattle.counting_theory.specs.Encoding.{typeSize, typeKind, typeZero, 
 
 pub const SIZE: usize = 16;
 
+// Where the fields of a record begin in it: behind those that stand before them in the format.
+const ZERO_OFFSET: usize = 1;
+
+pub const KEY_OFFSET: usize = 2;
+
+pub const SPAN_OFFSET: usize = 4;
+
+pub const PAYLOAD_OFFSET: usize = 8;
+
 const MAX_LENGTH: usize = 65536;
 
 pub const LAST_SCALAR: u8 = 4;
@@ -31,28 +40,28 @@ pub fn zero_at(b: &[u8], i: usize) -> u8
     requires { ⌜ typeSize * i + typeSize ≤ length (now b) ⌝ }
     ensures { λ r. ⌜ r ≡ typeZero (now (b .entry)) i ⌝ }
 {
-    b[SIZE * i + 1]
+    b[SIZE * i + ZERO_OFFSET]
 }
 
 pub fn key_at(b: &[u8], i: usize) -> usize
     requires { ⌜ typeSize * i + typeSize ≤ length (now b) ⌝ }
     ensures { λ r. ⌜ r ≡ typeKey (now (b .entry)) i ⌝ }
 {
-    number16(b, SIZE * i + 2)
+    number16(b, SIZE * i + KEY_OFFSET)
 }
 
 pub fn span_at(b: &[u8], i: usize) -> usize
     requires { ⌜ typeSize * i + typeSize ≤ length (now b) ⌝ }
     ensures { λ r. ⌜ (r ≡ typeSpan (now (b .entry)) i) × (r < 4294967296) ⌝ }
 {
-    number32(b, SIZE * i + 4)
+    number32(b, SIZE * i + SPAN_OFFSET)
 }
 
 pub fn count_at(b: &[u8], i: usize) -> usize
     requires { ⌜ typeSize * i + typeSize ≤ length (now b) ⌝ }
     ensures { λ r. ⌜ r ≡ typeCount (now (b .entry)) i ⌝ }
 {
-    number64(b, SIZE * i + 8)
+    number64(b, SIZE * i + PAYLOAD_OFFSET)
 }
 
 // A length that is no multiple of the record size, or above the limit.

@@ -1,8 +1,8 @@
 -- Laws of numbers in bytes, over the width.
-use mathlib.Core.Path.{_≡_, refl, ap}
+use mathlib.Core.Path.{_≡_, refl, sym, ap, _∙_}
 use mathlib.Core.List.{List, [], _∷_}
 use Prim.Native.Nat.{ℕ, zero, suc, _+_, _*_, _/_, _%_, _^_, _<_, _≤_}
-use native.Mathlib.Nat.{pow-suc, zero-add, add-zero, suc-add, one-mul, mul-comm, mul-assoc}
+use native.Mathlib.Nat.{pow-suc, zero-add, add-zero, suc-add, one-mul, mul-comm, mul-assoc, div-one, div-div-eq-div-mul}
 use native.Mathlib.Numerals.{add-one}
 use native.Mathlib.Omega.{arith}
 use lib.Dec.{lit<}
@@ -32,6 +32,31 @@ bytesOf-numberOf (x ∷ xs) h =
     let low : (x + 256 * numberOf xs) % 256 ≡ x = omega (arith, h 0) in
     let high : (x + 256 * numberOf xs) / 256 ≡ numberOf xs = omega (arith, h 0) in
     rw (low, high) (ap (λ ys. x ∷ ys) (bytesOf-numberOf xs (λ p. h (suc p))))
+
+-- what lies past the width has no bytes
+pub bytes-past : (w y k : ℕ) → bytesOf w (y + 256 ^ w * k) ≡ bytesOf w y
+unfolding bytesOf
+bytes-past zero y k = refl
+bytes-past (suc w) y k =
+    let e : 256 ^ suc w * k ≡ 256 * (256 ^ w * k) = rw (pow-suc, mul-comm (256 ^ w) 256, mul-assoc) refl in
+    let low : (y + 256 ^ suc w * k) % 256 ≡ y % 256 = omega arith in
+    let high : (y + 256 ^ suc w * k) / 256 ≡ y / 256 + 256 ^ w * k = omega arith in
+    rw (low, high) (ap (λ xs. y % 256 ∷ xs) (bytes-past w (y / 256) k))
+
+number-split : (w n : ℕ) → n ≡ numberOf (bytesOf w n) + 256 ^ w * (n / 256 ^ w)
+unfolding bytesOf numberOf
+number-split zero n = rw div-one (omega arith)
+number-split (suc w) n =
+    let e : n / 256 ^ suc w ≡ n / 256 / 256 ^ w = rw (div-div-eq-div-mul, pow-suc, mul-comm (256 ^ w) 256) refl in
+    let f : 256 ^ suc w * (n / 256 / 256 ^ w) ≡ 256 * (256 ^ w * (n / 256 / 256 ^ w)) = rw (pow-suc, mul-comm (256 ^ w) 256, mul-assoc) refl in
+    rw e (omega (arith, f, number-split w (n / 256)))
+
+-- n more than a number that was read from its bytes
+pub bytes-more : (w m n : ℕ) → bytesOf w (numberOf (bytesOf w m) + n) ≡ bytesOf w (m + n)
+bytes-more w m n =
+    let x = numberOf (bytesOf w m) in
+    let e : x + n + 256 ^ w * (m / 256 ^ w) ≡ m + n = omega (arith, number-split w m) in
+    sym (bytes-past w (x + n) (m / 256 ^ w)) ∙ ap (bytesOf w) e
 
 -- a number of one byte more, from its lowest byte
 pub numberAt-suc : (w : ℕ) (b : List ℕ) (p : ℕ) → p < length b → numberAt (suc w) b p ≡ getD b p 0 + 256 * numberAt w b (p + 1)

@@ -12,7 +12,6 @@ use Rattle.value_table.specs.Value.{maxLength, maxDepth, recordKind}
 use Rattle.counting_type.specs.declared.addend.Level.{Level}
 use Rattle.counting_theory.specs.Trie.{nil, node, total, largestBelow, largestTotal}
 use Rattle.counting_theory.specs.Label.{Equivalence, Label, fieldKind, Counting, CountingType}
-use Rattle.counting_theory.specs.Place.{FieldTotals}
 use Rattle.counting_theory.specs.Encoding.{typePayload, typeKind, typeCount, typeOf, Tagged}
 use Rattle.counting_theory.specs.WellFormed.{maxTotal, depthInside, Shallow, IsType}
 use Rattle.type_arena.specs.Arena.{under, labelAt}
@@ -21,7 +20,7 @@ use Rattle.counting_type.specs.Merging.{depthOf, Part, insideOf, exceeds
 use Rattle.counting_theory.proofs.Label.{kind-eq}
 use Rattle.counting_theory.proofs.Tagged.Parts.{holdsFields}
 use Rattle.counting_theory.proofs.WellFormed.Nodes.{Placed, depthUnder, shallow-parts}
-use Rattle.counting_theory.proofs.WellFormed.Fitting.{count-within}
+use Rattle.counting_theory.proofs.WellFormed.Fitting.{weight-addend, count-within}
 use Rattle.counting_theory.proofs.Encoding.Header.{length-encode, payload-count}
 use Rattle.counting_theory.proofs.WellFormed.Limit.{limit-totals}
 use Rattle.type_arena.proofs.FirstAddend.{Addend, addend, coded-type, type-coded}
@@ -46,7 +45,6 @@ shallow-inside false left l c low some h = go (eqb (l .kind) recordKind) h
 pub record Head (level : Level) (x : List ℕ) : Type 0 where
   pub first : Addend (under (level .label)) (level .field) x
   pub level-left : cond (level .field) 0 1 ≤ level .left
-  pub count-low : typeCount x 0 ≤ maxTotal
   pub in-body : Part (insideOf level (typeKind x 0)) (body x)
   pub in-rest : Part level (rest x)
   pub light : exceeds (typeOf (under (level .label)) (body x)) ≡ false
@@ -62,22 +60,19 @@ head {level} {x} p h =
     let shallow : Shallow (level .field) (depthOf level) (node l (typePayload x 0) c s) = rw (a .is-type) at (p .shallow) in
     let q = shallow-parts (level .field) (depthOf level) l (typePayload x 0) c s shallow in
     let limit : largestTotal Counting (node l (typePayload x 0) c s) ≤ maxTotal = rw (a .is-type) at (p .limit) in
-    let totals : FieldTotals (node l (typePayload x 0) c s) = rw (a .is-type) at (p .totals) in
     let some = level-left (level .field) (level .left) l (q .0) in
     let low : largestTotal Counting c ≤ maxTotal = omega (arith, limit) in
     record {
       first = a;
       level-left = some;
-      count-low = rw (payload-count x 0) at (count-within e (level .field) l (typePayload x 0) c s (a .is-shape) (totals .0) limit);
       in-body =
           record {
             coded = a .in-body;
             shallow = shallow-inside (level .field) (level .left) l c (p .left-low) some (q .1);
             left-low = omega (arith, p .left-low);
             limit = low;
-            totals = totals .1;
           };
-      in-rest = record { coded = a .in-rest; shallow = q .2; left-low = p .left-low; limit = omega (arith, limit); totals = totals .2 };
+      in-rest = record { coded = a .in-rest; shallow = q .2; left-low = p .left-low; limit = omega (arith, limit) };
       light = le-ltb maxTotal _ low;
     }
 
@@ -89,7 +84,6 @@ type-part label x t =
       shallow = t .shallow;
       left-low = le-refl maxDepth;
       limit = limit-totals (typeOf (under label) x) (t .limit);
-      totals = t .totals;
     }
 
 pub type-short : {e : Equivalence} {x : List ℕ} → IsType e x (typeOf e x) → length x ≤ maxLength

@@ -9,15 +9,16 @@ use lib.Dec.{ltb}
 use lib.ListN.{length, length-append}
 use lib.Seq.{sets, length-sets}
 use Rattle.counting_type.specs.declared.addend.Level.{Level}
-use Rattle.counting_theory.specs.Payload.{join}
-use Rattle.counting_theory.proofs.Encoding.Header.{payload-count}
+use Rattle.counting_theory.specs.Payload.{Payload, join}
 use Rattle.counting_theory.specs.Trie.{size, total}
 use Rattle.counting_theory.specs.Label.{Equivalence, Counting}
-use Rattle.counting_theory.specs.Encoding.{typePayload, typeSize, typeKind, typeKey, typeCount, typeOf}
+use Rattle.counting_theory.specs.Encoding.{typePayload, typeSize, typeKind, typeKey, typeOf}
 use Rattle.counting_theory.specs.WellFormed.{maxTotal}
 use Rattle.type_arena.specs.Arena.{headerOf}
 use Rattle.type_arena.specs.Addend.{front, body, rest}
 use Rattle.counting_type.specs.Merging.{Part, insideOf, exceedsBelow, both, mergedBytes, joinedBytes, Kept, Ran, Stored, Joined}
+use Rattle.type_arena.specs.Payload.{payloadBytes}
+use Rattle.type_arena.proofs.PayloadBytes.{header-same}
 use Rattle.type_arena.proofs.Sets.{sets-append, sets-last, length-headerOf}
 use Rattle.type_arena.proofs.FirstAddend.{body-rest, front-rest}
 use Rattle.counting_type.proofs.TypeMerge.Part.{Head}
@@ -121,24 +122,19 @@ pub stored-inside : (level : Level) (kind : ℕ) {inner : Level} {v w out out₁
     Stored (At inner) v w out at out₁ n p → Stored (At level) v w out at out₁ n p
 stored-inside level kind e m = rw e at m
 
--- the counts of two records, added
-joined-count : (x y : List ℕ) → record { count = typeCount x 0 + typeCount y 0 } ≡ join (typePayload x 0) (typePayload y 0)
-unfolding join
-joined-count x y = rw (payload-count x 0, payload-count y 0) refl
-
 -- the merge inside, and then the header before it
-pub addend-done : {e : Equivalence} {x y v w out out₁ out₂ : List ℕ} {at n kind key i j : ℕ} {over p q : Bool} → v ≡ body x → w ≡ body y →
-    Stored e v w out (at + typeSize) out₁ n p → kind ≡ typeKind x 0 → key ≡ typeKey x 0 → i ≡ typeCount x 0 → j ≡ typeCount y 0 →
-    out₂ ≡ sets out₁ at (headerOf kind key (n / typeSize + 1) (record { count = i + j })) → q ≡ (over || p) → Joined e x y out at over out₂ (at + typeSize + n) q
+pub addend-done : {e : Equivalence} {x y v w out out₁ out₂ : List ℕ} {at n kind key : ℕ} {over p q : Bool} (i j k : Payload) → v ≡ body x → w ≡ body y →
+    Stored e v w out (at + typeSize) out₁ n p → kind ≡ typeKind x 0 → key ≡ typeKey x 0 → i ≡ typePayload x 0 → j ≡ typePayload y 0 → payloadBytes k ≡ payloadBytes (join i j) →
+    out₂ ≡ sets out₁ at (headerOf kind key (n / typeSize + 1) k) → q ≡ (over || p) → Joined e x y out at over out₂ (at + typeSize + n) q
 unfolding joinedBytes
-addend-done {e} {x} {y} {v} {w} {out} {out₁} {at = at} {n = n} {over = over} {p = p} f g m a b c d z t =
+addend-done {e} {x} {y} {v} {w} {out} {out₁} {at = at} {n = n} {over = over} {p = p} i j u f g m a b c d h z t =
     let r : Stored e (body x) (body y) out (at + typeSize) out₁ n p = rw (f, g) at m in
     let span : ℕ = 1 + size (both e (body x) (body y)) in
     let l : n / typeSize + 1 ≡ span = omega (arith, r .counted, length-merged e (body x) (body y)) in
     let H : List ℕ = headerOf (typeKind x 0) (typeKey x 0) span (join (typePayload x 0) (typePayload y 0)) in
     let k : at + typeSize ≡ at + length H = ap (λ u. at + u) (sym (length-headerOf (typeKind x 0) (typeKey x 0) span (join (typePayload x 0) (typePayload y 0)))) in
     record {
-      bytes = z ∙ rw (r .bytes, a, b, c, d, joined-count x y, l, k) (sets-last H (mergedBytes e (body x) (body y)) out at);
+      bytes = z ∙ rw (r .bytes, header-same _ _ _ u (join i j) h, a, b, c, d, l, k) (sets-last H (mergedBytes e (body x) (body y)) out at);
       upto = omega (arith, r .counted, length-joined e x y);
       seen = t ∙ ap (λ u. over || u) (r .seen);
     }

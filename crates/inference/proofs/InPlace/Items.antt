@@ -3,7 +3,6 @@ use mathlib.Core.Path.{_≡_, refl, _∙_, ap}
 use mathlib.Core.Bool.{Bool, true, false, cond}
 use mathlib.Core.List.{List, [], _∷_}
 use Prim.Native.Nat.{ℕ, suc, _+_, _*_, _≤_, _<_}
-use native.Mathlib.Nat.{mul-one}
 use native.Mathlib.Omega.{arith}
 use lib.Dec.{eqb, leb}
 use lib.ListN.{length}
@@ -13,13 +12,14 @@ use Rattle.inference.specs.declared.key_list.Listed.{Listed}
 use Rattle.inference.specs.declared.key_list.Listed.the-variants.{Keys, TooMany}
 use Rattle.inference.specs.declared.placing.Put.{Put}
 use Rattle.inference.specs.declared.placing.Put.the-variants.{NoRoom, At}
-use Rattle.counting_theory.specs.Payload.{Payload, one, oneField, copies}
+use Rattle.counting_theory.specs.Payload.{Payload}
 use Rattle.counting_theory.specs.Trie.{nil, node, size, insert, add, profile}
-use Rattle.counting_theory.specs.Label.{Equivalence, byKind, byLabel, Label, fieldKind, listed, Counting, CountingType}
+use Rattle.counting_theory.specs.Label.{Equivalence, byKind, byLabel, Label, listed, Counting, CountingType}
 use Rattle.counting_theory.specs.Raw.{insertKey, ascending, raw}
 use Rattle.counting_theory.specs.Encoding.{typeSize, siblingKeys}
 use Rattle.counting_theory.specs.Times.{times}
-use Rattle.inference.specs.Inferring.{keysOf, ListedIn, LabelListed, wanted, labelFor, withItem, itemPayload, split, grown, Siblings, TableRun, PlacedAt, CountedWithin}
+use Rattle.type_arena.specs.Payload.{itemPayload}
+use Rattle.inference.specs.Inferring.{keysPerRecord, keysOf, ListedIn, LabelListed, wanted, labelFor, withItem, split, grown, Siblings, TableRun, PlacedAt, CountedWithin}
 use Rattle.counting_theory.proofs.Label.{counting-laws}
 use Rattle.counting_theory.proofs.Trie.Growth.{add-grows, profile-grows}
 use Rattle.counting_theory.proofs.Tagged.Profile.{inferred}
@@ -49,15 +49,6 @@ module _ (l : Label) (a : Payload) (g : CountingType → CountingType) (f : Coun
   unfolding size
   insert-size = ap size (insert-split l a g f) ∙ size-append (split l f .before) (node l (grown (split l f .payload) a) (g (split l f .content)) (split l f .after))
 
--- the payload of an item is its weight
-pub item-is : (w kind : ℕ) (vs : Values) → itemPayload w kind vs ≡ record { count = w }
-unfolding copies one oneField
-item-is w kind vs = go (eqb kind fieldKind)
-  where
-    go : (t : Bool) → copies w (cond t oneField (one (record { kind = kind }) vs)) ≡ record { count = w }
-    go true = λ i. record { count = mul-one w i }
-    go false = λ i. record { count = mul-one w i }
-
 -- a place that is missing for the label alone is missing for the whole item
 module _ (e : Equivalence) (kind key w : ℕ) (vs : Values) (f : CountingType) (q : List ℕ) (rest : ℕ) where
   abbrev l : Label
@@ -69,8 +60,8 @@ module _ (e : Equivalence) (kind key w : ℕ) (vs : Values) (f : CountingType) (
       omega (arith, insert-size l (itemPayload w kind vs) (add Counting r) f, add-grows counting-laws r (split l f .content) .sizes)
   located-at (At p n) b h = h
 
-  pub located : (m : Label) → m ≡ l → (r : Put) (b : List ℕ) → PlacedAt m (record { count = w }) f q rest r b → CountedWithin (size (withItem e kind key w vs f) + rest) (split l f) l (itemPayload w kind vs) q r b
-  located m z r b h = located-at r b (rw (item-is w kind vs) (rw z at h))
+  pub located : (m : Label) (a : Payload) → m ≡ l → a ≡ itemPayload w kind vs → (r : Put) (b : List ℕ) → PlacedAt m a f q rest r b → CountedWithin (size (withItem e kind key w vs f) + rest) (split l f) l (itemPayload w kind vs) q r b
+  located m a z y r b h = located-at r b (rw (z, y) at h)
 
 length-insert : (k : ℕ) (xs : List ℕ) → length (insertKey k xs) ≡ suc (length xs)
 unfolding insertKey
@@ -99,7 +90,7 @@ fields-size e w t vs c o r h =
     omega (arith, ap length i, length-ascending (keys vs), siblings-size p, profile-grows counting-laws (raw e true vs) c (h .sorted) .sizes, times-grows w (raw e true vs) c o (h .sorted))
 
 pub too-many : (e : Equivalence) (field : Bool) (kind key w : ℕ) (t : List ℕ) (vs : Values) (f : CountingType) → 1 ≤ w → kind ≡ recordKind → TableRun (eqb kind recordKind) t vs → Siblings e field f →
-    (rest k n : ℕ) → n < 2 * length (keys vs) → k ≤ 8 * n → k < typeSize * (size (withItem e kind key w vs f) + rest)
+    (rest k n : ℕ) → n < 2 * length (keys vs) → k ≤ keysPerRecord * n → k < typeSize * (size (withItem e kind key w vs f) + rest)
 too-many e field kind key w t vs f o z r h rest k n i j =
     let b = eq-eqb kind recordKind z in
     let l = labelFor e kind key vs in

@@ -1,16 +1,19 @@
--- A weight is counted at a label: in its record, or in a new record in a gap.
+-- A payload is added at a label: to that of its record, or in a new record in a gap.
 use mathlib.Core.Path.{_≡_, refl, _∙_, ap}
 use mathlib.Core.Bool.{Bool}
 use mathlib.Core.List.{List, _++_, append-assoc}
 use Prim.Native.Nat.{ℕ, _+_, _-_, _*_, _≤_, _<_}
 use native.Mathlib.Omega.{arith}
 use lib.ListN.{length, take, drop, length-append}
-use lib.Seq.{take-at, drop-append-add}
+use lib.Seq.{take-at, drop-append-add, sets}
 use borrow.Rule.Slice.PartMut.{putMid}
 use Rattle.counting_theory.specs.Payload.{Payload, join}
 use Rattle.counting_theory.specs.Trie.{node, size}
 use Rattle.counting_theory.specs.Label.{Equivalence, Label, CountingType}
-use Rattle.counting_theory.specs.Encoding.{typeSize, header, encode}
+use Rattle.counting_theory.specs.Encoding.{typeSize, typePayload, header, encode}
+use Rattle.type_arena.specs.Arena.{headerOf}
+use Rattle.type_arena.specs.Payload.{payloadOffset, payloadBytes}
+use Rattle.type_arena.proofs.PayloadBytes.{payload-joined}
 use Rattle.inference.specs.Inferring.{Holds, Split, grown, Counted}
 use Rattle.counting_theory.proofs.Encoding.Header.{length-encode}
 use Rattle.inference.proofs.InPlace.Part.{tail-part, tail-put}
@@ -25,7 +28,7 @@ module _ {e : Equivalence} {field : Bool} {a : List ℕ} {n rest : ℕ} {f : Cou
   pub holds-length : length a ≡ typeSize * n + typeSize * rest + length free
   holds-length = ap length (h .bytes) ∙ simp length-append (omega (arith, length-encode f, h .count, h .used))
 
-  module _ (l : Label) (x : Split) (p : ℕ) (w : Payload) where
+  module _ (l : Label) (x : Split) (p : ℕ) where
     module _ (v : HereAt x l 0 f p) where
       here-front : length (encode (x .before)) ≡ typeSize * p
       here-front = omega (arith, length-encode (x .before), v .spot-is)
@@ -47,17 +50,15 @@ module _ {e : Equivalence} {field : Bool} {a : List ℕ} {n rest : ℕ} {f : Cou
       pub here-as-is : Counted x l (v .held) q p n a
       here-as-is = record { place = omega (arith, v .spot-is); count = here-count; free = free; bytes = here-bytes }
 
-      pub here-counted : (b : List ℕ) →
-          ((l : Label) (span : ℕ) (y : Payload) (q : List ℕ) → take (length a - typeSize * p) (drop (typeSize * p) a) ≡ header l span y ++ q → b ≡ header l span (join y w) ++ q) →
-          Counted x l (grown (x .payload) w) q p n (putMid (typeSize * p) (length a - typeSize * p) a b)
+      pub here-counted : (w : Payload) (b : List ℕ) → b ≡ sets a (typeSize * p + payloadOffset) (payloadBytes (join (typePayload a p) w)) →
+          Counted x l (grown (x .payload) w) q p n b
       unfolding grown
-      here-counted b z =
+      here-counted w b z =
           record {
             place = omega (arith, v .spot-is);
             count = here-count;
             free = free;
-            bytes = tail-put a (encode (x .before)) here-tail _ here-bytes here-front b
-                ∙ rw (v .held-is) (ap (λ t. encode (x .before) ++ t) (z _ _ _ _ (tail-part a (encode (x .before)) here-tail _ here-bytes here-front)));
+            bytes = z ∙ payload-joined a (encode (x .before)) p l (1 + size (x .content)) (v .held) _ here-bytes here-front w ∙ rw (v .held-is) refl;
           }
 
     module _ (v : MissingAt x 0 f p) where
@@ -81,11 +82,11 @@ module _ {e : Equivalence} {field : Bool} {a : List ℕ} {n rest : ℕ} {f : Cou
           k < typeSize * (size (x .before) + (1 + (size (x .content) + size (x .after))) + rest)
       missing-full k i j = omega (arith, missing-count)
 
-      pub missing-counted : (b : List ℕ) → let t = take (length a - typeSize * p) (drop (typeSize * p) a) in let k = typeSize * (n + rest) - typeSize * p in
-          b ≡ header l 1 w ++ (take k t ++ drop (k + typeSize) t) →
+      pub missing-counted : (w : Payload) (b : List ℕ) → let t = take (length a - typeSize * p) (drop (typeSize * p) a) in let k = typeSize * (n + rest) - typeSize * p in
+          b ≡ headerOf (l .kind) (l .key) 1 w ++ (take k t ++ drop (k + typeSize) t) →
           Counted x l (grown (x .payload) w) q p (n + 1) (putMid (typeSize * p) (length a - typeSize * p) a b)
-      unfolding size encode grown
-      missing-counted b z =
+      unfolding size encode header grown
+      missing-counted w b z =
           let none : size (x .content) ≡ 0 = ap size (v .empty) in
           let k = typeSize * (n + rest) - typeSize * p in
           let moved : List ℕ = encode (x .after) ++ q in

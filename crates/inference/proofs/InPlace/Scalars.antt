@@ -8,13 +8,13 @@ use native.Mathlib.Decide.{decLt}
 use native.Mathlib.Omega.{arith}
 use lib.Dec.{eqb}
 use lib.ListN.{length, take, drop}
-use borrow.Author.Tests.{lt-ltb, le-ltb}
+use borrow.Author.Tests.{lt-ltb, le-ltb, ne-eqb}
 use borrow.Rule.Slice.PartMut.{putMid}
 use Rattle.value_table.specs.Value.{recordSize, maxLength, recordKind, lastScalar, kindAt, keyAt, spanAt, Values, none, value, keys}
 use Rattle.value_table.specs.Value as table
 use Rattle.inference.specs.declared.inferring.Item.{Item}
 use Rattle.inference.specs.declared.placing.Put.the-variants.{At}
-use Rattle.counting_theory.specs.Payload.{one, copies}
+use Rattle.type_arena.specs.Payload.{itemPayload}
 use Rattle.counting_theory.specs.Trie.{nil, node, append, size, insert, add}
 use Rattle.counting_theory.specs.Label.{Equivalence, Label, fieldKind, compareLabel, Counting, CountingType}
 use Rattle.counting_theory.specs.Raw.{ascending, raw}
@@ -27,7 +27,7 @@ use Rattle.counting_theory.proofs.Label.{kind-eq, key-eq}
 use Rattle.counting_theory.proofs.LabelOrder.{kind-less, kind-more, key-more, no-record}
 use Rattle.counting_theory.proofs.Tagged.Parts.{listed-field, Shape, tagged-parts}
 use Rattle.inference.proofs.InPlace.Append.{siblings-last}
-use Rattle.inference.proofs.InPlace.Items.{label-is, item-is}
+use Rattle.inference.proofs.InPlace.Items.{label-is}
 use Rattle.inference.proofs.InPlace.Nodes.{node-in}
 use Rattle.inference.proofs.InPlace.Placing.{holds-length, here-as-is}
 use Rattle.inference.proofs.InPlace.Seeking.{Seen, from-bytes, from-count, seen-start, seen-at, stop, not-both}
@@ -126,10 +126,10 @@ module _ (label : Bool) {b : List ℕ} {n rest : ℕ} {f : CountingType} {q free
 abbrev scalar : ℕ → ℕ → Values
 scalar kind key = value (record { kind = kind }) key none none
 
-scalar-material : (e : Equivalence) (kind key w : ℕ) (c : CountingType) →
-    add Counting (times w (raw e (eqb fieldKind recordKind) (scalar kind key))) c ≡ insert Counting (plain e kind 0) (record { count = w }) (add Counting nil) c
-unfolding raw times add numbersOf ascending keys one copies
-scalar-material e kind key w c = ap (λ k. insert Counting (plain e kind 0) (record { count = k }) (add Counting nil) c) (mul-one w)
+scalar-material : (e : Equivalence) (kind key w : ℕ) (c : CountingType) → kind ≤ lastScalar →
+    add Counting (times w (raw e (eqb fieldKind recordKind) (scalar kind key))) c ≡ insert Counting (plain e kind 0) (itemPayload w kind none) (add Counting nil) c
+unfolding raw times add numbersOf ascending keys
+scalar-material e kind key w c h = rw (ne-eqb kind fieldKind (λ z. omega arith)) refl
 
 field-label : (e : Equivalence) (key : ℕ) (vs : Values) → plain e fieldKind key ≡ labelFor e fieldKind key vs
 field-label e key vs = label-is e fieldKind key 0 [] vs (listed-field e _ ∙ sym (listed-field e _))
@@ -149,7 +149,7 @@ module _ {e : Equivalence} {a : List ℕ} {n rest : ℕ} {f : CountingType} {q f
   field-starts = record { first = _; last = _; whole = field-here .whole; count = omega (arith, field-here .spot-is) }
 
   pub uncounted : Counted (split l f) l (field-here .held) q p n a
-  uncounted = here-as-is h l (split l f) p (record { count = 0 }) field-here
+  uncounted = here-as-is h l (split l f) p field-here
 
   pub union-span : typeSpan a p ≡ 1 + size union
   union-span = step-span f rest (h .used) (h .short) uncounted
@@ -161,24 +161,24 @@ module _ {e : Equivalence} {a : List ℕ} {n rest : ℕ} {f : CountingType} {q f
     pub union-holds : Holds e false (take (length a - (typeSize * p + typeSize)) (drop (typeSize * p + typeSize) a)) (s - 1) (n + rest - p - s) union (encode (split l f .after) ++ q) (uncounted .free)
     union-holds = step-holds f rest (h .used) (h .short) uncounted s (es ∙ union-span) e true (h .siblings)
 
-    module _ (w : ℕ) {b : List ℕ} (y : Counted (split l f) l (grown (split l f .payload) (record { count = w })) q p n b) (short : length b ≤ maxLength) where
+    module _ (w kind : ℕ) {b : List ℕ} (y : Counted (split l f) l (grown (split l f .payload) (itemPayload w fieldKind (scalar kind key))) q p n b) (short : length b ≤ maxLength) where
       pub counted-union : Holds e false (take (length b - (typeSize * p + typeSize)) (drop (typeSize * p + typeSize) b)) (s - 1) (n + rest - p - s) union (encode (split l f .after) ++ q) (y .free)
       counted-union = step-holds f rest (h .used) short y s (es ∙ union-span) e true (h .siblings)
 
-      module _ (kind : ℕ) {i : ℕ} {z : List ℕ} (k : Counted (split (plain e kind 0) union) (plain e kind 0) (grown (split (plain e kind 0) union .payload) (record { count = w })) (encode (split l f .after) ++ q) i (s - 1) z) (small : length z ≤ maxLength) where
+      module _ (low : kind ≤ lastScalar) {i : ℕ} {z : List ℕ} (k : Counted (split (plain e kind 0) union) (plain e kind 0) (grown (split (plain e kind 0) union .payload) (itemPayload w kind none)) (encode (split l f .after) ++ q) i (s - 1) z) (small : length z ≤ maxLength) where
         abbrev more : CountingType → CountingType
         more = add Counting (times w (raw e (eqb fieldKind recordKind) (scalar kind key)))
 
         union-grown : Grown (more union) (encode (split l f .after) ++ q) (s - 1) z
         unfolding add
         union-grown =
-            rw (scalar-material e kind key w union)
-            (step-empty union (n + rest - p - s) (counted-union .used) small k (record { count = w }) refl (add Counting nil) (λ c. refl))
+            rw (scalar-material e kind key w union low)
+            (step-empty union (n + rest - p - s) (counted-union .used) small k (itemPayload w kind none) refl (add Counting nil) (λ c. refl))
 
         pub scalar-counted : Grown (withScalar e key kind w f) q n (putMid (typeSize * p + typeSize) (length b - (typeSize * p + typeSize)) b z)
         scalar-counted =
-            rw (← item-is w fieldKind (scalar kind key), field-label e key (scalar kind key)) at
-            (step-kept f rest (h .used) short y s (es ∙ union-span) (record { count = w }) refl more z union-grown)
+            rw (field-label e key (scalar kind key)) at
+            (step-kept f rest (h .used) short y s (es ∙ union-span) (itemPayload w fieldKind (scalar kind key)) refl more z union-grown)
 
 -- one field of a run is counted
 module _ {e : Equivalence} {w : ℕ} {vs : Values} {f : CountingType} {q a t : List ℕ} {n i from : ℕ} (x : Ran e true w vs f q a t n i from)

@@ -1,17 +1,15 @@
 -- An item is counted and what is below it added: its record's span is stored once that has grown.
 use mathlib.Core.Path.{_≡_, refl, _∙_, ap}
 use mathlib.Core.Bool.{Bool}
-use mathlib.Core.List.{List, [], _∷_, _++_, append-assoc}
-use Prim.Native.Nat.{ℕ, suc, _+_, _-_, _*_, _^_, _≤_, _<_}
-use native.Mathlib.Nat.{zero-add, suc-add, add-suc}
+use mathlib.Core.List.{List, _++_, append-assoc}
+use Prim.Native.Nat.{ℕ, _+_, _-_, _*_, _^_, _≤_, _<_}
 use native.Mathlib.Omega.{arith}
 use lib.Dec.{eqb}
-use lib.ListN.{length, take, drop, set, length-append, length-take, length-drop}
-use lib.Seq.{drop-drop, sets}
+use lib.ListN.{length, take, drop, length-append, length-take, length-drop}
+use lib.Seq.{sets}
 use borrow.Rule.Slice.PartMut.{putMid}
-use Rattle.value_table.specs.Number.{bytesOf, numberAt}
+use Rattle.value_table.specs.Number.{bytesOf}
 use Rattle.value_table.specs.Value.{maxLength, recordKind, Values}
-use Rattle.value_table.proofs.Number.{numberOf-bytesOf}
 use Rattle.inference.specs.declared.inferring.Inferred.{Inferred}
 use Rattle.inference.specs.declared.inferring.Inferred.the-variants.{Records, Full}
 use Rattle.value_table.proofs.Format.{field-set, field-read, length-record, sets-behind}
@@ -21,6 +19,7 @@ use Rattle.counting_theory.specs.Label.{Equivalence, Label, Counting, CountingT
 use Rattle.counting_theory.specs.Raw.{raw}
 use Rattle.counting_theory.specs.Encoding.{typeFormat, typeSize, typeSpan, recordNumbers, header, encode}
 use Rattle.counting_theory.specs.Times.{times}
+use Rattle.type_arena.specs.Arena.{spanOffset}
 use Rattle.inference.specs.Inferring.{TableRun, Siblings, Holds, Starts, Split, split, grown, Counted, Grown, Added}
 use Rattle.counting_theory.proofs.Encoding.Header.{length-encode}
 use Rattle.inference.proofs.InPlace.Runs.{none-left}
@@ -30,7 +29,7 @@ use Rattle.inference.proofs.InPlace.Splits.{insert-split, content-sibli
 use Rattle.inference.proofs.InPlace.Placing.{encode-node}
 use Rattle.inference.proofs.InPlace.Items.{insert-size}
 
-span-stored : (l : Label) (n : ℕ) (a : Payload) (k : ℕ) (x : List ℕ) → sets (header l n a ++ x) 4 (bytesOf 4 k) ≡ header l k a ++ x
+span-stored : (l : Label) (n : ℕ) (a : Payload) (k : ℕ) (x : List ℕ) → sets (header l n a ++ x) spanOffset (bytesOf 4 k) ≡ header l k a ++ x
 unfolding header
 span-stored l n a k x = field-set typeFormat (recordNumbers l n a) x 3 k (omega arith)
 
@@ -117,7 +116,7 @@ module _ {l : Label} {w : Payload} (f : CountingType) {q : List ℕ} (rest : ℕ
       step-put z = tail-put b head tail (typeSize * p + typeSize) head-tail head-length z ∙ append-assoc (encode (x .before)) (header l (1 + size (x .content)) w) z
 
       pub step-grown : (k : ℕ) (z b′ : List ℕ) → Grown (g (x .content)) (encode (x .after) ++ q) k z →
-          b′ ≡ sets (putMid (typeSize * p + typeSize) (length b - (typeSize * p + typeSize)) b z) (typeSize * p + 4) (bytesOf 4 (k + 1)) →
+          b′ ≡ sets (putMid (typeSize * p + typeSize) (length b - (typeSize * p + typeSize)) b z) (typeSize * p + spanOffset) (bytesOf 4 (k + 1)) →
           Grown (insert Counting l a g f) q (m + (k + 1) - s) b′
       step-grown k z b′ v h =
           let i : k + 1 ≡ 1 + size (g (x .content)) = omega (arith, v .count) in
@@ -125,7 +124,7 @@ module _ {l : Label} {w : Payload} (f : CountingType) {q : List ℕ} (rest : ℕ
             count = omega (arith, insert-size l a g f, y .count, y .place, v .count);
             free = v .free;
             bytes = h
-                ∙ rw (step-put z, ← before-length, sets-behind (encode (x .before)) (header l (1 + size (x .content)) w ++ z) (bytesOf 4 (k + 1)) 4, span-stored, i, v .bytes, insert-split l a g f, is)
+                ∙ rw (step-put z, ← before-length, sets-behind (encode (x .before)) (header l (1 + size (x .content)) w ++ z) (bytesOf 4 (k + 1)) spanOffset, span-stored, i, v .bytes, insert-split l a g f, is)
                 (simp (encode-append, encode-node, append-assoc));
           }
 

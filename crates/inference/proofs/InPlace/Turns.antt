@@ -21,7 +21,8 @@ use Rattle.counting_theory.specs.Encoding.{typeSize}
 use Rattle.counting_theory.specs.Encoding as bytes
 use Rattle.type_arena.specs.Arena.{InTable}
 use Rattle.counting_theory.specs.Times.{times}
-use Rattle.inference.specs.Inferring.{TableRun, Siblings, Holds, Starts, split, Grown, AddedAt, labelFor, itemPayload, withItem, Weighed, ItemAt, EqualRecords, resumed}
+use Rattle.type_arena.specs.Payload.{itemPayload}
+use Rattle.inference.specs.Inferring.{TableRun, Siblings, Holds, Starts, split, Grown, AddedAt, labelFor, withItem, Weighed, ItemAt, EqualRecords, resumed}
 use Rattle.inference.specs.ScalarFields.{Ran}
 use Rattle.counting_theory.proofs.Label.{counting-laws}
 use Rattle.counting_theory.proofs.Trie.Growth.{add-grows}

@@ -21,8 +21,8 @@ pub +merge-addend+merge-run+merge-union-spec : {M : Type 1} → statement M
     close μ-addend μ-run μ-union
     (λ t. merge-addend-lts.spec (addend-calls t) (addend-at t) merge-addend.Post
     (addend.kind-at-requires t) (addend.inside-requires t) (addend.body-of-requires t) (addend.body-of-requires-2 t)
-    (addend.add-merge-union t) (addend.merge-union-requires t) (addend.add-span t) (addend.count-at-requires t)
-    (addend.count-at-requires-2 t) (addend.add-count t) (addend.key-at-requires t) (addend.put-record-requires t) (addend.add-at t)
+    (addend.add-merge-union t) (addend.merge-union-requires t) (addend.add-span t) (addend.payload-at-requires t)
+    (addend.payload-at-requires-2 t) (addend.join-requires t) (addend.key-at-requires t) (addend.put-record-requires t) (addend.add-at t)
     (addend.add-at-2 t) (addend.either-requires t) (addend.same-length t) (addend.returns t))
     (λ t. merge-run-lts.spec (run-calls t) (run-at t) merge-run.Post Inv-loop μ-loop
     (run.loop-holds t) (run.append-requires t) (run.same-length t) (run.returns t) (run.compare-labels-requires t) (run.enum-told t)

@@ -8,15 +8,16 @@ use lib.Dec.{eqb}
 use lib.ListN.{length, take, drop, length-take, length-drop}
 use borrow.Author.Needs.{needs}
 use borrow.Rule.Slice.PartMut.{putMid, same-len-mid}
-use Rattle.value_table.specs.Value.{recordKind, Values}
+use Rattle.value_table.specs.Value.{recordSize, recordKind, Values}
 use Rattle.counting_theory.specs.Payload.{Payload}
 use Rattle.counting_theory.specs.Trie.{size, add}
 use Rattle.counting_theory.specs.Label.{Label, Counting, CountingType}
 use Rattle.counting_theory.specs.Raw.{raw}
-use Rattle.counting_theory.specs.Encoding.{encode}
+use Rattle.counting_theory.specs.Encoding.{typeSize, encode}
 use Rattle.type_arena.specs.Arena.{under}
+use Rattle.type_arena.specs.Payload.{itemPayload}
 use Rattle.counting_theory.specs.Times.{times}
-use Rattle.inference.specs.Inferring.{grown as grownTo, itemPayload, TableRun, Holds, split, Counted, Grown, labelFor, withItem, Weighed, AddedAt}
+use Rattle.inference.specs.Inferring.{grown as grownTo, TableRun, Holds, split, Counted, Grown, labelFor, withItem, Weighed, AddedAt}
 use Rattle.inference.specs.ScalarFields.{Ran}
 use Rattle.inference.proofs.InPlace.Steps.{Task, step-length, step-within, step-span, step-empty, nothing-added, step-holds, step-full, step-grown, added-full, added-records, grown-length}
 use Rattle.inference.proofs.InPlace.Turns.{ran-start, ran-holds, ran-end, ran-first, below, below-run, turn-full, turn-room, turn-added, turn-order, turn-measure, turn-few, turn-weighed}
@@ -35,7 +36,7 @@ use Rattle.inference.proofs.scalar_fields.count_standing.Reads as count
 use Rattle.inference.proofs.search.resume_at.Reads as resume-at-reads
 use Rattle.inference.proofs.placing.locate.Reads as locate-reads
 use Rattle.type_arena.proofs.type_record.span_at.Reads as span-at-reads
-use Rattle.type_arena.proofs.store.store32.Reads as store32-reads
+use Rattle.type_arena.proofs.record_store.store_span.Reads as store-span-reads
 use Rattle.inference.proofs.inferring.+add_item+add_run.{statement}
 use Rattle.inference.proofs.inferring.+add_item+add_run.Tie.{close}
 
@@ -58,7 +59,7 @@ abbrev add-run-below : ℕ → In 3 add-run-kinds.ps
 add-run-below t = and 3 add-run-kinds.ps (falls 3 add-run-kinds.ps _<_ μ-add-run t) add-run.Pre
 
 abbrev add-item-calls : ℕ → add-item-lts.Claims
-add-item-calls t = (locate-reads.Asked, locate-reads.Learnt, span-at-reads.Asked, span-at-reads.Learnt, add-run-below t, add-run.Post, store32-reads.Asked, store32-reads.Learnt)
+add-item-calls t = (locate-reads.Asked, locate-reads.Learnt, span-at-reads.Asked, span-at-reads.Learnt, add-run-below t, add-run.Post, store-span-reads.Asked, store-span-reads.Learnt)
 
 module _ (t : ℕ) where
   -- the label has its record
@@ -101,7 +102,7 @@ module _ (t : ℕ) where
     short : length arena ≤ 65536
     short = omega (arith, asked .holds .short, same-arena)
 
-    bound : (place + 1 ≤ records) × (16 * (records + begun .args .rest) ≤ length arena) × (length arena ≤ 65536)
+    bound : (place + 1 ≤ records) × (typeSize * (records + begun .args .rest) ≤ length arena) × (length arena ≤ 65536)
     bound =
         let x = asked in
         omega (arith, short, step-within (x .f) _ (x .holds .used) short (counted x), step-length (x .f) _ (x .holds .used) short (counted x))
@@ -117,7 +118,7 @@ module _ (t : ℕ) where
     numbers : (1 ≤ c .span-at .result) × (place at + c .span-at .result ≤ records at)
     numbers = let x = asked at in omega (arith, span x, step-within (x .f) _ (x .holds .used) (short at) (counted at x))
 
-    inner : (x : Asked at) → Holds (under (begun at .args .label)) (eqb (begun at .args .kind) recordKind) (take (length (arena at) - (16 * place at + 16)) (drop (16 * place at + 16) (arena at)))
+    inner : (x : Asked at) → Holds (under (begun at .args .label)) (eqb (begun at .args .kind) recordKind) (take (length (arena at) - (typeSize * place at + typeSize)) (drop (typeSize * place at + typeSize) (arena at)))
         (c .span-at .result - 1) (records at + begun at .args .rest - place at - c .span-at .result) (split (label at x) (x .f) .content) (encode (split (label at x) (x .f) .after) ++ x .q) (counted at x .free)
     inner x = step-holds (x .f) _ (x .holds .used) (short at) (counted at x) _ (span x) _ (x .field) (x .holds .siblings)
 
@@ -125,22 +126,22 @@ module _ (t : ℕ) where
     material x = times (begun at .args .weight) (raw (under (begun at .args .label)) (eqb (begun at .args .kind) recordKind) (x .vs))
 
   -- what is below it has been added
-  module _ (c : add-item-lts.After-store32-arg (add-item-calls t) (add-item-at t) add-item.Post) where
+  module _ (c : add-item-lts.After-store-span-arg (add-item-calls t) (add-item-at t) add-item.Post) where
     abbrev sp : add-item-lts.After-span-at (add-item-calls t) (add-item-at t) add-item.Post
     sp = c .before .before .before .before .before .before .before .before .before .before .before
 
     abbrev inside : List ℕ
     inside = c .before .before .before .before .before .before .before .before .add-run .last .0
 
-    same : length (putMid (16 * place (at sp) + 16) (length (arena (at sp)) - (16 * place (at sp) + 16)) (arena (at sp)) inside) ≡ length (arena (at sp))
-    same = same-len-mid (16 * place (at sp) + 16) (length (arena (at sp)) - (16 * place (at sp) + 16)) (arena (at sp)) inside (c .before .before .before .before .before .before .before .before .add-run .kept .0)
+    same : length (putMid (typeSize * place (at sp) + typeSize) (length (arena (at sp)) - (typeSize * place (at sp) + typeSize)) (arena (at sp)) inside) ≡ length (arena (at sp))
+    same = same-len-mid (typeSize * place (at sp) + typeSize) (length (arena (at sp)) - (typeSize * place (at sp) + typeSize)) (arena (at sp)) inside (c .before .before .before .before .before .before .before .before .add-run .kept .0)
 
     grown : (x : Asked (at sp)) → Grown (add Counting (material sp x) (split (label (at sp) x) (x .f) .content)) (encode (split (label (at sp) x) (x .f) .after) ++ x .q) (c .before .before .added .given .0 .0) inside
     grown x = added-records _ _ _ inside _ _ (c .before .before .added .given .1) (c .before .before .before .before .before .before .before .before .add-run .ensures _ _ _ (x .vs) (inner sp x) (x .run))
 
-    small : (c .before .before .added .given .0 .0 + 1 < 4294967296) × (16 * place (at sp) + 8 ≤ length (arena (at sp)))
+    small : (c .before .before .added .given .0 .0 + 1 < 4294967296) × (typeSize * place (at sp) + typeSize ≤ length (arena (at sp)))
     small =
-        let n : length inside ≡ length (take (length (arena (at sp)) - (16 * place (at sp) + 16)) (drop (16 * place (at sp) + 16) (arena (at sp)))) = c .before .before .before .before .before .before .before .before .add-run .kept .0 in
+        let n : length inside ≡ length (take (length (arena (at sp)) - (typeSize * place (at sp) + typeSize)) (drop (typeSize * place (at sp) + typeSize) (arena (at sp)))) = c .before .before .before .before .before .before .before .before .add-run .kept .0 in
         omega (arith, grown-length (grown (asked (at sp))), simp (length-take, length-drop) at n, bound (at sp))
 
   add-item-locate-requires : add-item-lts.Need-locate-requires (add-item-calls t) (add-item-at t) add-item.Post
@@ -176,8 +177,8 @@ module _ (t : ℕ) where
   add-item-span-at-requires : add-item-lts.Need-span-at-requires (add-item-calls t) (add-item-at t) add-item.Post
   add-item-span-at-requires c κs = omega (arith, bound (c .before .before))
 
-  add-item-mul-o : add-item-lts.Need-mul-o (add-item-calls t) (add-item-at t) add-item.Post
-  add-item-mul-o c = omega (arith, bound (at c))
+  add-item-mul-inner : add-item-lts.Need-mul-inner (add-item-calls t) (add-item-at t) add-item.Post
+  add-item-mul-inner c = omega (arith, bound (at c))
 
   add-item-add-inner : add-item-lts.Need-add-inner (add-item-calls t) (add-item-at t) add-item.Post
   add-item-add-inner c = omega (arith, bound (at c))
@@ -220,7 +221,7 @@ module _ (t : ℕ) where
   add-item-same-length-5 : add-item-lts.Need-same-length-5 (add-item-calls t) (add-item-at t) add-item.Post
   add-item-same-length-5 c =
       let i = at (c .before .before .before .before .before .before .before .before .before) in
-      same-len-mid (16 * place i + 16) (length (arena i) - (16 * place i + 16)) (arena i) (c .before .before .before .before .before .before .add-run .last .0) (c .before .before .before .before .before .before .add-run .kept .0) ∙ same-arena i
+      same-len-mid (typeSize * place i + typeSize) (length (arena i) - (typeSize * place i + typeSize)) (arena i) (c .before .before .before .before .before .before .add-run .last .0) (c .before .before .before .before .before .before .add-run .kept .0) ∙ same-arena i
 
   add-item-same-length-6 : add-item-lts.Need-same-length-6 (add-item-calls t) (add-item-at t) add-item.Post
   add-item-same-length-6 c = c .before .before .before .before .before .before .add-run .kept .1 .1 .1 .1 .1 .1 .1 .0 ∙ same-work (at (c .before .before .before .before .before .before .before .before .before))
@@ -233,26 +234,23 @@ module _ (t : ℕ) where
       step-full f _ (h .used) (short (at i)) (counted (at i) x) _ (span i x) (payload (at i) x) refl (add Counting (material i x)) (k .last .0)
       (added-full _ _ _ (k .last .0) _ (c .enum-told2 .given .1) (k .ensures _ _ _ vs (inner i x) r))
 
-  add-item-add-store32 : add-item-lts.Need-add-store32 (add-item-calls t) (add-item-at t) add-item.Post
-  add-item-add-store32 c = omega (arith, small c, bound (at (sp c)))
+  add-item-add-store-span : add-item-lts.Need-add-store-span (add-item-calls t) (add-item-at t) add-item.Post
+  add-item-add-store-span c = omega (arith, small c, bound (at (sp c)))
 
-  add-item-add-store32-2 : add-item-lts.Need-add-store32-2 (add-item-calls t) (add-item-at t) add-item.Post
-  add-item-add-store32-2 c = omega (arith, small c, bound (at (sp c)))
+  add-item-store-span-requires : add-item-lts.Need-store-span-requires (add-item-calls t) (add-item-at t) add-item.Post
+  add-item-store-span-requires c κs = omega (arith, small c, same c)
 
-  add-item-store32-requires : add-item-lts.Need-store32-requires (add-item-calls t) (add-item-at t) add-item.Post
-  add-item-store32-requires c κs = omega (arith, small c, same c)
+  add-item-add-t25 : add-item-lts.Need-add-t25 (add-item-calls t) (add-item-at t) add-item.Post
+  add-item-add-t25 c = let i = c .before .before .before in omega (arith, small i, numbers (sp i), bound (at (sp i)))
 
-  add-item-add-t30 : add-item-lts.Need-add-t30 (add-item-calls t) (add-item-at t) add-item.Post
-  add-item-add-t30 c = let i = c .before .before .before in omega (arith, small i, numbers (sp i), bound (at (sp i)))
+  add-item-add-t29 : add-item-lts.Need-add-t29 (add-item-calls t) (add-item-at t) add-item.Post
+  add-item-add-t29 c = let i = c .before .before .before in omega (arith, small i, numbers (sp i), bound (at (sp i)))
 
-  add-item-add-t26 : add-item-lts.Need-add-t26 (add-item-calls t) (add-item-at t) add-item.Post
-  add-item-add-t26 c = let i = c .before .before .before in omega (arith, small i, numbers (sp i), bound (at (sp i)))
-
-  add-item-sub-t39 : add-item-lts.Need-sub-t39 (add-item-calls t) (add-item-at t) add-item.Post
-  add-item-sub-t39 c = let i = c .before .before .before in omega (arith, small i, numbers (sp i), bound (at (sp i)))
+  add-item-sub-t38 : add-item-lts.Need-sub-t38 (add-item-calls t) (add-item-at t) add-item.Post
+  add-item-sub-t38 c = let i = c .before .before .before in omega (arith, small i, numbers (sp i), bound (at (sp i)))
 
   add-item-same-length-7 : add-item-lts.Need-same-length-7 (add-item-calls t) (add-item-at t) add-item.Post
-  add-item-same-length-7 c = let i = c .before .before .before in c .before .before .store32 .kept .0 ∙ same i ∙ same-arena (at (sp i))
+  add-item-same-length-7 c = let i = c .before .before .before in c .before .before .store-span .kept .0 ∙ same i ∙ same-arena (at (sp i))
 
   add-item-same-length-8 : add-item-lts.Need-same-length-8 (add-item-calls t) (add-item-at t) add-item.Post
   add-item-same-length-8 c = let i = c .before .before .before in i .before .before .before .before .before .before .before .before .add-run .kept .1 .1 .1 .1 .1 .1 .1 .0 ∙ same-work (at (sp i))
@@ -262,10 +260,10 @@ module _ (t : ℕ) where
       let i = c .before .before .before in
       let j = at (sp i) in
       let x : Asked j = record { field = field; f = f; q = q; free = free; vs = vs; holds = h; starts = s; run = r } in
-      (step-grown f _ (h .used) (short j) (counted j x) _ (span (sp i) x) (payload j x) refl (add Counting (material (sp i) x)) _ _ _ (grown i x) (c .before .before .store32 .ensures), counted j x .place)
+      (step-grown f _ (h .used) (short j) (counted j x) _ (span (sp i) x) (payload j x) refl (add Counting (material (sp i) x)) _ _ _ (grown i x) (c .before .before .store-span .ensures), counted j x .place)
 
 abbrev add-run-Inv-loop : add-run-lts.InvT-loop
-add-run-Inv-loop a₀ n rest weight t field label work₀ end m₀ i₀ from₀ a work m i from = (end ≡ length t / 8) × (length a ≡ length a₀) × (length work ≡ length work₀) × ((f : CountingType) (q free : List ℕ) (vs : Values) → Holds (under label) field a₀ n rest f q free → TableRun field t vs → Ran (under label) field weight vs f q a t m i from)
+add-run-Inv-loop a₀ n rest weight t field label work₀ end m₀ i₀ from₀ a work m i from = (end ≡ length t / recordSize) × (length a ≡ length a₀) × (length work ≡ length work₀) × ((f : CountingType) (q free : List ℕ) (vs : Values) → Holds (under label) field a₀ n rest f q free → TableRun field t vs → Ran (under label) field weight vs f q a t m i from)
 
 abbrev add-run-μ-loop : add-run-lts.MeasureT-loop
 add-run-μ-loop a₀ n rest weight t field label work₀ end m₀ i₀ from₀ a work m i from = end - i
@@ -318,15 +316,15 @@ module _ (t : ℕ) where
     abbrev table-short : length (asked-of .args .t .now) ≤ 65536
     table-short = short-table (head standing)
 
-    more : 8 * next standing < length (asked-of .args .t .now)
+    more : recordSize * next standing < length (asked-of .args .t .now)
     more = omega (arith, state (head standing) .loop .inv .0, c .if1 .left)
 
-    room : 8 * next standing + 8 ≤ length (asked-of .args .t .now)
+    room : recordSize * next standing + recordSize ≤ length (asked-of .args .t .now)
     room = let v = ran-first (one standing) table-short more in omega (arith, v .within, v .span-is)
 
   -- the order of its numbers
   module _ (c : add-run-lts.After-read-item (add-run-calls t) (add-run-at t) add-run.Post add-run-Inv-loop add-run-μ-loop) where
-    abbrev order : (c .read-item .result .start ≤ 8 * c .read-item .result .next) × (8 * c .read-item .result .next ≤ length (asked-of (c .before) .args .t .now)) × (next (standing (c .before)) < c .read-item .result .next) × (8 * next (standing (c .before)) ≤ c .read-item .result .start)
+    abbrev order : (c .read-item .result .start ≤ recordSize * c .read-item .result .next) × (recordSize * c .read-item .result .next ≤ length (asked-of (c .before) .args .t .now)) × (next (standing (c .before)) < c .read-item .result .next) × (recordSize * next (standing (c .before)) ≤ c .read-item .result .start)
     order = turn-order (one (standing (c .before))) (table-short (c .before)) (more (c .before)) (c .read-item .ensures)
 
   -- the values that equal it
@@ -334,7 +332,7 @@ module _ (t : ℕ) where
     abbrev weight : ℕ
     weight = asked-of (c .before .before) .args .weight * (1 + c .equal-values .result)
 
-    weighed : let x = c .before .read-item .result in Weighed weight (take (8 * x .next - x .start) (drop (x .start) (asked-of (c .before .before) .args .t .now)))
+    weighed : let x = c .before .read-item .result in Weighed weight (take (recordSize * x .next - x .start) (drop (x .start) (asked-of (c .before .before) .args .t .now)))
     weighed =
         let i = c .before .before in
         turn-weighed (one (standing i)) (table-short i) (more i) (c .before .read-item .ensures) (c .equal-values .result) (c .equal-values .ensures) (asked-of i .pre .1 .3)
@@ -507,5 +505,5 @@ module _ (t : ℕ) where
 pub +add-item+add-run-spec : {M : Type 1} → statement M
 +add-item+add-run-spec =
     close μ-add-item μ-add-run
-    (λ t. add-item-lts.spec (add-item-calls t) (add-item-at t) add-item.Post (add-item-locate-requires t) (add-item-enum-known-p t) (add-item-enum-told t) (add-item-same-length t) (add-item-same-length-2 t) (add-item-returns t) (add-item-same-length-3 t) (add-item-same-length-4 t) (add-item-returns-2 t) (add-item-span-at-requires t) (add-item-mul-o t) (add-item-add-inner t) (add-item-add-behind t) (add-item-sub-behind t) (add-item-sub-behind-2 t) (add-item-sub-held t) (add-item-sub-add-run t) (add-item-part-add-run-start t) (add-item-part-add-run-end t) (add-item-add-run-requires t) (add-item-enum-known-added t) (add-item-enum-told-2 t) (add-item-same-length-5 t) (add-item-same-length-6 t) (add-item-returns-3 t) (add-item-add-store32 t) (add-item-add-store32-2 t) (add-item-store32-requires t) (add-item-add-t30 t) (add-item-add-t26 t) (add-item-sub-t39 t) (add-item-same-length-7 t) (add-item-same-length-8 t) (add-item-returns-4 t))
+    (λ t. add-item-lts.spec (add-item-calls t) (add-item-at t) add-item.Post (add-item-locate-requires t) (add-item-enum-known-p t) (add-item-enum-told t) (add-item-same-length t) (add-item-same-length-2 t) (add-item-returns t) (add-item-same-length-3 t) (add-item-same-length-4 t) (add-item-returns-2 t) (add-item-span-at-requires t) (add-item-mul-inner t) (add-item-add-inner t) (add-item-add-behind t) (add-item-sub-behind t) (add-item-sub-behind-2 t) (add-item-sub-held t) (add-item-sub-add-run t) (add-item-part-add-run-start t) (add-item-part-add-run-end t) (add-item-add-run-requires t) (add-item-enum-known-added t) (add-item-enum-told-2 t) (add-item-same-length-5 t) (add-item-same-length-6 t) (add-item-returns-3 t) (add-item-add-store-span t) (add-item-store-span-requires t) (add-item-add-t25 t) (add-item-add-t29 t) (add-item-sub-t38 t) (add-item-same-length-7 t) (add-item-same-length-8 t) (add-item-returns-4 t))
     (λ t. add-run-lts.spec (add-run-calls t) (add-run-at t) add-run.Post add-run-Inv-loop add-run-μ-loop (add-run-loop-holds t) (add-run-count-standing-requires t) (add-run-same-length t) (add-run-same-length-2 t) (add-run-returns t) (add-run-read-item-requires t) (add-run-mul-stop t) (add-run-equal-values-requires t) (add-run-add-w t) (add-run-mul-w t) (add-run-sub-below t) (add-run-part-below-start t) (add-run-part-below-end t) (add-run-add-item-requires t) (add-run-enum-known-p t) (add-run-enum-told t) (add-run-same-length-3 t) (add-run-same-length-4 t) (add-run-returns-2 t) (add-run-resume-at-requires t) (add-run-sub-i t) (add-run-mul-i t) (add-run-add-i t) (add-run-loop-less t) (add-run-loop-again t) (add-run-same-length-5 t) (add-run-same-length-6 t) (add-run-returns-3 t))

@@ -31,10 +31,13 @@ enum-told c = search needs
 enum-known-keys : tie.Need-enum-known-keys
 enum-known-keys c = search needs
 
+given-requires : tie.Need-given-requires
+given-requires c κs = tt
+
 place-requires : tie.Need-place-requires
 place-requires c κs =
-    let g = c .before .before .before .before .before .before .before .before .before .before .before .before .pre in
-    (g .0, listed-keys (c .before .before) (g .1 .values) (g .1 .run) .1)
+    let g = c .before .before .before .before .before .before .before .before .before .before .before .before .before .pre in
+    (g .0, listed-keys (c .before .before .before) (g .1 .values) (g .1 .run) .1)
 
 same-length : tie.Need-same-length
 same-length c = search needs
@@ -54,9 +57,10 @@ same-length-3 c = search needs
 
 returns-2 : tie.Need-returns-2
 returns-2 c field f q free vs h s r =
-    let a = c .before .before .before .before .before .before .before .before .before .before .before .before .before .before .before .args in
+    let g = c .before .before .before .before .before in
+    let a = g .before .before .before .before .before .before .before .before .before .before .before .args in
     let k = c .before .before .place in
-    located (under (a .label)) (a .kind) (a .key) (a .weight) vs f q (a .rest) _ (label-is _ _ _ _ _ vs (listed-keys (c .before .before .before .before .before) vs r .0)) (k .result) (k .last .0) (k .ensures field f q free h s)
+    located (under (a .label)) (a .kind) (a .key) (a .weight) vs f q (a .rest) _ _ (label-is _ _ _ _ _ vs (listed-keys (g .before) vs r .0)) (g .given .ensures vs) (k .result) (k .last .0) (k .ensures field f q free h s)
 
 pub locate-spec : {M : Type 1} → statement M
 locate-spec =
@@ -65,6 +69,7 @@ locate-spec =
     list-label-requires
     enum-told
     enum-known-keys
+    given-requires
     place-requires
     same-length
     returns

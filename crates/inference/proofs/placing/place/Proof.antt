@@ -1,15 +1,16 @@
 -- `place` meets its contract.
 use mathlib.Core.List.{List}
 use mathlib.Core.Bool.{Bool}
-use mathlib.Core.Path.{refl, sym, _∙_}
+use mathlib.Core.Path.{sym, _∙_}
 use Prim.Native.Nat.{ℕ, _+_, _*_, _≤_}
 use native.Mathlib.Omega.{arith}
 use lib.ListN.{length, length-take, length-drop}
 use borrow.Author.Needs.{needs}
 use Rattle.inference.specs.Inferring.{wanted, Holds, Starts, StandsAt, split}
+use Rattle.counting_theory.specs.Encoding.{typeSize}
 use Rattle.type_arena.specs.Arena.{under}
 use Rattle.counting_theory.specs.Label.{Label, CountingType}
-use Rattle.inference.proofs.InPlace.Placing.{holds-length, here-within, missing-within, missing-full, missing-counted}
+use Rattle.inference.proofs.InPlace.Placing.{holds-length, here-within, here-counted, missing-within, missing-full, missing-counted}
 use Rattle.inference.proofs.InPlace.Splits.{MissingAt, here-at, missing-at}
 use Rattle.inference.proofs.placing.place.Statement.{statement}
 use Rattle.inference.proofs.placing.place.Tie as tie
@@ -26,10 +27,10 @@ module _ (c : tie.After-known-told) where
       Starts (c .before .before .before .before .before .before .before .args .from) f → StandsAt found-label f found-place
   stands field f q free h s = sym (c .before .p .given .1) ∙ c .before .before .before .search .ensures field _ f q free h s
 
-  found-room : 16 * found-place + 16 ≤ length (c .before .before .before .before .before .before .before .args .a .now)
+  found-room : typeSize * found-place + typeSize ≤ length (c .before .before .before .before .before .before .before .args .a .now)
   found-room =
       let g = c .before .before .before .before .before .before .before .pre .0 in
-      omega (arith, here-within (g .holds) found-label _ _ (record { count = 0 }) (here-at found-label 0 found-place (g .f) (stands (g .field) (g .f) (g .q) (g .free) (g .holds) (g .starts))), holds-length (g .holds))
+      omega (arith, here-within (g .holds) found-label _ _ (here-at found-label 0 found-place (g .f) (stands (g .field) (g .f) (g .q) (g .free) (g .holds) (g .starts))), holds-length (g .holds))
 
 -- where it would stand
 module _ (c : tie.After-known-told2) where
@@ -44,10 +45,10 @@ module _ (c : tie.After-known-told2) where
   missed field f q free h s =
       missing-at missed-label 0 missed-place f (sym (c .before .p2 .given .1) ∙ c .before .before .before .search .ensures field _ f q free h s)
 
-  missed-room : (16 * missed-place ≤ 16 * (c .before .before .before .before .before .before .before .args .n + c .before .before .before .before .before .before .before .args .rest)) × (16 * (c .before .before .before .before .before .before .before .args .n + c .before .before .before .before .before .before .before .args .rest) ≤ length (c .before .before .before .before .before .before .before .args .a .now))
+  missed-room : (typeSize * missed-place ≤ typeSize * (c .before .before .before .before .before .before .before .args .n + c .before .before .before .before .before .before .before .args .rest)) × (typeSize * (c .before .before .before .before .before .before .before .args .n + c .before .before .before .before .before .before .before .args .rest) ≤ length (c .before .before .before .before .before .before .before .args .a .now))
   missed-room =
       let g = c .before .before .before .before .before .before .before .pre .0 in
-      omega (arith, missing-within (g .holds) missed-label _ _ (record { count = 0 }) (missed (g .field) (g .f) (g .q) (g .free) (g .holds) (g .starts)), holds-length (g .holds))
+      omega (arith, missing-within (g .holds) missed-label _ _ (missed (g .field) (g .f) (g .q) (g .free) (g .holds) (g .starts)), holds-length (g .holds))
 
 search-requires : tie.Need-search-requires
 search-requires c κs = let g = c .before .before .before .pre in (record { rest = _; held = g .0 }, g .1)
@@ -55,8 +56,8 @@ search-requires c κs = let g = c .before .before .before .pre in (record { rest
 enum-known-p : tie.Need-enum-known-p
 enum-known-p c = search needs
 
-count-here-requires : tie.Need-count-here-requires
-count-here-requires c κs = found-room (c .before)
+join-payload-requires : tie.Need-join-payload-requires
+join-payload-requires c κs = found-room (c .before)
 
 enum-known-p-2 : tie.Need-enum-known-p-2
 enum-known-p-2 c = search needs
@@ -75,7 +76,7 @@ same-length c = search needs
 
 returns : tie.Need-returns
 returns c field f q free h s =
-    missing-full h (missed-label (c .before)) _ _ (record { count = 0 }) (missed (c .before) field f q free h s) _ (c .if1 .taken) (missed-room (c .before) .1)
+    missing-full h (missed-label (c .before)) _ _ (missed (c .before) field f q free h s) _ (c .if1 .taken) (missed-room (c .before) .1)
 
 mul-o : tie.Need-mul-o
 mul-o c = omega (arith, missed-room (c .before))
@@ -104,14 +105,14 @@ same-length-2 c = search needs
 returns-2 : tie.Need-returns-2
 returns-2 c field f q free h s =
     let k = c .before .before .before .before in
-    c .before .before .count-here .ensures _ field _ _ (found-label k) f q free h (stands k field f q free h s)
+    here-counted h (found-label k) _ (found-place k) (here-at (found-label k) 0 (found-place k) f (stands k field f q free h s)) _ _ (c .before .before .join-payload .ensures)
 
 same-length-3 : tie.Need-same-length-3
 same-length-3 c = search needs
 
 returns-3 : tie.Need-returns-3
 returns-3 c field f q free h s =
-    missing-counted h (missed-label (c .before .before .before .before .before)) _ _ _ (missed (c .before .before .before .before .before) field f q free h s) _ (c .before .before .insert-record .ensures _ refl refl)
+    missing-counted h (missed-label (c .before .before .before .before .before)) _ _ (missed (c .before .before .before .before .before) field f q free h s) _ _ (c .before .before .insert-record .ensures)
 
 pub place-spec : {M : Type 1} → statement M
 place-spec =
@@ -119,7 +120,7 @@ place-spec =
     (tie.spec
     search-requires
     enum-known-p
-    count-here-requires
+    join-payload-requires
     enum-known-p-2
     add-used
     mul-used

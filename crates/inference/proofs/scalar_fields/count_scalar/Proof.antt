@@ -7,19 +7,21 @@ use native.Mathlib.Omega.{arith}
 use lib.ListN.{length, take, drop, length-take, length-drop}
 use borrow.Author.Needs.{needs}
 use Rattle.counting_theory.specs.Label.{fieldKind, CountingType}
-use Rattle.counting_theory.specs.Encoding.{typeSpan, encode}
+use Rattle.counting_theory.specs.Encoding.{typeSize, typeSpan, encode}
+use Rattle.value_table.specs.Value.{none, value}
 use Rattle.type_arena.specs.Arena.{under}
+use Rattle.type_arena.specs.Payload.{itemPayload}
 use Rattle.inference.specs.Inferring.{grown, Holds, StandsAt, split, Counted}
 use Rattle.inference.specs.ScalarFields.{plain}
-use Rattle.inference.proofs.InPlace.Placing.{holds-length, here-within}
+use Rattle.inference.proofs.InPlace.Placing.{holds-length, here-within, here-counted}
 use Rattle.inference.proofs.InPlace.Splits.{here-at}
-use Rattle.inference.proofs.InPlace.Scalars.{begun-first, field-bound, union-holds, counted-union, scalar-counted}
+use Rattle.inference.proofs.InPlace.Scalars.{begun-first, field-here, field-bound, union-holds, counted-union, scalar-counted}
 use Rattle.inference.proofs.scalar_fields.count_scalar.Statement.{statement}
 use Rattle.inference.proofs.scalar_fields.count_scalar.Tie as tie
 
 -- the field at p
 module _ (c : tie.Start) where
-  bound : (c .args .p + typeSpan (c .args .a .now) (c .args .p) ≤ length (c .args .a .now)) × (1 ≤ typeSpan (c .args .a .now) (c .args .p)) × (16 * (c .args .p + typeSpan (c .args .a .now) (c .args .p)) ≤ length (c .args .a .now)) × (length (c .args .a .now) ≤ 65536)
+  bound : (c .args .p + typeSpan (c .args .a .now) (c .args .p) ≤ length (c .args .a .now)) × (1 ≤ typeSpan (c .args .a .now) (c .args .p)) × (typeSize * (c .args .p + typeSpan (c .args .a .now) (c .args .p)) ≤ length (c .args .a .now)) × (length (c .args .a .now) ≤ 65536)
   bound = let g = c .pre .0 in omega (arith, field-bound (g .holds) (g .key) _ (g .here))
 
 mul-inner : tie.Need-mul-inner
@@ -62,13 +64,16 @@ same-length c = search needs
 returns : tie.Need-returns
 returns c label n rest key f q free h o = refl
 
-count-here-requires : tie.Need-count-here-requires
-count-here-requires c κs = omega (arith, bound (c .before .before .before .before .before .before .before .before .before .before))
+given-requires : tie.Need-given-requires
+given-requires c κs = tt
+
+join-payload-requires : tie.Need-join-payload-requires
+join-payload-requires c κs = omega (arith, bound (c .before .before .before .before .before .before .before .before .before .before .before))
 
 -- the scalar in its union, when the field has been counted
 module _ (c : tie.After-slice-known2) where
   abbrev found : tie.After-find-scalar
-  found = c .before .before .before .before .before .before .before
+  found = c .before .before .before .before .before .before .before .before
 
   abbrev start : tie.Start
   start = found .before .before .before .before .before .before
@@ -77,49 +82,54 @@ module _ (c : tie.After-slice-known2) where
   span = found .before .before .before .span-at .result
 
   abbrev arena : List ℕ
-  arena = c .before .before .count-here .last .0
+  arena = c .before .before .join-payload .last .0
 
   short : length arena ≤ 65536
-  short = omega (arith, bound start, c .before .before .count-here .kept .0)
+  short = omega (arith, bound start, c .before .before .join-payload .kept .0)
 
   module _ (label : Bool) (n rest key : ℕ) (f : CountingType) (q free : List ℕ) (h : Holds (under label) true (start .args .a .now) n rest f q free) (o : StandsAt (plain (under label) fieldKind key) f (start .args .p)) where
-    counted : Counted (split (plain (under label) fieldKind key) f) (plain (under label) fieldKind key) (grown (split (plain (under label) fieldKind key) f .payload) (record { count = start .args .weight })) q (start .args .p) n arena
-    counted = c .before .before .count-here .ensures _ true n rest _ f q free h o
+    counted : Counted (split (plain (under label) fieldKind key) f) (plain (under label) fieldKind key) (grown (split (plain (under label) fieldKind key) f .payload) (itemPayload (start .args .weight) fieldKind (value (record { kind = start .args .kind }) key none none))) q (start .args .p) n arena
+    counted = rw (c .before .before .before .given .ensures none) at (here-counted h _ _ _ (field-here h key _ o) _ _ (c .before .before .join-payload .ensures))
 
     abbrev union : CountingType
     union = split (plain (under label) fieldKind key) f .content
 
-    stands : StandsAt (plain (under label) (start .args .kind) 0) union (c .before .before .before .before .before .q .given .0 .0)
-    stands = sym (c .before .before .before .before .before .q .given .1) ∙ found .find-scalar .ensures label _ union _ _ (union-holds h key _ o _ (found .before .before .before .span-at .ensures .0))
+    stands : StandsAt (plain (under label) (start .args .kind) 0) union (c .before .before .before .before .before .before .q .given .0 .0)
+    stands = sym (c .before .before .before .before .before .before .q .given .1) ∙ found .find-scalar .ensures label _ union _ _ (union-holds h key _ o _ (found .before .before .before .span-at .ensures .0))
 
-    inner : Holds (under label) false (take (length arena - (16 * start .args .p + 16)) (drop (16 * start .args .p + 16) arena)) (span - 1) (n + rest - start .args .p - span) union (encode (split (plain (under label) fieldKind key) f .after) ++ q) (counted .free)
-    inner = counted-union h key _ o span (found .before .before .before .span-at .ensures .0) (start .args .weight) counted short
+    inner : Holds (under label) false (take (length arena - (typeSize * start .args .p + typeSize)) (drop (typeSize * start .args .p + typeSize) arena)) (span - 1) (n + rest - start .args .p - span) union (encode (split (plain (under label) fieldKind key) f .after) ++ q) (counted .free)
+    inner = counted-union h key _ o span (found .before .before .before .span-at .ensures .0) (start .args .weight) (start .args .kind) counted short
 
-sub-count-here : tie.Need-sub-count-here
-sub-count-here c = omega (arith, bound (start c), c .before .before .count-here .kept .0)
+sub-join-payload : tie.Need-sub-join-payload
+sub-join-payload c = omega (arith, bound (start c), c .before .before .join-payload .kept .0)
 
-part-count-here-start : tie.Need-part-count-here-start
-part-count-here-start c = omega (arith, bound (start c), c .before .before .count-here .kept .0)
+part-join-payload-start : tie.Need-part-join-payload-start
+part-join-payload-start c = omega (arith, bound (start c), c .before .before .join-payload .kept .0)
 
-part-count-here-end : tie.Need-part-count-here-end
-part-count-here-end c = search needs
+part-join-payload-end : tie.Need-part-join-payload-end
+part-join-payload-end c = search needs
 
-count-here-requires-2 : tie.Need-count-here-requires-2
-count-here-requires-2 c κs =
-    let i = c .before in
+given-requires-2 : tie.Need-given-requires-2
+given-requires-2 c κs = tt
+
+join-payload-requires-2 : tie.Need-join-payload-requires-2
+join-payload-requires-2 c κs =
+    let i = c .before .before in
     let g = start i .pre .0 in
     let h = inner i (g .label) (g .n) (g .rest) (g .key) (g .f) (g .q) (g .free) (g .holds) (g .here) in
-    omega (arith, here-within h _ _ _ (record { count = 0 }) (here-at _ 0 _ _ (stands i (g .label) (g .n) (g .rest) (g .key) (g .f) (g .q) (g .free) (g .holds) (g .here))), holds-length h)
+    omega (arith, here-within h _ _ _ (here-at _ 0 _ _ (stands i (g .label) (g .n) (g .rest) (g .key) (g .f) (g .q) (g .free) (g .holds) (g .here))), holds-length h)
 
 same-length-2 : tie.Need-same-length-2
 same-length-2 c = search needs
 
 returns-2 : tie.Need-returns-2
 returns-2 c label n rest key f q free h o =
-    let i = c .before .before .before .before in
-    let k = c .before .before .count-here2 .ensures _ false _ _ _ _ _ _ (inner i label n rest key f q free h o) (stands i label n rest key f q free h o) in
-    scalar-counted h key _ o _ (found i .before .before .before .span-at .ensures .0) (start i .args .weight) (counted i label n rest key f q free h o) (short i) _ k
-    (omega (arith, short i, simp (length-take, length-drop) at (c .before .before .count-here2 .kept .0)))
+    let i = c .before .before .before .before .before in
+    let j = inner i label n rest key f q free h o in
+    let k = here-counted j _ _ _ (here-at _ 0 _ _ (stands i label n rest key f q free h o)) _ _ (c .before .before .join-payload2 .ensures) in
+    scalar-counted h key _ o _ (found i .before .before .before .span-at .ensures .0) (start i .args .weight) (start i .args .kind) (counted i label n rest key f q free h o) (short i) (start i .pre .1)
+    (rw (c .before .before .before .given2 .ensures none) at k)
+    (omega (arith, short i, simp (length-take, length-drop) at (c .before .before .join-payload2 .kept .0)))
 
 pub count-scalar-spec : {M : Type 1} → statement M
 count-scalar-spec =
@@ -137,10 +147,12 @@ count-scalar-spec =
     enum-told
     same-length
     returns
-    count-here-requires
-    sub-count-here
-    part-count-here-start
-    part-count-here-end
-    count-here-requires-2
+    given-requires
+    join-payload-requires
+    sub-join-payload
+    part-join-payload-start
+    part-join-payload-end
+    given-requires-2
+    join-payload-requires-2
     same-length-2
     returns-2)

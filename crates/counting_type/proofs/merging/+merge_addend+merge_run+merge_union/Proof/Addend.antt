@@ -56,42 +56,40 @@ module _ (t : ℕ) where
   pub add-span : merge-addend-lts.Need-add-span (addend-calls t) (addend-at t) merge-addend.Post
   add-span c = omega arith
 
-  pub count-at-requires : merge-addend-lts.Need-count-at-requires (addend-calls t) (addend-at t) merge-addend.Post
-  count-at-requires c κs =
+  pub payload-at-requires : merge-addend-lts.Need-payload-at-requires (addend-calls t) (addend-at t) merge-addend.Post
+  payload-at-requires c κs =
       let h = x-head (c .before .before .before .before .before .before .before .before .before .before .before .before .before) .first in
       omega arith
 
-  pub count-at-requires-2 : merge-addend-lts.Need-count-at-requires-2 (addend-calls t) (addend-at t) merge-addend.Post
-  count-at-requires-2 c κs =
+  pub payload-at-requires-2 : merge-addend-lts.Need-payload-at-requires-2 (addend-calls t) (addend-at t) merge-addend.Post
+  payload-at-requires-2 c κs =
       let h = y-head (c .before .before .before .before .before .before .before .before .before .before .before .before .before .before) .first in
       omega arith
 
-  pub add-count : merge-addend-lts.Need-add-count (addend-calls t) (addend-at t) merge-addend.Post
-  add-count c =
-      let s = c .before .before .before .before .before .before .before .before .before .before .before .before .before .before .before in
-      omega (arith, x-head s .count-low, y-head s .count-low)
+  pub join-requires : merge-addend-lts.Need-join-requires (addend-calls t) (addend-at t) merge-addend.Post
+  join-requires c κs = tt
 
   pub key-at-requires : merge-addend-lts.Need-key-at-requires (addend-calls t) (addend-at t) merge-addend.Post
   key-at-requires c κs =
-      let h = x-head (c .before .before .before .before .before .before .before .before .before .before .before .before .before .before .before .before) .first in
+      let h = x-head (c .before .before .before .before .before .before .before .before .before .before .before .before .before .before .before .before .before) .first in
       omega arith
 
   pub put-record-requires : merge-addend-lts.Need-put-record-requires (addend-calls t) (addend-at t) merge-addend.Post
   put-record-requires c κs =
-      let s = c .before .before .before .before .before .before .before .before .before .before .before .before .before .before .before .before .before in
+      let s = c .before .before .before .before .before .before .before .before .before .before .before .before .before .before .before .before .before .before in
       let h = x-head s .first in
       omega (arith, s .pre .1 .1 .1)
 
   pub add-at : merge-addend-lts.Need-add-at (addend-calls t) (addend-at t) merge-addend.Post
   add-at c =
-      let r = c .before .before .before .before .before .before .before .before .before .before in
+      let r = c .before .before .before .before .before .before .before .before .before .before .before in
       let s = r .before .before .before .before .before .before .before .before .before .before in
       let h = x-head s .first in
       omega (arith, s .pre .1 .1 .1)
 
   pub add-at-2 : merge-addend-lts.Need-add-at-2 (addend-calls t) (addend-at t) merge-addend.Post
   add-at-2 c =
-      let m = c .before .before .before .before .before .before .before .before .before .before .before in
+      let m = c .before .before .before .before .before .before .before .before .before .before .before .before in
       let s = m .before .before .before .before .before .before .before .before .before .before in
       let i = m .before .before .before .before .before in
       let w = stored-inside (s .args .level) (i .before .kind-at .result) (i .inside .ensures) (m .merge-union .ensures) in
@@ -105,11 +103,11 @@ module _ (t : ℕ) where
   pub same-length : merge-addend-lts.Need-same-length (addend-calls t) (addend-at t) merge-addend.Post
   same-length c =
       let r = c .before .before .before .before in
-      r .put-record .kept .0 ∙ r .before .before .before .before .before .before .before .before .merge-union .kept .1 .1 .0
+      r .put-record .kept .0 ∙ r .before .before .before .before .before .before .before .before .before .merge-union .kept .1 .1 .0
 
   pub returns : merge-addend-lts.Need-returns (addend-calls t) (addend-at t) merge-addend.Post
   returns c =
-      let m = c .before .before .before .before .before .before .before .before .before .before .before .before in
+      let m = c .before .before .before .before .before .before .before .before .before .before .before .before .before in
       let s = m .before .before .before .before .before .before .before .before .before .before in
       let i = m .before .before .before .before .before in
       let w = stored-inside (s .args .level) (i .before .kind-at .result) (i .inside .ensures) (m .merge-union .ensures) in
@@ -117,5 +115,5 @@ module _ (t : ℕ) where
       let v = m .before .before .before .body-of2 .ensures in
       let r = c .before .before .before .before in
       let k = r .before .before .before in
-      addend-done u v w (i .before .kind-at .ensures) (r .before .key-at .ensures) (k .before .count-at .ensures) (k .count-at2 .ensures)
+      addend-done _ _ _ u v w (i .before .kind-at .ensures) (r .before .key-at .ensures) (k .before .before .payload-at .ensures) (k .before .payload-at2 .ensures) (k .join .ensures)
       (r .put-record .ensures) (c .either .ensures)

@@ -24,8 +24,9 @@ use Rattle.counting_type.proofs.merging.either.Reads as either-reads
 use Rattle.counting_type.proofs.merging.keep.Reads as keep-reads
 use Rattle.counting_type.proofs.merging.total_over.Reads as total-over-reads
 use Rattle.type_arena.proofs.store.put_bytes.Reads as put-bytes-reads
-use Rattle.type_arena.proofs.store.put_record.Reads as put-record-reads
-use Rattle.type_arena.proofs.type_record.count_at.Reads as count-at-reads
+use Rattle.type_arena.proofs.record_store.put_record.Reads as put-record-reads
+use Rattle.type_arena.proofs.payload.payload_at.Reads as payload-at-reads
+use Rattle.type_arena.proofs.payload.join.Reads as join-reads
 use Rattle.type_arena.proofs.type_record.key_at.Reads as key-at-reads
 use Rattle.type_arena.proofs.type_record.kind_at.Reads as kind-at-reads
 
@@ -72,8 +73,10 @@ addend-calls t = (
   body-of-reads.Learnt,
   union-below t,
   merge-union.Post,
-  count-at-reads.Asked,
-  count-at-reads.Learnt,
+  payload-at-reads.Asked,
+  payload-at-reads.Learnt,
+  join-reads.Asked,
+  join-reads.Learnt,
   key-at-reads.Asked,
   key-at-reads.Learnt,
   put-record-reads.Asked,

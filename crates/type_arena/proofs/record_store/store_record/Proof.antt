@@ -1,9 +1,10 @@
 -- `store_record` meets its contract.
 use native.Mathlib.Omega.{arith}
 use Rattle.type_arena.proofs.Sets.{sets-record}
+use Rattle.type_arena.specs.Payload.{payloadOf}
 use borrow.Author.Needs.{needs}
-use Rattle.type_arena.proofs.store.store_record.Statement.{statement}
-use Rattle.type_arena.proofs.store.store_record.Tie as tie
+use Rattle.type_arena.proofs.record_store.store_record.Statement.{statement}
+use Rattle.type_arena.proofs.record_store.store_record.Tie as tie
 
 store16-requires : tie.Need-store16-requires
 store16-requires c κs = search needs
@@ -20,11 +21,8 @@ add-store32 c = search needs
 store32-requires : tie.Need-store32-requires
 store32-requires c κs = search needs
 
-add-store64 : tie.Need-add-store64
-add-store64 c = search needs
-
-store64-requires : tie.Need-store64-requires
-store64-requires c κs = search needs
+store-payload-requires : tie.Need-store-payload-requires
+store-payload-requires c κs = search needs
 
 same-length : tie.Need-same-length
 same-length c = search needs
@@ -32,7 +30,7 @@ same-length c = search needs
 returns : tie.Need-returns
 returns c =
     let a = c .before .before .before .before .before .before .before .before .before .before .before .before .before .before .before .before .before .args in
-    cc (sets-record (a .kind) (a .key) (a .span) (a .count) (a .out .now) (a .at) (omega arith))
+    cc (sets-record (a .kind) (a .key) (a .span) (payloadOf (a .payload)) (a .out .now) (a .at) (omega arith))
 
 pub store-record-spec : {M : Type 1} → statement M
 store-record-spec =
@@ -43,7 +41,6 @@ store-record-spec =
     store16-requires-2
     add-store32
     store32-requires
-    add-store64
-    store64-requires
+    store-payload-requires
     same-length
     returns)

@@ -5,9 +5,9 @@ use native.Mathlib.Nat.{le-refl}
 use native.Mathlib.Omega.{arith}
 use lib.ListN.{length, length-set}
 use borrow.Author.Needs.{needs}
-use Rattle.inference.proofs.InPlace.Gap.{Moved, moved-start, moved-next, moved-end}
-use Rattle.inference.proofs.type_store.open_gap.Statement.{statement}
-use Rattle.inference.proofs.type_store.open_gap.Tie as tie
+use Rattle.type_arena.proofs.Gap.{Moved, moved-start, moved-next, moved-end}
+use Rattle.type_arena.proofs.store.open_gap.Statement.{statement}
+use Rattle.type_arena.proofs.store.open_gap.Tie as tie
 
 abbrev Inv-loop : tie.InvT-loop
 Inv-loop b₀ n gap i₀ b i = (n + gap ≤ length b₀) × (i ≤ n) × (length b ≡ length b₀) × Moved b₀ n gap b i

@@ -1,0 +1,16 @@
+-- `join` meets its contract.
+use Rattle.type_arena.specs.Payload.{payloadOf}
+use Rattle.type_arena.proofs.PayloadBytes.{wrapped-join}
+use borrow.Author.Needs.{needs}
+use Rattle.type_arena.proofs.payload.join.Statement.{statement}
+use Rattle.type_arena.proofs.payload.join.Tie as tie
+
+wrapping-add-usize-requires : tie.Need-wrapping-add-usize-requires
+wrapping-add-usize-requires c κs = search needs
+
+returns : tie.Need-returns
+unfolding payloadOf
+returns c = wrapped-join (payloadOf (c .before .args .a)) (payloadOf (c .before .args .b)) (record { count = c .wrapping-add-usize .result }) (c .wrapping-add-usize .ensures)
+
+pub join-spec : {M : Type 1} → statement M
+join-spec = tie.close (tie.spec wrapping-add-usize-requires returns)
