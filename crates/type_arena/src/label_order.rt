@@ -37,10 +37,10 @@ fn compare_keys(b: &[u8], x: usize, c: &[u8], y: usize) -> Order
         }
         let key = key_at(b, i);
         let other = key_at(c, j);
-        if key < other {
-            break Order::Less;
-        }
-        if other < key {
+        if key != other {
+            if key < other {
+                break Order::Less;
+            }
             break Order::More;
         }
         i += span_at(b, i);
@@ -56,18 +56,18 @@ pub fn compare_labels(b: &[u8], x: usize, c: &[u8], y: usize, label: bool) -> Or
 {
     let kind = kind_at(b, x);
     let other_kind = kind_at(c, y);
-    if kind < other_kind {
-        return Order::Less;
-    }
-    if other_kind < kind {
+    if kind != other_kind {
+        if kind < other_kind {
+            return Order::Less;
+        }
         return Order::More;
     }
     let key = key_at(b, x);
     let other_key = key_at(c, y);
-    if key < other_key {
-        return Order::Less;
-    }
-    if other_key < key {
+    if key != other_key {
+        if key < other_key {
+            return Order::Less;
+        }
         return Order::More;
     }
     if !label {

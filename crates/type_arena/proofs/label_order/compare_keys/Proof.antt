@@ -51,37 +51,37 @@ key-at-requires-2 c κs =
 
 span-at-requires-3 : tie.Need-span-at-requires-3 Inv-loop μ-loop
 span-at-requires-3 c κs =
-    let o = c .before .before .before .before in
+    let o = c .before .before .before in
     let f = left-sibling (o .before .before .loop .inv) (o .before .if1 .left) (o .if3 .left) in
     omega arith
 
 add-i-2 : tie.Need-add-i-2 Inv-loop μ-loop
 add-i-2 c =
-    let o = c .before .before .before .before .before in
+    let o = c .before .before .before .before in
     let f = left-sibling (o .before .before .loop .inv) (o .before .if1 .left) (o .if3 .left) in
     omega arith
 
 span-at-requires-4 : tie.Need-span-at-requires-4 Inv-loop μ-loop
 span-at-requires-4 c κs =
-    let o = c .before .before .before .before .before in
+    let o = c .before .before .before .before in
     let g = right-sibling (o .before .before .loop .inv) (o .before .if1 .left) (o .if3 .left) in
     omega arith
 
 add-j-2 : tie.Need-add-j-2 Inv-loop μ-loop
 add-j-2 c =
-    let o = c .before .before .before .before .before .before in
+    let o = c .before .before .before .before .before in
     let g = right-sibling (o .before .before .loop .inv) (o .before .if1 .left) (o .if3 .left) in
     omega arith
 
 loop-less : tie.Need-loop-less Inv-loop μ-loop
 loop-less c =
-    let o = c .before .before .before .before .before .before in
+    let o = c .before .before .before .before .before in
     let f = left-sibling (o .before .before .loop .inv) (o .before .if1 .left) (o .if3 .left) in
     omega arith
 
 loop-again : tie.Need-loop-again Inv-loop μ-loop
 loop-again c =
-    let o = c .before .before .before .before .before .before in
+    let o = c .before .before .before .before .before in
     rw (c .before .span-at3 .ensures .0, c .span-at4 .ensures .0) (heads-same (o .before .before .loop .inv) (o .before .if1 .left) (o .if3 .left) (omega arith))
 
 returns : tie.Need-returns Inv-loop μ-loop
@@ -95,7 +95,7 @@ returns-3 c = second-ends (c .before .before .loop .inv) (c .before .if1 .left) 
 
 returns-4 : tie.Need-returns-4 Inv-loop μ-loop
 returns-4 c =
-    let o = c .before .before .before in
+    let o = c .before .before .before .before in
     heads-less (o .before .before .loop .inv) (o .before .if1 .left) (o .if3 .left) (omega arith)
 
 returns-5 : tie.Need-returns-5 Inv-loop μ-loop

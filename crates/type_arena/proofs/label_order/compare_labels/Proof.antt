@@ -24,7 +24,7 @@ kind-at-requires-2 c κs = search needs
 
 returns : tie.Need-returns
 unfolding labelAt
-returns c = let s = c .before .before .before .before .before in kind-less (first s) (second s) (omega arith)
+returns c = let s = c .before .before .before .before .before .before in kind-less (first s) (second s) (omega arith)
 
 returns-2 : tie.Need-returns-2
 unfolding labelAt
@@ -45,13 +45,13 @@ returns-3 c =
 returns-4 : tie.Need-returns-4
 unfolding labelAt
 returns-4 c =
-    let s = c .before .before .before .before .before .before .before .before .before .before in
+    let s = c .before .before .before .before .before .before .before .before .before in
     key-more (first s) (second s) (omega arith) (omega arith)
 
 returns-5 : tie.Need-returns-5
 unfolding labelAt
 returns-5 c =
-    let s = c .before .before .before .before .before .before .before .before .before .before .before in
+    let s = c .before .before .before .before .before .before .before .before .before in
     under-kind _ (omega arith) (omega arith) _ _ (ap under (not-true (s .args .label) (c .if5 .taken)))
 
 returns-6 : tie.Need-returns-6
@@ -60,13 +60,13 @@ returns-6 c = no-record _ (omega arith) (omega arith) _ _ (λ z. omega arith)
 
 compare-keys-requires : tie.Need-compare-keys-requires
 compare-keys-requires c κs =
-    let s = c .before .before .before .before .before .before .before .before .before .before .before .before in
+    let s = c .before .before .before .before .before .before .before .before .before .before in
     (s .pre .0 .fields (omega arith), s .pre .1 .fields (omega arith))
 
 returns-7 : tie.Need-returns-7
 unfolding labelAt
 returns-7 c =
-    let s = c .before .before .before .before .before .before .before .before .before .before .before .before .before in
+    let s = c .before .before .before .before .before .before .before .before .before .before .before in
     c .compare-keys .ensures ∙ by-lists _ (omega arith) (omega arith) _ _ (ap under (not-false (s .args .label) (c .before .before .if5 .left))) (omega arith)
 
 pub compare-labels-spec : {M : Type 1} → statement M
