@@ -1,13 +1,12 @@
 -- What the calls that write a type leave: first the type in the front of the arena, then zeros behind it.
 use mathlib.Core.Path.{_≡_, refl, ap, _∙_}
-use mathlib.Core.Bool.{Bool, true, false}
+use mathlib.Core.Bool.{true, false, not}
 use mathlib.Core.List.{List, []}
 use Prim.Native.Nat.{ℕ, _+_, _*_, _/_, _≤_, _<_}
 use native.Mathlib.Omega.{arith}
-use lib.Dec.{ltb}
 use lib.ListN.{length, take, length-take, length-append}
 use lib.Seq.{sets, sets-eq, take-at}
-use borrow.Author.Tests.{lt-ltb, le-ltb, ltb-true, ltb-false}
+use borrow.Author.Tests.{lt-ltb, le-ltb, not-true, not-false}
 use Rattle.value_table.specs.declared.Refusal as faulty
 use Rattle.value_table.specs.declared.Refusal.the-variants as faults
 use Rattle.value_table.specs.Outcome.{accepted, refused}
@@ -16,11 +15,10 @@ use Rattle.counting_type.specs.declared.Answered.{Answered}
 use Rattle.counting_type.specs.declared.Answered.the-variants.{Accepted, Refused}
 use Rattle.counting_type.specs.declared.Refusal.{Refusal}
 use Rattle.counting_type.specs.declared.Refusal.the-variants.{Total, Room}
-use Rattle.counting_theory.proofs.WellFormed.Limit.{limit-totals, totals-limit}
-use Rattle.counting_theory.specs.Trie.{size, largestTotal}
-use Rattle.counting_theory.specs.Label.{Equivalence, Counting, CountingType}
+use Rattle.counting_theory.specs.Trie.{size}
+use Rattle.counting_theory.specs.Label.{Equivalence, CountingType}
 use Rattle.counting_theory.specs.Encoding.{typeSize, encode}
-use Rattle.counting_theory.specs.WellFormed.{maxTotal, withinLimit}
+use Rattle.counting_theory.specs.WellFormed.{withinLimit}
 use Rattle.counting_theory.specs.Answers.{Written, turnedDown, zeros, leaves, stored, inferredFrom, mergedTypes}
 use Rattle.counting_type.specs.Outcomes.{numberOfRefusal, outcomeOf, leftBy, Front}
 use Rattle.inference.specs.Inferring.{Grown}
@@ -41,18 +39,6 @@ refused-from faults.Key place e b n = refl
 refused-from faults.Repeat place e b n = refl
 refused-from faults.Depth place e b n = refl
 
--- the code's test of the limit
-module _ (f : CountingType) where
-  not-over : ltb maxTotal (largestTotal Counting f) ≡ false → withinLimit f ≡ true
-  not-over h = totals-limit f (ltb-false maxTotal (largestTotal Counting f) h)
-
-  over : ltb maxTotal (largestTotal Counting f) ≡ true → withinLimit f ≡ false
-  over h = go (withinLimit f) refl
-    where
-      go : (t : Bool) → withinLimit f ≡ t → t ≡ false
-      go true z = absurd (omega (arith, ltb-true maxTotal (largestTotal Counting f) h, limit-totals f z))
-      go false z = refl
-
 module _ (f : CountingType) (n : ℕ) where
   pub front-room : (arena : List ℕ) → n < length (encode f) → Front (stored n f) (Refused Room 0) arena
   front-room arena h = front-refused Room 0 arena (rw (lt-ltb n (typeSize * size f) (omega (arith, length-encode f))) refl)
@@ -64,13 +50,13 @@ module _ (f : CountingType) (n : ℕ) where
   pub front-bytes : (arena : List ℕ) → length (encode f) ≤ n → take (length (encode f)) arena ≡ encode f → Front (stored n f) (Accepted (length (encode f) / typeSize)) arena
   front-bytes arena = front-stored (length (encode f) / typeSize) arena (omega (arith, length-encode f))
 
-  module _ (within : ltb maxTotal (largestTotal Counting f) ≡ false) (answered : Answered) (arena : List ℕ) where
+  module _ (within : not (withinLimit f) ≡ false) (answered : Answered) (arena : List ℕ) where
     -- within the limit only room is asked
     pub front-within : Front (stored n f) answered arena → Front (mergedTypes f n) answered arena
-    front-within h = rw (not-over f within) h
+    front-within h = rw (not-false (withinLimit f) within) h
 
-  pub front-total : (arena : List ℕ) → ltb maxTotal (largestTotal Counting f) ≡ true → Front (mergedTypes f n) (Refused Total 0) arena
-  front-total arena h = front-refused Total 0 arena (rw (over f h) refl)
+  pub front-total : (arena : List ℕ) → not (withinLimit f) ≡ true → Front (mergedTypes f n) (Refused Total 0) arena
+  front-total arena h = front-refused Total 0 arena (rw (not-true (withinLimit f) h) refl)
 
 pub sets-front : (arena bytes : List ℕ) → length bytes ≤ length arena → take (length bytes) (sets arena 0 bytes) ≡ bytes
 sets-front arena bytes h = rw (sets-eq bytes arena 0 (omega arith)) (take-at bytes _ (length bytes) refl)

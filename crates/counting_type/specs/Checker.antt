@@ -1,7 +1,7 @@
 -- Well-formedness in one pass over the records, as the code checks it: each addend against the one before it, each field against
 -- its record, and the total of each union on the way.
 use mathlib.Core.Bool.{Bool, true, false, cond, _&&_, _||_}
-use mathlib.Core.List.{List, []}
+use mathlib.Core.List.{List}
 use mathlib.Core.Option.{Option, none, some}
 use Prim.Native.Nat.{ℕ, zero, suc, _+_, _*_, _-_, _≤_}
 use lib.Dec.{eqb, leb, ltb}

@@ -1,6 +1,6 @@
 -- The merge of two types on their bytes, as the code goes about it: what a run of records is, and what is stored.
 use mathlib.Core.Path.{_≡_}
-use mathlib.Core.Bool.{Bool, cond, not, _&&_, _||_}
+use mathlib.Core.Bool.{Bool, true, cond, not, _&&_, _||_}
 use mathlib.Core.List.{List, _++_}
 use Prim.Native.Nat.{ℕ, _+_, _-_, _≤_}
 use lib.Dec.{eqb, ltb}
@@ -9,10 +9,10 @@ use lib.Seq.{sets}
 use Rattle.value_table.specs.Value.{maxDepth, recordKind}
 use Rattle.counting_type.specs.declared.addend.Level.{Level}
 use Rattle.counting_theory.specs.Payload.{join}
-use Rattle.counting_theory.specs.Trie.{size, reduce, largestBelow, largestTotal}
+use Rattle.counting_theory.specs.Trie.{size, reduce, largestBelow}
 use Rattle.counting_theory.specs.Label.{Equivalence, Counting, CountingType}
 use Rattle.counting_theory.specs.Encoding.{typeKind, typeKey, typePayload, encode, typeOf}
-use Rattle.counting_theory.specs.WellFormed.{maxTotal, Shallow}
+use Rattle.counting_theory.specs.WellFormed.{maxTotal, withinLimit, Shallow}
 use Rattle.type_arena.specs.Arena.{under, headerOf}
 use Rattle.type_arena.specs.Addend.{front, body, rest, Coded}
 
@@ -25,7 +25,7 @@ pub record Part (level : Level) (x : List ℕ) : Type 0 where
   pub coded : Coded (under (level .label)) (level .field) x
   pub shallow : Shallow (level .field) (depthOf level) (typeOf (under (level .label)) x)
   pub left-low : level .left ≤ maxDepth
-  pub limit : largestTotal Counting (typeOf (under (level .label)) x) ≤ maxTotal
+  pub limit : withinLimit (typeOf (under (level .label)) x) ≡ true
 
 -- what stands inside a record of this kind: the depth falls at an addend
 abbrev pub insideOf : Level → ℕ → Level
@@ -34,7 +34,7 @@ insideOf level kind =
 
 -- some union, or some union inside, totals above the limit
 unfoldable pub exceeds : CountingType → Bool
-exceeds f = ltb maxTotal (largestTotal Counting f)
+exceeds f = not (withinLimit f)
 
 unfoldable pub exceedsBelow : CountingType → Bool
 exceedsBelow f = ltb maxTotal (largestBelow Counting f)

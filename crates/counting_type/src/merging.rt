@@ -15,15 +15,15 @@ use type_arena::type_record;
 use type_arena::type_record::key_at;
 use type_arena::type_record::kind_at;
 ghost use mathlib.Core.Path.{_≡_};
-ghost use mathlib.Core.Bool.{_||_};
+ghost use mathlib.Core.Bool.{not, _||_};
 ghost use Prim.Native.Nat.{_+_, _^_, _<_};
 ghost use lib.Dec.{ltb};
 ghost use lib.ListN.{length};
 ghost use lib.Seq.{sets};
-ghost use Rattle.counting_theory.specs.Trie.{reduce, total, largestTotal};
+ghost use Rattle.counting_theory.specs.Trie.{reduce, total};
 ghost use Rattle.counting_theory.specs.Label.{Counting};
 ghost use Rattle.counting_theory.specs.Encoding.{typeKind, encode, typeOf};
-ghost use Rattle.counting_theory.specs.WellFormed.{maxTotal, IsType};
+ghost use Rattle.counting_theory.specs.WellFormed.{maxTotal, withinLimit, IsType};
 ghost use Rattle.type_arena.specs.Arena.{under};
 ghost use Rattle.type_arena.specs.Addend.{Headed};
 ghost use Rattle.counting_type.specs.Merging.{Part, Kept, Ran, Stored, Joined};
@@ -165,7 +165,7 @@ pub fn merge_types(first: &[u8], second: &[u8], label: bool, arena: &mut [u8]) -
     requires { ⌜ IsType (under label) (now second) (typeOf (under label) (now second)) ⌝ }
     ensures { λ r. ⌜ now (arena .exit) ≡ sets (now (arena .entry)) 0 (encode (reduce Counting (typeOf (under label) (now (first .entry))) (typeOf (under label) (now (second .entry))))) ⌝ }
     ensures { λ r. ⌜ r .bytes ≡ length (encode (reduce Counting (typeOf (under label) (now (first .entry))) (typeOf (under label) (now (second .entry))))) ⌝ }
-    ensures { λ r. ⌜ r .over ≡ ltb maxTotal (largestTotal Counting (reduce Counting (typeOf (under label) (now (first .entry))) (typeOf (under label) (now (second .entry))))) ⌝ }
+    ensures { λ r. ⌜ r .over ≡ not (withinLimit (reduce Counting (typeOf (under label) (now (first .entry))) (typeOf (under label) (now (second .entry))))) ⌝ }
 {
     let level = Level {
         left: MAX_DEPTH,

@@ -2,10 +2,9 @@
 use mathlib.Core.Path.{_≡_, refl, sym, _∙_, ap}
 use mathlib.Core.List.{List, [], _∷_, _++_}
 use mathlib.Core.Option.{Option, none, some}
-use Prim.Native.Nat.{ℕ}
 use native.Mathlib.Omega.{arith}
 use lib.ListN.{length}
-use Rattle.counting_theory.specs.Payload.{Payload, one, oneField, join}
+use Rattle.counting_theory.specs.Payload.{Payload, oneField, join}
 use Rattle.counting_theory.specs.Trie.{atEnd, _⊞_ as joinOption}
 use Rattle.counting_theory.specs.Label.{Label}
 use Rattle.counting_theory.specs.Place.{Value, _⊞_, gathered, valuePayload, countOf, NumberGathered}

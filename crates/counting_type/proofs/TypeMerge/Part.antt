@@ -7,22 +7,21 @@ use native.Mathlib.Nat.{zero-add, le-refl}
 use native.Mathlib.Omega.{arith}
 use lib.Dec.{eqb}
 use lib.ListN.{length}
-use borrow.Author.Tests.{le-ltb, eq-eqb}
+use borrow.Author.Tests.{eq-eqb}
 use Rattle.value_table.specs.Value.{maxLength, maxDepth, recordKind}
 use Rattle.counting_type.specs.declared.addend.Level.{Level}
 use Rattle.counting_theory.specs.Trie.{nil, node, total, largestBelow, largestTotal}
 use Rattle.counting_theory.specs.Label.{Equivalence, Label, fieldKind, Counting, CountingType}
-use Rattle.counting_theory.specs.Encoding.{typePayload, typeKind, typeCount, typeOf, Tagged}
-use Rattle.counting_theory.specs.WellFormed.{maxTotal, depthInside, Shallow, IsType}
+use Rattle.counting_theory.specs.Encoding.{typePayload, typeKind, typeOf, Tagged}
+use Rattle.counting_theory.specs.WellFormed.{maxTotal, withinLimit, depthInside, Shallow, IsType}
 use Rattle.type_arena.specs.Arena.{under, labelAt}
 use Rattle.type_arena.specs.Addend.{body, rest, Coded, Union}
 use Rattle.counting_type.specs.Merging.{depthOf, Part, insideOf, exceeds}
 use Rattle.counting_theory.proofs.Label.{kind-eq}
 use Rattle.counting_theory.proofs.Tagged.Parts.{holdsFields}
 use Rattle.counting_theory.proofs.WellFormed.Nodes.{Placed, depthUnder, shallow-parts}
-use Rattle.counting_theory.proofs.WellFormed.Fitting.{weight-addend, count-within}
-use Rattle.counting_theory.proofs.Encoding.Header.{length-encode, payload-count}
-use Rattle.counting_theory.proofs.WellFormed.Limit.{limit-totals}
+use Rattle.counting_theory.proofs.Encoding.Header.{length-encode}
+use Rattle.counting_theory.proofs.WellFormed.Limit.{limit-totals, totals-limit}
 use Rattle.type_arena.proofs.FirstAddend.{Addend, addend, coded-type, type-coded}
 
 -- an addend has a level left
@@ -59,9 +58,9 @@ head {level} {x} p h =
     let a = addend (p .coded) h in
     let shallow : Shallow (level .field) (depthOf level) (node l (typePayload x 0) c s) = rw (a .is-type) at (p .shallow) in
     let q = shallow-parts (level .field) (depthOf level) l (typePayload x 0) c s shallow in
-    let limit : largestTotal Counting (node l (typePayload x 0) c s) ≤ maxTotal = rw (a .is-type) at (p .limit) in
+    let limit : largestTotal Counting (node l (typePayload x 0) c s) ≤ maxTotal = rw (a .is-type) at (limit-totals (typeOf e x) (p .limit)) in
     let some = level-left (level .field) (level .left) l (q .0) in
-    let low : largestTotal Counting c ≤ maxTotal = omega (arith, limit) in
+    let within : withinLimit c ≡ true = totals-limit c (omega (arith, limit)) in
     record {
       first = a;
       level-left = some;
@@ -70,10 +69,10 @@ head {level} {x} p h =
             coded = a .in-body;
             shallow = shallow-inside (level .field) (level .left) l c (p .left-low) some (q .1);
             left-low = omega (arith, p .left-low);
-            limit = low;
+            limit = within;
           };
-      in-rest = record { coded = a .in-rest; shallow = q .2; left-low = p .left-low; limit = omega (arith, limit) };
-      light = le-ltb maxTotal _ low;
+      in-rest = record { coded = a .in-rest; shallow = q .2; left-low = p .left-low; limit = totals-limit s (omega (arith, limit)) };
+      light = rw within refl;
     }
 
 -- a whole type is a union at depth 1, and short
@@ -83,7 +82,7 @@ type-part label x t =
       coded = type-coded t;
       shallow = t .shallow;
       left-low = le-refl maxDepth;
-      limit = limit-totals (typeOf (under label) x) (t .limit);
+      limit = t .limit;
     }
 
 pub type-short : {e : Equivalence} {x : List ℕ} → IsType e x (typeOf e x) → length x ≤ maxLength
@@ -103,7 +102,7 @@ rank-inside {level} {x} h = go (level .field) (eqb (typeKind x 0) recordKind) (h
 
 pub total-low : {level : Level} {x : List ℕ} → Part level x → total Counting (typeOf (under (level .label)) x) ≤ maxTotal
 unfolding largestTotal
-total-low p = omega (arith, p .limit)
+total-low {level} {x} p = omega (arith, limit-totals (typeOf (under (level .label)) x) (p .limit))
 
 -- fields weigh nothing; a run of addends is a union
 pub total-fields : {e : Equivalence} {x : List ℕ} → Coded e true x → total Counting (typeOf e x) ≡ 0

@@ -18,6 +18,7 @@ use Rattle.type_arena.specs.Arena.{under, labelAt, headerOf}
 use Rattle.type_arena.specs.Addend.{front, body, rest, Coded}
 use Rattle.counting_type.specs.Merging.{Part, exceeds, exceedsBelow, both, mergedBytes, joinedBytes}
 use Rattle.counting_theory.proofs.Label.{label-order, kind-eq, counting-laws}
+use Rattle.counting_theory.proofs.WellFormed.Limit.{limit-totals, over-limit}
 use Rattle.counting_theory.proofs.Trie.Sizes.{reduce-nil, size-reduce, total-reduce}
 use Rattle.counting_theory.proofs.Encoding.Header.{length-encode}
 use Rattle.type_arena.proofs.Sets.{length-headerOf}
@@ -52,7 +53,7 @@ module _ (e : Equivalence) where
   step x y w x′ y′ count c h =
       record {
         is-bytes = rw (h, header-of w (1 + size c) count) (sym (append-assoc (headerOf (typeKind w 0) (typeKey w 0) (1 + size c) count) (encode c) (encode (both e x′ y′))));
-        is-over = rw h (max-over maxTotal (max (total Counting c) (largestBelow Counting c)) (largestBelow Counting (both e x′ y′)));
+        is-over = rw (h, over-limit c) (max-over maxTotal (max (total Counting c) (largestBelow Counting c)) (largestBelow Counting (both e x′ y′)));
       }
 
 -- the equivalence that a level is under
@@ -104,8 +105,8 @@ module _ {level : Level} (x : List ℕ) (p : Part level x) where
   alone z =
       record {
         is-bytes = ap encode (z ∙ coded-type (p .coded)) ∙ sym (p .coded .bytes);
-        light = rw z (le-ltb maxTotal (largestTotal Counting (typeOf (At level) x)) (p .limit));
-        light-below = rw z (le-ltb maxTotal (largestBelow Counting (typeOf (At level) x)) (omega (arith, p .limit)));
+        light = rw (z, p .limit) refl;
+        light-below = rw z (le-ltb maxTotal (largestBelow Counting (typeOf (At level) x)) (omega (arith, limit-totals (typeOf (At level) x) (p .limit))));
       }
 
   pub second-out : Alone x (both (At level) x [])
@@ -135,4 +136,4 @@ module _ (e : Equivalence) (x y : List ℕ) where
   unfolding exceeds exceedsBelow largestTotal both
   union-over =
       let f : CountingType = reduce Counting (typeOf e x) (typeOf e y) in
-      max-over maxTotal (total Counting f) (largestBelow Counting f) ∙ rw (total-reduce counting-laws (typeOf e x) (typeOf e y)) refl
+      over-limit f ∙ max-over maxTotal (total Counting f) (largestBelow Counting f) ∙ rw (total-reduce counting-laws (typeOf e x) (typeOf e y)) refl
