@@ -1,5 +1,6 @@
 // What a run of type records is.
 use type_arena::type_record;
+use value_table::record;
 ghost use mathlib.Core.Path.{_≡_};
 ghost use mathlib.Core.Bool.{cond};
 ghost use Prim.Native.Nat.{_≤_};
@@ -26,7 +27,7 @@ pub fn inside(level: Level, kind: u8) -> Level
     }
     Level {
         left: level.left - 1,
-        field: kind == type_record::RECORD,
+        field: kind == record::RECORD,
         label: level.label,
     }
 }

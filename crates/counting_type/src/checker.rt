@@ -7,6 +7,7 @@ use type_arena::type_record::key_at;
 use type_arena::type_record::kind_at;
 use type_arena::type_record::span_at;
 use type_arena::type_record::zero_at;
+use value_table::record;
 ghost use mathlib.Core.Path.{_≡_};
 ghost use mathlib.Core.Bool.{false, _&&_, _||_};
 ghost use Prim.Native.Nat.{ℕ, _+_, _-_, _≤_, _<_};
@@ -18,10 +19,6 @@ ghost use Rattle.counting_theory.specs.Encoding.{typeKind, typeSpan, typeCount}
 ghost use Rattle.counting_theory.specs.WellFormed.{maxTotal, badTypeLength, wellFormed, placedRecord, fieldRecord, typeRecord, fieldCount};
 ghost use Rattle.type_arena.specs.Arena.{InTable, under, Labelled};
 ghost use Rattle.counting_type.specs.Checker.{RunOf, checkedOf, isSome, hasTotal, addends, fields, fits, ordered, addendRight, checkRun};
-
-const MAX_TOTAL: usize = 1000000000000000;
-
-const MAX_DEPTH: usize = 32;
 
 // The total of a union, or that something in it is wrong.
 pub enum Checked {
@@ -52,7 +49,7 @@ fn kind_fits(b: &[u8], p: usize) -> bool
     if kind < 1 {
         return false;
     }
-    kind <= type_record::ARRAY
+    kind <= record::ARRAY
 }
 
 // A scalar has span 1.
@@ -60,7 +57,7 @@ fn scalar_fits(b: &[u8], p: usize) -> bool
     requires { ⌜ InTable (now b) p ⌝ }
     ensures { λ r. ⌜ r ≡ (ltb lastScalar (typeKind (now (b .entry)) p) || eqb (typeSpan (now (b .entry)) p) 1) ⌝ }
 {
-    if type_record::LAST_SCALAR < kind_at(b, p) {
+    if record::LAST_SCALAR < kind_at(b, p) {
         return true;
     }
     span_at(b, p) == 1
@@ -111,7 +108,7 @@ fn count_fits(b: &[u8], p: usize, total: usize) -> bool
     if count < 1 {
         return false;
     }
-    count <= MAX_TOTAL - total
+    count <= type_record::MAX_TOTAL - total
 }
 
 // A field's count against its record's.
@@ -203,10 +200,10 @@ fn check_addend(b: &[u8], p: usize, end: usize, left: usize, label: bool) -> boo
     }
     let kind = kind_at(b, p);
     let inner_end = p + span_at(b, p);
-    if kind == type_record::RECORD {
+    if kind == record::RECORD {
         return check_fields(b, p + 1, inner_end, left, count_at(b, p), label);
     }
-    if kind < type_record::RECORD {
+    if kind < record::RECORD {
         return true;
     }
     match check_union(b, p + 1, inner_end, left - 1, label) {
@@ -242,7 +239,7 @@ fn check_field(b: &[u8], p: usize, end: usize, left: usize, label: bool) -> bool
     ensures { λ r. ⌜ r ≡ hasTotal (typeCount (now (b .entry)) p) (checkRun (under label) (now (b .entry)) (p + 1) end (addends (maxDepth + 1 - left) (p + 1) 0)) ⌝ }
 {
     if end == p + 2 {
-        if kind_at(b, p + 1) <= type_record::LAST_SCALAR {
+        if kind_at(b, p + 1) <= record::LAST_SCALAR {
             return check_scalar(b, p, end, left);
         }
     }
@@ -257,7 +254,13 @@ pub fn well_formed(bytes: &[u8], label: bool) -> bool
     requires { ⌜ badTypeLength (length (now bytes)) ≡ false ⌝ }
     ensures { λ r. ⌜ r ≡ wellFormed (under label) (now (bytes .entry)) ⌝ }
 {
-    match check_union(bytes, 0, bytes.len() / type_record::SIZE, MAX_DEPTH, label) {
+    match check_union(
+        bytes,
+        0,
+        bytes.len() / type_record::SIZE,
+        record::MAX_DEPTH,
+        label,
+    ) {
         Checked::Total(_) => true,
         Checked::Faulty => false,
     }

@@ -14,6 +14,7 @@ use type_arena::store::put_bytes;
 use type_arena::type_record;
 use type_arena::type_record::key_at;
 use type_arena::type_record::kind_at;
+use value_table::record;
 ghost use mathlib.Core.Path.{_≡_};
 ghost use mathlib.Core.Bool.{not, _||_};
 ghost use Prim.Native.Nat.{_+_, _^_, _<_};
@@ -27,10 +28,6 @@ ghost use Rattle.counting_theory.specs.WellFormed.{maxTotal, withinLimit, IsTyp
 ghost use Rattle.type_arena.specs.Arena.{under};
 ghost use Rattle.type_arena.specs.Addend.{Headed};
 ghost use Rattle.counting_type.specs.Merging.{Part, Kept, Ran, Stored, Joined};
-
-const MAX_DEPTH: usize = 32;
-
-const MAX_TOTAL: usize = 1000000000000000;
 
 // How many bytes a merge has, and whether a union in it totals above the limit.
 pub struct Merged {
@@ -56,7 +53,7 @@ fn total_over(a: &[u8], b: &[u8], level: Level) -> bool
     if level.field {
         return false;
     }
-    MAX_TOTAL < union_total(a) + union_total(b)
+    type_record::MAX_TOTAL < union_total(a) + union_total(b)
 }
 
 // Stores src from `at` on, and moves `at` past it.
@@ -168,7 +165,7 @@ pub fn merge_types(first: &[u8], second: &[u8], label: bool, arena: &mut [u8]) -
     ensures { λ r. ⌜ r .over ≡ not (withinLimit (reduce Counting (typeOf (under label) (now (first .entry))) (typeOf (under label) (now (second .entry))))) ⌝ }
 {
     let level = Level {
-        left: MAX_DEPTH,
+        left: record::MAX_DEPTH,
         field: false,
         label,
     };

@@ -149,7 +149,7 @@ fn count_fields(a: &mut [u8], from: usize, n: usize, t: &[u8], i: usize, weight:
     let mut at = from;
     while next < end {
         let kind = record::kind_at(t, next);
-        if type_record::LAST_SCALAR < kind {
+        if record::LAST_SCALAR < kind {
             return Progress {
                 next: next,
                 from: at,

@@ -5,6 +5,7 @@ use type_arena::type_record::key_at;
 use type_arena::type_record::kind_at;
 use type_arena::type_record::span_at;
 use value_table::little_endian::number16;
+use value_table::record;
 ghost use mathlib.Core.Path.{_≡_};
 ghost use mathlib.Core.Bool.{Bool, cond};
 ghost use mathlib.Core.List.{List};
@@ -84,7 +85,7 @@ fn compare_label(
     if !label {
         return Order::Same;
     }
-    if kind != type_record::RECORD {
+    if kind != record::RECORD {
         return Order::Same;
     }
     compare_keys(b, p, work, n)

@@ -7,6 +7,7 @@ use type_arena::type_record::count_at;
 use type_arena::type_record::key_at;
 use type_arena::type_record::kind_at;
 use type_arena::type_record::span_at;
+use value_table::record;
 ghost use mathlib.Core.Path.{_≡_};
 ghost use Prim.Native.Nat.{_+_, _-_, _*_, _≤_, _<_, max};
 ghost use lib.ListN.{length};
@@ -42,7 +43,7 @@ fn whole_inside(b: &[u8], p: usize, end: usize) -> usize
     requires { ⌜ Inside programEquivalence (now b) p end ⌝ }
     ensures { λ r. ⌜ r ≡ wholeIn programEquivalence (now (b .entry)) p ⌝ }
 {
-    if kind_at(b, p) == type_record::RECORD {
+    if kind_at(b, p) == record::RECORD {
         return count_at(b, p);
     }
     let from = type_record::SIZE * (p + 1);
@@ -55,7 +56,7 @@ fn depth_inside(b: &[u8], p: usize, depth: usize) -> usize
     requires { ⌜ (typeSize * p + typeSize ≤ length (now b)) × (depth ≤ maxTotal) ⌝ }
     ensures { λ r. ⌜ r ≡ depthIn (now (b .entry)) p depth ⌝ }
 {
-    if kind_at(b, p) == type_record::RECORD {
+    if kind_at(b, p) == record::RECORD {
         depth
     } else {
         depth + 1

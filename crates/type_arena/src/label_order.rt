@@ -3,6 +3,7 @@ use crate::type_record;
 use crate::type_record::key_at;
 use crate::type_record::kind_at;
 use crate::type_record::span_at;
+use value_table::record;
 ghost use mathlib.Core.Path.{_≡_};
 ghost use Rattle.counting_theory.specs.Label.{compareKeys, compareLabel};
 ghost use Rattle.type_arena.specs.Arena.{under, keysIn, labelAt, FieldsInside, Labelled};
@@ -73,7 +74,7 @@ pub fn compare_labels(b: &[u8], x: usize, c: &[u8], y: usize, label: bool) -> Or
     if !label {
         return Order::Same;
     }
-    if kind != type_record::RECORD {
+    if kind != record::RECORD {
         return Order::Same;
     }
     compare_keys(b, x, c, y)

@@ -2,6 +2,7 @@
 use value_table::little_endian::number16;
 use value_table::little_endian::number32;
 use value_table::little_endian::number64;
+use value_table::record;
 ghost use mathlib.Core.Path.{_≡_};
 ghost use Prim.Native.Nat.{_+_, _*_, _≤_, _<_};
 ghost use lib.ListN.{length};
@@ -19,15 +20,10 @@ pub const SPAN_OFFSET: usize = 4;
 
 pub const PAYLOAD_OFFSET: usize = 8;
 
-const MAX_LENGTH: usize = 65536;
-
-pub const LAST_SCALAR: u8 = 4;
-
-pub const RECORD: u8 = 5;
-
-pub const ARRAY: u8 = 6;
-
 pub const FIELD: u8 = 7;
+
+// The most that the counts of one union may total.
+pub const MAX_TOTAL: usize = 1000000000000000;
 
 pub fn kind_at(b: &[u8], i: usize) -> u8
     requires { ⌜ typeSize * i + typeSize ≤ length (now b) ⌝ }
@@ -71,5 +67,5 @@ pub fn bad_length(n: usize) -> bool
     if n % SIZE != 0 {
         return true;
     }
-    MAX_LENGTH < n
+    record::MAX_LENGTH < n
 }

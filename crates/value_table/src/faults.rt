@@ -17,8 +17,6 @@ ghost use Rattle.value_table.specs.Judged.{badKind, badSpan, badKey, rep
 ghost use Rattle.value_table.specs.Chain.{Chain};
 ghost use Rattle.value_table.specs.Siblings.{Siblings, Before, Parent, FaultIs, keyBuckets, Latest};
 
-const MAX_DEPTH: usize = 32;
-
 // How many buckets the keys are spread over.
 pub const KEY_BUCKETS: usize = 64;
 
@@ -151,7 +149,7 @@ pub fn fault_at(
     if repeats(table, i, first, latest) {
         return Fault::Found(Refusal::Repeat);
     }
-    if MAX_DEPTH < depth {
+    if record::MAX_DEPTH < depth {
         return Fault::Found(Refusal::Depth);
     }
     Fault::Nothing

@@ -9,7 +9,10 @@ ghost use Rattle.value_table.specs.Judged.{badLength};
 
 pub const SIZE: usize = 8;
 
-const MAX_LENGTH: usize = 65536;
+// The most bytes of a table or a type, and the largest depth of a value.
+pub const MAX_LENGTH: usize = 65536;
+
+pub const MAX_DEPTH: usize = 32;
 
 pub const RECORD: u8 = 5;
 

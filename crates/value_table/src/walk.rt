@@ -19,13 +19,13 @@ ghost use Rattle.value_table.specs.Siblings.{innermostOf, firstOf, messa
 // The open values around the next record: the end of each, the first field of each that is a record (else 0), and how many
 // there are.
 struct Walk {
-    ends: [usize; 32],
-    fields: [usize; 32],
+    ends: [usize; record::MAX_DEPTH],
+    fields: [usize; record::MAX_DEPTH],
     depth: usize,
 }
 
 // What the innermost of `depth` levels holds, or `outside` where there is none.
-fn innermost(levels: &[usize; 32], depth: usize, outside: usize) -> usize
+fn innermost(levels: &[usize; record::MAX_DEPTH], depth: usize, outside: usize) -> usize
     requires { ⌜ depth ≤ maxDepth ⌝ }
     ensures { λ r. ⌜ r ≡ innermostOf (now (levels .entry)) depth outside ⌝ }
 {
@@ -62,8 +62,8 @@ pub fn walk_table(table: &[u8]) -> Judged
 {
     let n = table.len() / record::SIZE;
     let mut walk = Walk {
-        ends: [0; 32],
-        fields: [0; 32],
+        ends: [0; record::MAX_DEPTH],
+        fields: [0; record::MAX_DEPTH],
         depth: 0,
     };
     let mut latest = [0; faults::KEY_BUCKETS];
