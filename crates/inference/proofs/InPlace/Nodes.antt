@@ -29,7 +29,7 @@ module _ (b : List ℕ) (short : length b ≤ maxLength) where
   pub node-in : (i : ℕ) (l : Label) (a : Payload) (c s : CountingType) (q : List ℕ) → Keyed (node l a c s) → drop (typeSize * i) b ≡ encode (node l a c s) ++ q → NodeIn b i l c s q
   unfolding encode size
   node-in i l a c s q keyed e =
-      let n : length b - 16 * i ≡ 16 * (1 + (size c + size s)) + length q = sym (length-drop (16 * i) b) ∙ ap length e ∙ length-append (encode (node l a c s)) q ∙ ap (λ k. k + length q) (length-encode (node l a c s)) in
+      let n : length b - typeSize * i ≡ typeSize * (1 + (size c + size s)) + length q = sym (length-drop (typeSize * i) b) ∙ ap length e ∙ length-append (encode (node l a c s)) q ∙ ap (λ k. k + length q) (length-encode (node l a c s)) in
       let last : List ℕ = encode s ++ q in
       let f : Front b i l (1 + size c) (encode c ++ last) =
       header-front b i l (1 + size c) a (encode c ++ last) (keyed .0 .0) (keyed .0 .1) (omega arith) (e ∙ simp append-assoc) in
