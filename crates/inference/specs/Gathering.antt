@@ -20,9 +20,16 @@ use Rattle.inference.specs.Inferring.{numbersOf, TableRun, Holds}
 abbrev pub keyPart : ℕ → ℕ
 keyPart n = n - n / 2
 
--- the first n slots of a working buffer, eight bytes a slot
+-- the bytes of a slot, and the first n slots of a working buffer
+abbrev pub slotSize : ℕ
+slotSize = 8
+
 abbrev pub slotsOf : ℕ → List ℕ → List ℕ
-slotsOf n w = numbersOf 8 n (drop (keyPart (length w)) w)
+slotsOf n w = numbersOf slotSize n (drop (keyPart (length w)) w)
+
+-- a working buffer has room for n slots
+abbrev pub HasSlots : ℕ → List ℕ → Type 0
+HasSlots n w = keyPart (length w) + slotSize * n ≤ length w
 
 abbrev pub slotStart : ℕ → ℕ
 slotStart v = v % 8192

@@ -7,7 +7,7 @@ use mathlib.Core.Option.{Option, none, some}
 use Prim.Native.Nat.{ℕ, zero, suc, _+_, _*_, _/_, _≤_, _<_, Ordering, Ordering·lt as lt, Ordering·eq as eq, Ordering·gt as gt}
 use lib.Dec.{eqb, ltb}
 use lib.ListN.{length, take, drop}
-use Rattle.value_table.specs.Number.{numberOf, numberAt}
+use Rattle.value_table.specs.Number.{numberOf}
 use Rattle.value_table.specs.Value.{maxLength, recordKind, Values, keys, Distinct, ValidAt}
 use Rattle.value_table.specs.Value as table
 use Rattle.value_table.specs.Judged.{messages}
@@ -228,7 +228,7 @@ pub record ItemAt (field : Bool) (t : List ℕ) (i : ℕ) (x : Item) : Type 0 wh
 -- n records of t from i on have the bytes of those from j on
 pub record EqualRecords (t : List ℕ) (i j n : ℕ) : Type 0 where
   pub within : table.recordSize * (j + n) ≤ length t
-  pub same : (x : ℕ) → x < n → numberAt 8 t (table.recordSize * (i + x)) ≡ numberAt 8 t (table.recordSize * (j + x))
+  pub same : (x : ℕ) → x < n → table.recordAt t (i + x) ≡ table.recordAt t (j + x)
 
 -- t is the table of its messages, as call 1 accepts it
 pub record AcceptedTable (t : List ℕ) : Type 0 where

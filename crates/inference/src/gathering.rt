@@ -7,8 +7,8 @@ use crate::slots::key_part;
 use crate::slots::put_slot;
 use crate::slots::read_slot;
 use type_arena::type_record;
-use value_table::little_endian::number32;
 use value_table::record;
+use value_table::record::front_at;
 use value_table::record::span_at;
 ghost use mathlib.Core.Path.{_≡_};
 ghost use mathlib.Core.Bool.{true, false};
@@ -67,7 +67,7 @@ fn slot_of(t: &[u8], i: usize, end: usize, slots: usize) -> usize
     let mut hash = 0;
     let mut j = i;
     while j < end {
-        hash = (hash * BASE + number32(t, record::SIZE * j)) % HASHES;
+        hash = (hash * BASE + front_at(t, j)) % HASHES;
         j += 1;
     }
     hash * SCATTER / 65536 % 65536 * slots / 65536
@@ -82,7 +82,8 @@ fn add_waiting(
     label: bool,
     work: &mut [u8],
 ) -> Inferred
-    requires { ⌜ HeldRun (under label) false (now a) m 0 × Slot (now t) (records (now t)) slot × (length (now t) ≤ maxLength) × (length (now a) ≤ length (now work)) ⌝ }
+    requires { ⌜ HeldRun (under label) false (now a) m 0 × Slot (now t) (records (now t)) slot × (length (now t) ≤ maxLength) ×
+        (length (now a) ≤ length (now work)) ⌝ }
     ensures { λ r. ⌜ ((f : CountingType) (free : List ℕ) → Holds (under label) false (now (a .entry)) m 0 f [] free →
         Added (add Counting (slotRaw (under label) (now (t .entry)) slot) f) [] 0 r (now (a .exit))) ×
         ((n : ℕ) → slotsOf n (now (work .exit)) ≡ slotsOf n (now (work .entry))) ⌝ }
@@ -116,7 +117,8 @@ fn take_message(
     label: bool,
     work: &mut [u8],
 ) -> Inferred
-    requires { ⌜ Gathering (under label) (now t) (now a) m i (slotsOf slots (now work)) × (recordSize * i < length (now t)) × (length (now t) ≤ maxLength) × Roomy slots (now a) (now work) ⌝ }
+    requires { ⌜ Gathering (under label) (now t) (now a) m i (slotsOf slots (now work)) × (recordSize * i < length (now t)) ×
+        (length (now t) ≤ maxLength) × Roomy slots (now a) (now work) ⌝ }
     ensures { λ r. ⌜ GatheredTo (under label) (now (t .entry)) (i + spanAt (now (t .entry)) i) r (now (a .exit)) (slotsOf slots (now (work .exit))) ⌝ }
 {
     let k = slot_of(t, i, i + first_records(span_at(t, i)), slots);
@@ -149,7 +151,8 @@ fn gather(a: &mut [u8], t: &[u8], slots: usize, label: bool, work: &mut [u8]) ->
 
 // Adds what waits in all slots.
 fn settle(a: &mut [u8], m: usize, t: &[u8], slots: usize, label: bool, work: &mut [u8]) -> Inferred
-    requires { ⌜ AcceptedTable (now t) × Gathering (under label) (now t) (now a) m (records (now t)) (slotsOf slots (now work)) × Roomy slots (now a) (now work) ⌝ }
+    requires { ⌜ AcceptedTable (now t) × Gathering (under label) (now t) (now a) m (records (now t)) (slotsOf slots (now work)) ×
+        Roomy slots (now a) (now work) ⌝ }
     ensures { λ r. ⌜ Added (profileOf (under label) (messages (now (t .entry)))) [] 0 r (now (a .exit)) ⌝ }
 {
     let mut n = m;

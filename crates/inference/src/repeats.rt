@@ -1,6 +1,6 @@
 // Equal values that directly follow each other in a run.
-use value_table::little_endian::number64;
 use value_table::record;
+use value_table::record::same_record;
 ghost use Prim.Native.Nat.{_*_, _-_, _≤_, _<_};
 ghost use lib.ListN.{length};
 ghost use Rattle.value_table.specs.Value.{recordSize};
@@ -13,7 +13,7 @@ pub fn equal_records(t: &[u8], i: usize, j: usize, end: usize) -> usize
 {
     let mut n = 0;
     while j + n < end {
-        if number64(t, record::SIZE * (i + n)) != number64(t, record::SIZE * (j + n)) {
+        if !same_record(t, i + n, j + n) {
             return n;
         }
         n += 1;

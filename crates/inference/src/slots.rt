@@ -3,9 +3,9 @@ use type_arena::clearing::clear_from;
 use type_arena::store::store64;
 use value_table::little_endian::number64;
 ghost use mathlib.Core.Path.{_≡_};
-ghost use Prim.Native.Nat.{ℕ, _+_, _*_, _≤_, _<_};
-ghost use lib.ListN.{length, getD, set, replicate};
-ghost use Rattle.inference.specs.Gathering.{keyPart, slotsOf};
+ghost use Prim.Native.Nat.{ℕ, _+_, _<_};
+ghost use lib.ListN.{getD, set, replicate};
+ghost use Rattle.inference.specs.Gathering.{keyPart, slotsOf, HasSlots};
 
 // The bytes of a slot.
 const SIZE: usize = 8;
@@ -19,7 +19,7 @@ pub fn key_part(n: usize) -> usize
 
 // The number in slot k.
 pub fn read_slot(work: &[u8], k: usize) -> usize
-    requires { ⌜ 16 * k + 16 ≤ length (now work) ⌝ }
+    requires { ⌜ HasSlots (k + 1) (now work) ⌝ }
     ensures { λ r. ⌜ ((n : ℕ) → k < n → r ≡ getD (slotsOf n (now (work .entry))) k 0) ⌝ }
 {
     number64(work, key_part(work.len()) + SIZE * k)
@@ -27,8 +27,8 @@ pub fn read_slot(work: &[u8], k: usize) -> usize
 
 // Puts a number into slot k.
 pub fn put_slot(work: &mut [u8], k: usize, v: usize)
-    requires { ⌜ 16 * k + 16 ≤ length (now work) ⌝ }
-    ensures { λ _. ⌜ ((n : ℕ) → k < n → 16 * n ≤ length (now (work .entry)) → slotsOf n (now (work .exit)) ≡ set (slotsOf n (now (work .entry))) k v) ⌝ }
+    requires { ⌜ HasSlots (k + 1) (now work) ⌝ }
+    ensures { λ _. ⌜ ((n : ℕ) → k < n → HasSlots n (now (work .entry)) → slotsOf n (now (work .exit)) ≡ set (slotsOf n (now (work .entry))) k v) ⌝ }
 {
     let o = key_part(work.len()) + SIZE * k;
     store64(work, o, v);

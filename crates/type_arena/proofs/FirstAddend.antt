@@ -21,7 +21,7 @@ use Rattle.counting_theory.proofs.Encoding.Header.{length-encode}
 use Rattle.counting_theory.proofs.Encoding.Node.{NodeAt, node-read}
 use Rattle.counting_theory.proofs.Encoding.Decode.{decode-encode}
 use Rattle.type_arena.proofs.Nodes.{fitting-heads, NodeIn, node-in}
-use Rattle.type_arena.proofs.Sets.{length-headerOf}
+use Rattle.type_arena.proofs.Sets.{length-header}
 
 -- the header of a label, and that of its kind and key
 header-parts : (l : Label) (span : ℕ) (a : Payload) → header l span a ≡ headerOf (l .kind) (l .key) span a
@@ -90,7 +90,7 @@ module _ {e : Equivalence} {field : Bool} {x : List ℕ} (l : Label) (a : Payloa
   split =
       let n = node-at .span-is in
       let H : List ℕ = headerOf (l .kind) (l .key) (1 + size c) a in
-      let d : length H ≡ typeSize = length-headerOf (l .kind) (l .key) (1 + size c) a in
+      let d : length H ≡ typeSize = length-header (record { kind = l .kind; key = l .key; keys = [] }) (1 + size c) a in
       let w : x ≡ H ++ (encode c ++ encode s) = bytes ∙ ap (λ u. u ++ (encode c ++ encode s)) (header-parts l (1 + size c) a) in
       let v : x ≡ (H ++ encode c) ++ encode s = w ∙ sym (append-assoc H (encode c) (encode s)) in
       let p : length (H ++ encode c) ≡ typeSize * typeSpan x 0 = simp length-append (omega (arith, length-encode c)) in

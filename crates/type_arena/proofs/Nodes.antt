@@ -54,8 +54,8 @@ module _ (b : List ℕ) where
   unfolding size labelAt
   node-in i l a c s q h e =
       let x = front i l a c s q h e in
-      let n : length b - 16 * i ≡ 16 * (1 + (size c + size s)) + length q =
-      sym (length-drop (16 * i) b) ∙ ap length e ∙ length-append (encode (node l a c s)) q ∙ ap (λ k. k + length q) (length-encode (node l a c s)) in
+      let n : length b - typeSize * i ≡ typeSize * (1 + (size c + size s)) + length q =
+      sym (length-drop (typeSize * i) b) ∙ ap length e ∙ length-append (encode (node l a c s)) q ∙ ap (λ k. k + length q) (length-encode (node l a c s)) in
       let f : FieldsInside b i =
       record {
         keys = siblingKeys c;

@@ -1,19 +1,19 @@
 -- The laws of payloads in the code: their bytes in a record, a payload joined to one that stands there, and what an item gives.
 use mathlib.Core.Path.{_≡_, refl, sym, ap, _∙_}
 use mathlib.Core.Bool.{Bool, true, false, cond}
-use mathlib.Core.List.{List, [], _∷_, _++_, append-assoc}
-use Prim.Native.Nat.{ℕ, _+_, _*_, _/_, _%_, _^_, _≤_}
-use native.Mathlib.Nat.{mul-one, add-zero, zero-add}
+use mathlib.Core.List.{List, [], _++_}
+use Prim.Native.Nat.{ℕ, _+_, _*_, _/_, _%_, _^_}
+use native.Mathlib.Nat.{mul-one}
 use native.Mathlib.Omega.{arith}
 use lib.Dec.{eqb}
-use lib.ListN.{length, take, drop, length-append}
-use lib.Seq.{drop-at, sets, sets-eq}
+use lib.ListN.{length, drop}
+use lib.Seq.{drop-at, sets}
 use Rattle.value_table.specs.Number.{bytesOf, numberOf}
 use Rattle.value_table.specs.Value.{Values}
-use Rattle.value_table.specs.Format.{widthOf, fieldAt, fieldsFrom, recordBytes}
+use Rattle.value_table.specs.Format.{fieldAt, fieldsFrom, recordBytes}
 use Rattle.value_table.proofs.Number.{bytes-past, bytes-more}
-use Rattle.value_table.proofs.Format.{length-record, field-stored, sets-behind}
-use Rattle.counting_theory.specs.Payload.{Payload, payloadFormat, numbers, ofNumbers, one, oneField, join, copies}
+use Rattle.value_table.proofs.Format.{field-stored, sets-behind}
+use Rattle.counting_theory.specs.Payload.{Payload, numbers, ofNumbers, one, oneField, join, copies}
 use Rattle.counting_theory.specs.Label.{Label, fieldKind}
 use Rattle.counting_theory.specs.Encoding.{typeFormat, typeSize, typePayload, recordNumbers, header}
 use Rattle.type_arena.specs.Arena.{headerOf}
@@ -23,9 +23,8 @@ use Rattle.type_arena.specs.Payload.{payloadOffset, payloadBytes, itemPa
 pub wrapped-join : (a b c : Payload) → c .count ≡ (a .count + b .count) % 2 ^ 64 → payloadBytes c ≡ payloadBytes (join a b)
 unfolding payloadBytes numbers join recordBytes
 wrapped-join a b c e =
-    let k = (a .count + b .count) / 2 ^ 64 in
-    let z : c .count + 256 ^ 8 * k ≡ a .count + b .count = omega arith in
-    ap (λ xs. xs ++ []) (sym (bytes-past 8 (c .count) k) ∙ ap (bytesOf 8) z)
+    let z : c .count + 256 ^ 8 * ((a .count + b .count) / 2 ^ 64) ≡ a .count + b .count = omega arith in
+    ap (λ xs. xs ++ []) (sym (bytes-past 8 (c .count) _) ∙ ap (bytesOf 8) z)
 
 pub item-is : (w kind : ℕ) (content : Values) → record { count = w } ≡ itemPayload w kind content
 unfolding copies one oneField
@@ -35,29 +34,14 @@ item-is w kind content = go (eqb kind fieldKind)
     go true = λ i. record { count = sym (mul-one w) i }
     go false = λ i. record { count = sym (mul-one w) i }
 
--- the bytes of a record before its payload
-front : Label → ℕ → List ℕ
-front l span = recordBytes (take 4 typeFormat) (l .kind ∷ 0 ∷ l .key ∷ span ∷ [])
-
-header-bytes : (l : Label) (span : ℕ) (a : Payload) → header l span a ≡ front l span ++ payloadBytes a
-unfolding header recordBytes payloadBytes front
-header-bytes l span a = simp append-assoc
-
--- a record depends on its payload through the payload's bytes alone
+-- a record depends on its payload through the payload's bytes alone, and a payload stored anew changes nothing else
 pub header-same : (kind key span : ℕ) (a b : Payload) → payloadBytes a ≡ payloadBytes b → headerOf kind key span a ≡ headerOf kind key span b
-header-same kind key span a b e = rw (header-bytes, header-bytes, e) refl
-
-length-payload : (a : Payload) → length (payloadBytes a) ≡ widthOf payloadFormat
-unfolding payloadBytes
-length-payload a = length-record payloadFormat (numbers a)
+unfolding header recordBytes payloadBytes
+header-same kind key span a b e = ap (λ x. bytesOf 1 kind ++ (bytesOf 1 0 ++ (bytesOf 2 key ++ (bytesOf 4 span ++ x)))) e
 
 payload-stored : (l : Label) (span : ℕ) (a b : Payload) (q : List ℕ) → sets (header l span a ++ q) payloadOffset (payloadBytes b) ≡ header l span b ++ q
-unfolding front
-payload-stored l span a b q =
-    let z : payloadOffset ≡ length (front l span) + 0 = sym (length-record (take 4 typeFormat) _) ∙ sym (add-zero _) in
-    let n : 0 + length (payloadBytes b) ≤ length (payloadBytes a ++ q) = simp length-append (omega (arith, length-payload a, length-payload b)) in
-    let m : drop (0 + length (payloadBytes b)) (payloadBytes a ++ q) ≡ q = rw (zero-add) (drop-at (payloadBytes a) q (length (payloadBytes b)) (length-payload a ∙ sym (length-payload b))) in
-    rw (header-bytes l span a, header-bytes l span b, append-assoc, append-assoc, z, sets-behind (front l span) (payloadBytes a ++ q) (payloadBytes b) 0, sets-eq (payloadBytes b) (payloadBytes a ++ q) 0 n, m) refl
+unfolding header recordBytes payloadBytes bytesOf
+payload-stored l span a b q = refl
 
 -- record i of b has the label l, this span and the payload a
 module _ (b p : List ℕ) (i : ℕ) (l : Label) (span : ℕ) (a : Payload) (q : List ℕ) (e : b ≡ p ++ (header l span a ++ q)) (z : length p ≡ typeSize * i) (m : Payload) where

@@ -13,6 +13,7 @@ use Rattle.value_table.proofs.Number.{length-bytesOf}
 use Rattle.value_table.specs.Format.{recordBytes}
 use Rattle.value_table.proofs.Format.{length-record}
 use Rattle.counting_theory.specs.Payload.{Payload, numbers}
+use Rattle.counting_theory.specs.Label.{Label}
 use Rattle.counting_theory.specs.Encoding.{typeFormat, typeSize, header}
 use Rattle.type_arena.specs.Arena.{spanOffset, headerOf}
 use Rattle.type_arena.specs.Payload.{payloadOffset, payloadBytes}
@@ -47,9 +48,9 @@ pub sets-bytes : (v w n : ℕ) (l : List ℕ) (i : ℕ) → sets (sets l i (byte
 sets-bytes v w n l i =
     rw (bytesOf-add v w n, sets-append (bytesOf v n) (bytesOf w (n / 256 ^ v)) l i, length-bytesOf v n) refl
 
-pub length-headerOf : (kind key span : ℕ) (a : Payload) → length (headerOf kind key span a) ≡ typeSize
+pub length-header : (l : Label) (span : ℕ) (a : Payload) → length (header l span a) ≡ typeSize
 unfolding header
-length-headerOf kind key span a = length-record typeFormat _
+length-header l span a = length-record typeFormat _
 
 -- a type record in its parts, the first with the zero byte behind the kind
 pub sets-record : (kind key span : ℕ) (a : Payload) (l : List ℕ) (at : ℕ) → kind < 256 →
@@ -67,9 +68,12 @@ sets-whole vs l h = sets-eq vs l 0 (omega arith) ∙ rw (zero-add, drop-of-lengt
 pub sets-aside : (vs l out : List ℕ) (at : ℕ) {made out′ : List ℕ} → length l ≡ length vs → made ≡ sets l 0 vs → out′ ≡ sets out at made → out′ ≡ sets out at vs
 sets-aside vs l out at h e f = f ∙ ap (sets out at) (e ∙ sets-whole vs l h)
 
--- a record stored over the first of its length
-pub sets-front : (vs l x : List ℕ) {out : List ℕ} → length vs ≤ length l → drop (length vs) l ≡ x → out ≡ sets l 0 vs → out ≡ vs ++ x
-sets-front vs l x h e f = f ∙ sets-eq vs l 0 (omega arith) ∙ rw (zero-add, e) refl
+-- a record stored over the first one
+pub sets-first : (kind key span : ℕ) (a : Payload) (l x : List ℕ) {out : List ℕ} → typeSize ≤ length l → drop typeSize l ≡ x → out ≡ sets l 0 (headerOf kind key span a) →
+    out ≡ headerOf kind key span a ++ x
+sets-first kind key span a l x h e f =
+    let n = length-header (record { kind = kind; key = key; keys = [] }) span a in
+    f ∙ sets-eq (headerOf kind key span a) l 0 (omega (arith, n)) ∙ rw (zero-add, n, e) refl
 
 -- one byte of a copy
 pub copy-more : (src out : List ℕ) (at i : ℕ) → i < length src →

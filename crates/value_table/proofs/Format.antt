@@ -1,8 +1,8 @@
 -- Laws of records in bytes, over the format: what is read of a record is what it was written from, and the other way round.
 use mathlib.Core.Path.{_≡_, refl, sym, _∙_, ap}
-use mathlib.Core.List.{List, [], _∷_, _++_, append-assoc}
+use mathlib.Core.List.{List, [], _∷_, _++_, append-assoc, append-nil}
 use Prim.Native.Nat.{ℕ, zero, suc, _+_, _*_, _/_, _^_, _<_, _≤_}
-use native.Mathlib.Nat.{add-zero, add-assoc, zero-add, suc-add}
+use native.Mathlib.Nat.{add-zero, add-assoc, zero-add, suc-add, mul-zero}
 use native.Mathlib.Omega.{arith}
 use lib.Dec.{lit<}
 use lib.ListN.{length, take, drop, getD, set, length-append, length-drop, take-append-drop}
@@ -103,6 +103,14 @@ module _ (format : Format) (ns b rest : List ℕ) (i : ℕ) (written : drop (wid
       let e : widthOf format * (i + 1) ≡ widthOf format * i + widthOf format = omega arith in
       rw (e, ← drop-drop, written) (drop-at (recordBytes format ns) rest (widthOf format) (length-record format ns))
 
+-- records with the same bytes have the same numbers
+pub record-same : (format : Format) (ns ms : List ℕ) → Fits format ns → Fits format ms → length ns ≡ length format → length ms ≡ length format →
+    recordBytes format ns ≡ recordBytes format ms → ns ≡ ms
+record-same format ns ms h k n m e =
+    let b = recordBytes format ns in
+    let written : (xs : List ℕ) → b ≡ recordBytes format xs → drop (widthOf format * 0) b ≡ recordBytes format xs ++ [] = λ xs z. rw mul-zero (z ∙ sym (append-nil _)) in
+    sym (fields-read format ns b [] 0 (written ns refl) h n) ∙ fields-read format ms b [] 0 (written ms e) k m
+
 bytes-take : (w : ℕ) (x : List ℕ) → Bytes x → Bytes (take w x)
 bytes-take zero x h p = lit< tt
 bytes-take (suc w) [] h p = lit< tt
@@ -120,12 +128,14 @@ module _ (w : ℕ) (b : List ℕ) (p : ℕ) (bytes : Bytes b) (fits : p + w ≤ 
   unfolding numberAt
   numberAt-below = rw part-length at (numberOf-below (take w (drop p b)) part-bytes)
 
-  pub number-written : (q : ℕ) → q ≡ p + w → drop p b ≡ bytesOf w (numberAt w b p) ++ drop q b
+  part-written : bytesOf w (numberAt w b p) ≡ take w (drop p b)
   unfolding numberAt
-  number-written q e =
-      let written : bytesOf w (numberAt w b p) ≡ take w (drop p b) =
-      rw part-length at (bytesOf-numberOf (take w (drop p b)) part-bytes) in
-      rw (e, written, ← drop-drop) (sym (take-append-drop w (drop p b)))
+  part-written = rw part-length at (bytesOf-numberOf (take w (drop p b)) part-bytes)
+
+-- bytes that give one number are the same
+pub part-same : (w : ℕ) (b : List ℕ) (p q : ℕ) → Bytes b → p + w ≤ length b → q + w ≤ length b → numberAt w b p ≡ numberAt w b q →
+    take w (drop p b) ≡ take w (drop q b)
+part-same w b p q bytes h k e = sym (part-written w b p bytes h) ∙ ap (bytesOf w) e ∙ part-written w b q bytes k
 
 -- the bytes from p on, by the numbers that are read there
 numbers-written : (format : Format) (ns b : List ℕ) (p : ℕ) → Bytes b → p + widthOf format ≤ length b →
@@ -137,7 +147,7 @@ numbers-written (w ∷ ws) ns b p bytes fits h =
     let first : getD ns 0 0 ≡ numberAt w b p = rw add-zero at (h 0 (omega arith)) in
     let next : drop (p + w) b ≡ recordBytes ws (drop 1 ns) ++ drop (p + (w + widthOf ws)) b =
     rw add-assoc at (numbers-written ws (drop 1 ns) b (p + w) bytes (omega arith) (λ k n. getD-next ns k ∙ rw add-assoc (h (suc k) (omega arith)))) in
-    number-written w b p bytes (omega arith) (p + w) refl ∙ rw (first, next, append-assoc) refl
+    sym (take-append-drop w (drop p b)) ∙ rw (← part-written w b p bytes (omega arith), drop-drop, first, next, append-assoc) refl
 
 -- record i stands in b
 module _ (format : Format) (b : List ℕ) (i : ℕ) (bytes : Bytes b) (fits : widthOf format * (i + 1) ≤ length b) where

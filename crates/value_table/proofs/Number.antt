@@ -2,7 +2,7 @@
 use mathlib.Core.Path.{_≡_, refl, sym, ap, _∙_}
 use mathlib.Core.List.{List, [], _∷_}
 use Prim.Native.Nat.{ℕ, zero, suc, _+_, _*_, _/_, _%_, _^_, _<_, _≤_}
-use native.Mathlib.Nat.{pow-suc, zero-add, add-zero, suc-add, one-mul, mul-comm, mul-assoc, div-one, div-div-eq-div-mul}
+use native.Mathlib.Nat.{pow-suc, zero-add, add-zero, suc-add, one-mul, mul-comm, mul-assoc, div-add-mod', mod-lt, one-le-pow}
 use native.Mathlib.Numerals.{add-one}
 use native.Mathlib.Omega.{arith}
 use lib.Dec.{lit<}
@@ -43,20 +43,14 @@ bytes-past (suc w) y k =
     let high : (y + 256 ^ suc w * k) / 256 ≡ y / 256 + 256 ^ w * k = omega arith in
     rw (low, high) (ap (λ xs. y % 256 ∷ xs) (bytes-past w (y / 256) k))
 
-number-split : (w n : ℕ) → n ≡ numberOf (bytesOf w n) + 256 ^ w * (n / 256 ^ w)
-unfolding bytesOf numberOf
-number-split zero n = rw div-one (omega arith)
-number-split (suc w) n =
-    let e : n / 256 ^ suc w ≡ n / 256 / 256 ^ w = rw (div-div-eq-div-mul, pow-suc, mul-comm (256 ^ w) 256) refl in
-    let f : 256 ^ suc w * (n / 256 / 256 ^ w) ≡ 256 * (256 ^ w * (n / 256 / 256 ^ w)) = rw (pow-suc, mul-comm (256 ^ w) 256, mul-assoc) refl in
-    rw e (omega (arith, f, number-split w (n / 256)))
-
 -- n more than a number that was read from its bytes
 pub bytes-more : (w m n : ℕ) → bytesOf w (numberOf (bytesOf w m) + n) ≡ bytesOf w (m + n)
 bytes-more w m n =
-    let x = numberOf (bytesOf w m) in
-    let e : x + n + 256 ^ w * (m / 256 ^ w) ≡ m + n = omega (arith, number-split w m) in
-    sym (bytes-past w (x + n) (m / 256 ^ w)) ∙ ap (bytesOf w) e
+    let k = m / 256 ^ w in
+    let y = m % 256 ^ w in
+    let e : y + 256 ^ w * k ≡ m = omega (arith, div-add-mod' m (256 ^ w), mul-comm k (256 ^ w)) in
+    let z : numberOf (bytesOf w m) ≡ y = ap (λ x. numberOf (bytesOf w x)) (sym e) ∙ ap numberOf (bytes-past w y k) ∙ numberOf-bytesOf w y (mod-lt m (one-le-pow w 256 (lit< tt))) in
+    rw z (sym (bytes-past w (y + n) k) ∙ ap (bytesOf w) (omega arith))
 
 -- a number of one byte more, from its lowest byte
 pub numberAt-suc : (w : ℕ) (b : List ℕ) (p : ℕ) → p < length b → numberAt (suc w) b p ≡ getD b p 0 + 256 * numberAt w b (p + 1)

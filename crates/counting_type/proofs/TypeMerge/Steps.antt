@@ -21,7 +21,7 @@ use Rattle.counting_theory.proofs.Label.{label-order, kind-eq, counting-laws}
 use Rattle.counting_theory.proofs.WellFormed.Limit.{limit-totals, over-limit}
 use Rattle.counting_theory.proofs.Trie.Sizes.{reduce-nil, size-reduce, total-reduce}
 use Rattle.counting_theory.proofs.Encoding.Header.{length-encode}
-use Rattle.type_arena.proofs.Sets.{length-headerOf}
+use Rattle.type_arena.proofs.Sets.{length-header}
 use Rattle.type_arena.proofs.FirstAddend.{coded-type, coded-length, type-empty}
 use Rattle.counting_type.proofs.TypeMerge.Part.{Head}
 
@@ -125,7 +125,7 @@ module _ (e : Equivalence) (x y : List ℕ) where
   pub length-joined : length (joinedBytes e x y) ≡ typeSize + length (mergedBytes e (body x) (body y))
   unfolding joinedBytes
   length-joined =
-      simp length-append (rw (length-headerOf (typeKind x 0) (typeKey x 0) (1 + size (both e (body x) (body y))) (join (typePayload x 0) (typePayload y 0))) refl)
+      simp length-append (rw (length-header (record { kind = typeKind x 0; key = typeKey x 0; keys = [] }) (1 + size (both e (body x) (body y))) (join (typePayload x 0) (typePayload y 0))) refl)
 
   -- no run is longer than both together
   pub merged-le : {f g : Bool} → Coded e f x → Coded e g y → length (mergedBytes e x y) ≤ length x + length y

@@ -19,7 +19,7 @@ use Rattle.type_arena.specs.Addend.{front, body, rest}
 use Rattle.counting_type.specs.Merging.{Part, insideOf, exceedsBelow, both, mergedBytes, joinedBytes, Kept, Ran, Stored, Joined}
 use Rattle.type_arena.specs.Payload.{payloadBytes}
 use Rattle.type_arena.proofs.PayloadBytes.{header-same}
-use Rattle.type_arena.proofs.Sets.{sets-append, sets-last, length-headerOf}
+use Rattle.type_arena.proofs.Sets.{sets-append, sets-last, length-header}
 use Rattle.type_arena.proofs.FirstAddend.{body-rest, front-rest}
 use Rattle.counting_type.proofs.TypeMerge.Part.{Head}
 use Rattle.counting_type.proofs.TypeMerge.Steps.{Step, At, order, step-less, step-more, step-same, second-out, first-out, length-merged, length-joined, merged-le, union-over}
@@ -132,7 +132,7 @@ addend-done {e} {x} {y} {v} {w} {out} {out₁} {at = at} {n = n} {over = over} {
     let span : ℕ = 1 + size (both e (body x) (body y)) in
     let l : n / typeSize + 1 ≡ span = omega (arith, r .counted, length-merged e (body x) (body y)) in
     let H : List ℕ = headerOf (typeKind x 0) (typeKey x 0) span (join (typePayload x 0) (typePayload y 0)) in
-    let k : at + typeSize ≡ at + length H = ap (λ u. at + u) (sym (length-headerOf (typeKind x 0) (typeKey x 0) span (join (typePayload x 0) (typePayload y 0)))) in
+    let k : at + typeSize ≡ at + length H = ap (λ u. at + u) (sym (length-header (record { kind = typeKind x 0; key = typeKey x 0; keys = [] }) span (join (typePayload x 0) (typePayload y 0)))) in
     record {
       bytes = z ∙ rw (r .bytes, header-same _ _ _ u (join i j) h, a, b, c, d, l, k) (sets-last H (mergedBytes e (body x) (body y)) out at);
       upto = omega (arith, r .counted, length-joined e x y);

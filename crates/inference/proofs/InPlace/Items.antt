@@ -54,14 +54,11 @@ module _ (e : Equivalence) (kind key w : ℕ) (vs : Values) (f : CountingType) (
   abbrev l : Label
   l = labelFor e kind key vs
 
-  located-at : (r : Put) (b : List ℕ) → PlacedAt l (itemPayload w kind vs) f q rest r b → CountedWithin (size (withItem e kind key w vs f) + rest) (split l f) l (itemPayload w kind vs) q r b
-  located-at NoRoom b h =
+  pub located : (r : Put) (b : List ℕ) → PlacedAt l (itemPayload w kind vs) f q rest r b → CountedWithin (size (withItem e kind key w vs f) + rest) (split l f) l (itemPayload w kind vs) q r b
+  located NoRoom b h =
       let r = times w (raw e (eqb kind recordKind) vs) in
       omega (arith, insert-size l (itemPayload w kind vs) (add Counting r) f, add-grows counting-laws r (split l f .content) .sizes)
-  located-at (At p n) b h = h
-
-  pub located : (m : Label) (a : Payload) → m ≡ l → a ≡ itemPayload w kind vs → (r : Put) (b : List ℕ) → PlacedAt m a f q rest r b → CountedWithin (size (withItem e kind key w vs f) + rest) (split l f) l (itemPayload w kind vs) q r b
-  located m a z y r b h = located-at r b (rw (z, y) at h)
+  located (At p n) b h = h
 
 length-insert : (k : ℕ) (xs : List ℕ) → length (insertKey k xs) ≡ suc (length xs)
 unfolding insertKey

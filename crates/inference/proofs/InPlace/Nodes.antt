@@ -23,6 +23,6 @@ pub node-in : (b : List ℕ) → length b ≤ maxLength → (i : ℕ) (l : Label
     drop (typeSize * i) b ≡ encode (node l a c s) ++ q → NodeIn b i l a c s q
 node-in b short i l a c s q keyed e =
     let f : CountingType = node l a c s in
-    let n : length b - 16 * i ≡ 16 * size f + length q =
-    sym (length-drop (16 * i) b) ∙ ap length e ∙ length-append (encode f) q ∙ ap (λ k. k + length q) (length-encode f) in
+    let n : length b - typeSize * i ≡ typeSize * size f + length q =
+    sym (length-drop (typeSize * i) b) ∙ ap length e ∙ length-append (encode f) q ∙ ap (λ k. k + length q) (length-encode f) in
     arena.node-in b i l a c s q (heads-fit f keyed (omega arith)) e

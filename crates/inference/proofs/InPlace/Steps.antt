@@ -12,7 +12,7 @@ use Rattle.value_table.specs.Number.{bytesOf}
 use Rattle.value_table.specs.Value.{maxLength, recordKind, Values}
 use Rattle.inference.specs.declared.inferring.Inferred.{Inferred}
 use Rattle.inference.specs.declared.inferring.Inferred.the-variants.{Records, Full}
-use Rattle.value_table.proofs.Format.{field-set, field-read, length-record, sets-behind}
+use Rattle.value_table.proofs.Format.{field-set, field-read, sets-behind}
 use Rattle.counting_theory.specs.Payload.{Payload}
 use Rattle.counting_theory.specs.Trie.{size, insert, add}
 use Rattle.counting_theory.specs.Label.{Equivalence, Label, Counting, CountingType}
@@ -20,6 +20,7 @@ use Rattle.counting_theory.specs.Raw.{raw}
 use Rattle.counting_theory.specs.Encoding.{typeFormat, typeSize, typeSpan, recordNumbers, header, encode}
 use Rattle.counting_theory.specs.Times.{times}
 use Rattle.type_arena.specs.Arena.{spanOffset}
+use Rattle.type_arena.proofs.Sets.{length-header}
 use Rattle.inference.specs.Inferring.{TableRun, Siblings, Holds, Starts, Split, split, grown, Counted, Grown, Added}
 use Rattle.counting_theory.proofs.Encoding.Header.{length-encode}
 use Rattle.inference.proofs.InPlace.Runs.{none-left}
@@ -36,10 +37,6 @@ span-stored l n a k x = field-set typeFormat (recordNumbers l n a) x 3 k (omega 
 span-read : (b : List ℕ) (i : ℕ) (l : Label) (n : ℕ) (a : Payload) (x : List ℕ) → n < 2 ^ 32 → drop (typeSize * i) b ≡ header l n a ++ x → typeSpan b i ≡ n
 unfolding typeSpan header
 span-read b i l n a x h e = field-read typeFormat (recordNumbers l n a) b x i e 3 h
-
-header-length : (l : Label) (n : ℕ) (a : Payload) → length (header l n a) ≡ typeSize
-unfolding header
-header-length l n a = length-record typeFormat (recordNumbers l n a)
 
 -- what is asked of adding an item: the siblings that are held, where a search may begin, and the run below the item
 pub record Task (e : Equivalence) (kind from n rest : ℕ) (a t : List ℕ) : Type 0 where
@@ -69,12 +66,12 @@ module _ {l : Label} {w : Payload} (f : CountingType) {q : List ℕ} (rest : ℕ
   before-length = omega (arith, length-encode (x .before), y .place)
 
   head-length : length head ≡ typeSize * p + typeSize
-  head-length = simp (length-append, header-length, before-length)
+  head-length = simp (length-append, length-header, before-length)
 
   pub step-length : length b ≡ typeSize * (m + rest) + length (y .free)
   step-length =
       ap length head-tail
-      ∙ simp (length-append, header-length, before-length) (omega (arith, length-encode (x .content), length-encode (x .after), y .count, y .place))
+      ∙ simp (length-append, length-header, before-length) (omega (arith, length-encode (x .content), length-encode (x .after), y .count, y .place))
 
   pub step-within : p + (1 + size (x .content)) ≤ m
   step-within = omega (arith, y .count, y .place)
@@ -110,7 +107,7 @@ module _ {l : Label} {w : Payload} (f : CountingType) {q : List ℕ} (rest : ℕ
           length (putMid (typeSize * p + typeSize) (length b - (typeSize * p + typeSize)) b z) < typeSize * (size (insert Counting l a g f) + rest)
       step-full z h =
           rw (tail-put b head tail (typeSize * p + typeSize) head-tail head-length z)
-          (simp (length-append, header-length, before-length) (omega (arith, insert-size l a g f, y .count, y .place)))
+          (simp (length-append, length-header, before-length) (omega (arith, insert-size l a g f, y .count, y .place)))
 
       step-put : (z : List ℕ) → putMid (typeSize * p + typeSize) (length b - (typeSize * p + typeSize)) b z ≡ encode (x .before) ++ (header l (1 + size (x .content)) w ++ z)
       step-put z = tail-put b head tail (typeSize * p + typeSize) head-tail head-length z ∙ append-assoc (encode (x .before)) (header l (1 + size (x .content)) w) z

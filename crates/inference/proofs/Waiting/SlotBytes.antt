@@ -7,7 +7,7 @@ use native.Mathlib.Omega.{arith}
 use lib.ListN.{length, take, drop, getD, set, replicate, length-take, length-drop, length-append}
 use lib.Seq.{drop-drop, drop-at, length-take-le, sets, length-sets}
 use Rattle.value_table.specs.Number.{bytesOf, numberAt}
-use Rattle.inference.specs.Gathering.{keyPart, slotsOf}
+use Rattle.inference.specs.Gathering.{keyPart, slotSize, slotsOf, HasSlots}
 use Rattle.inference.proofs.InPlace.Numbers.{length-numbers, numbers-at, numbers-zero, sets-drop, numbers-set}
 
 -- a hash of 16 bits, scaled to the number of slots
@@ -19,19 +19,19 @@ module _ (x n : ℕ) where
   scaled-below h = omega (arith, mul-lt-mul-of-pos-right {m = x % 65536} {n = 65536} {k = n} (omega arith) h)
 
 pub length-slots : (n : ℕ) (w : List ℕ) → length (slotsOf n w) ≡ n
-length-slots n w = length-numbers 8 n (drop (keyPart (length w)) w)
+length-slots n w = length-numbers slotSize n (drop (keyPart (length w)) w)
 
-pub slot-read : (w : List ℕ) (n k : ℕ) → k < n → numberAt 8 w (keyPart (length w) + 8 * k) ≡ getD (slotsOf n w) k 0
+pub slot-read : (w : List ℕ) (n k : ℕ) → k < n → numberAt slotSize w (keyPart (length w) + slotSize * k) ≡ getD (slotsOf n w) k 0
 unfolding numberAt
 slot-read w n k h =
     let o = keyPart (length w) in
-    rw (← drop-drop (8 * k) o w) (sym (numbers-at 8 n k (drop o w) h))
+    rw (← drop-drop (slotSize * k) o w) (sym (numbers-at slotSize n k (drop o w) h))
 
-pub slot-put : (w : List ℕ) (n k v : ℕ) → v < 2 ^ 64 → k < n → 16 * n ≤ length w → slotsOf n (sets w (keyPart (length w) + 8 * k) (bytesOf 8 v)) ≡ set (slotsOf n w) k v
+pub slot-put : (w : List ℕ) (n k v : ℕ) → v < 2 ^ 64 → k < n → HasSlots n w → slotsOf n (sets w (keyPart (length w) + slotSize * k) (bytesOf slotSize v)) ≡ set (slotsOf n w) k v
 slot-put w n k v small h l =
     let o = keyPart (length w) in
-    rw (length-sets w (o + 8 * k) (bytesOf 8 v), sets-drop o (8 * k) (bytesOf 8 v) w)
-    (numbers-set 8 v small n k (drop o w) h (omega (arith, length-drop o w)))
+    rw (length-sets w (o + slotSize * k) (bytesOf slotSize v), sets-drop o (slotSize * k) (bytesOf slotSize v) w)
+    (numbers-set slotSize v small n k (drop o w) h (omega (arith, length-drop o w)))
 
 -- the first half was lent
 pub slots-kept : (w ys : List ℕ) (n : ℕ) → length ys ≡ length (take (keyPart (length w)) w) → slotsOf n (ys ++ drop (keyPart (length w)) w) ≡ slotsOf n w
@@ -44,4 +44,4 @@ slots-kept w ys n e =
 pub slots-cleared : (w v : List ℕ) (n : ℕ) → v ≡ take (keyPart (length w)) w ++ replicate (length w - keyPart (length w)) 0 → length v ≡ length w → slotsOf n v ≡ replicate n 0
 slots-cleared w v n e l =
     let o = keyPart (length w) in
-    rw (l, e, drop-at (take o w) (replicate (length w - o) 0) o (length-take-le o w (omega arith))) (numbers-zero 8 n (length w - o))
+    rw (l, e, drop-at (take o w) (replicate (length w - o) 0) o (length-take-le o w (omega arith))) (numbers-zero slotSize n (length w - o))

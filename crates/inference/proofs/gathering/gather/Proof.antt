@@ -4,7 +4,7 @@ use mathlib.Core.Path.{_≡_, refl}
 use Prim.Native.Nat.{_-_, _*_, _≤_, _<_}
 use native.Mathlib.Omega.{arith}
 use lib.ListN.{length}
-use Rattle.value_table.specs.Value.{maxLength, records}
+use Rattle.value_table.specs.Value.{maxLength, recordSize, records}
 use Rattle.type_arena.specs.Arena.{under}
 use Rattle.inference.specs.Gathering.{slotsOf, MessageAt, Gathering}
 use Rattle.inference.proofs.InPlace.Whole.{table-run}
@@ -25,7 +25,7 @@ module _ (c : tie.In-loop Inv-loop μ-loop) where
   short : length (c .before .before .before .before .before .args .t .now) ≤ maxLength
   short = table-run (c .before .before .before .before .before .pre .0 .is-table) .short
 
-  more : 8 * c .before .loop .i < length (c .before .before .before .before .before .args .t .now)
+  more : recordSize * c .before .loop .i < length (c .before .before .before .before .before .args .t .now)
   more = omega (arith, c .loop-test .taken)
 
   message : MessageAt (c .before .before .before .before .before .args .t .now) (c .before .loop .i)

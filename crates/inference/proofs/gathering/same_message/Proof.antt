@@ -5,8 +5,8 @@ use Prim.Native.Nat.{_*_}
 use native.Mathlib.Omega.{arith}
 use lib.ListN.{take, drop}
 use borrow.Author.Tests.{leb-true}
-use Rattle.inference.proofs.InPlace.Repeats.{equal-fewer}
-use Rattle.inference.proofs.Waiting.Messages.{same-bytes}
+use Rattle.value_table.specs.Value.{recordSize}
+use Rattle.inference.proofs.InPlace.Repeats.{equal-fewer, same-bytes}
 use Rattle.inference.proofs.gathering.same_message.Statement.{statement}
 use Rattle.inference.proofs.gathering.same_message.Tie as tie
 
@@ -36,7 +36,7 @@ returns-2 c e =
     let j = sym (c .before .before .span-at2 .ensures .0) ∙ c .before .if1 .left ∙ i in
     let n = c .before .before .before .span-at .result in
     let q = equal-fewer (c .equal-records .result) n (leb-true n (c .equal-records .result) e) (c .equal-records .ensures) in
-    (j, ap (λ k. take (8 * k) (drop (8 * s .args .j) (s .args .t .now))) j ∙ rw i at (same-bytes (s .args .t .now) (s .args .j) (s .args .i) n (λ p. c .before .before .before .before .shared-slice-known .given p .fits) (s .pre .0) q))
+    (j, ap (λ k. take (recordSize * k) (drop (recordSize * s .args .j) (s .args .t .now))) j ∙ rw i at (same-bytes (s .args .t .now) (s .args .j) (s .args .i) n q))
 
 pub same-message-spec : {M : Type 1} → statement M
 same-message-spec =

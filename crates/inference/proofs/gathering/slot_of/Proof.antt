@@ -17,11 +17,8 @@ loop-holds c = search needs
 mul-hash : tie.Need-mul-hash Inv-loop μ-loop
 mul-hash c = search needs
 
-mul-number32 : tie.Need-mul-number32 Inv-loop μ-loop
-mul-number32 c = search needs
-
-number32-requires : tie.Need-number32-requires Inv-loop μ-loop
-number32-requires c κs = search needs
+front-at-requires : tie.Need-front-at-requires Inv-loop μ-loop
+front-at-requires c κs = search needs
 
 add-hash : tie.Need-add-hash Inv-loop μ-loop
 add-hash c = search needs
@@ -56,8 +53,7 @@ slot-of-spec =
     μ-loop
     loop-holds
     mul-hash
-    mul-number32
-    number32-requires
+    front-at-requires
     add-hash
     add-j
     loop-less

@@ -57,10 +57,10 @@ same-length-3 c = search needs
 
 returns-2 : tie.Need-returns-2
 returns-2 c field f q free vs h s r =
-    let g = c .before .before .before .before .before in
-    let a = g .before .before .before .before .before .before .before .before .before .before .before .args in
+    let a = c .before .before .before .before .before .before .before .before .before .before .before .before .before .before .before .before .args in
     let k = c .before .before .place in
-    located (under (a .label)) (a .kind) (a .key) (a .weight) vs f q (a .rest) _ _ (label-is _ _ _ _ _ vs (listed-keys (g .before) vs r .0)) (g .given .ensures vs) (k .result) (k .last .0) (k .ensures field f q free h s)
+    let l = label-is (under (a .label)) (a .kind) (a .key) (c .before .before .before .before .before .before .before .keys .given .0 .0) (c .before .before .before .before .before .before .before .before .before .before .before .list-label .last .1 .1 .1 .0) vs (listed-keys (c .before .before .before .before .before .before) vs r .0) in
+    located (under (a .label)) (a .kind) (a .key) (a .weight) vs f q (a .rest) (k .result) (k .last .0) (rw (l, c .before .before .before .before .before .given .ensures vs) at (k .ensures field f q free h s))
 
 pub locate-spec : {M : Type 1} → statement M
 locate-spec =

@@ -1,8 +1,8 @@
 -- `equal_records` meets its contract.
-use mathlib.Core.Path.{sym, _∙_}
 use Prim.Native.Nat.{_-_}
 use native.Mathlib.Omega.{arith}
 use borrow.Author.Needs.{needs}
+use borrow.Author.Tests.{not-false}
 use Rattle.inference.specs.Inferring.{EqualRecords}
 use Rattle.inference.proofs.InPlace.Repeats.{equal-none, equal-next}
 use Rattle.inference.proofs.repeats.equal_records.Statement.{statement}
@@ -20,26 +20,17 @@ loop-holds c = let s = c .before .pre in equal-none (omega (arith, s .1, s .2))
 add-loop : tie.Need-add-loop Inv-loop μ-loop
 add-loop c = search needs
 
-add-number64 : tie.Need-add-number64 Inv-loop μ-loop
-add-number64 c = search needs
+add-same-record : tie.Need-add-same-record Inv-loop μ-loop
+add-same-record c = search needs
 
-mul-number64 : tie.Need-mul-number64 Inv-loop μ-loop
-mul-number64 c = search needs
+add-same-record-2 : tie.Need-add-same-record-2 Inv-loop μ-loop
+add-same-record-2 c = search needs
 
-number64-requires : tie.Need-number64-requires Inv-loop μ-loop
-number64-requires c κs = search needs
-
-add-number64-2 : tie.Need-add-number64-2 Inv-loop μ-loop
-add-number64-2 c = search needs
-
-mul-number64-2 : tie.Need-mul-number64-2 Inv-loop μ-loop
-mul-number64-2 c = search needs
-
-number64-requires-2 : tie.Need-number64-requires-2 Inv-loop μ-loop
-number64-requires-2 c κs = search needs
+same-record-requires : tie.Need-same-record-requires Inv-loop μ-loop
+same-record-requires c κs = search needs
 
 returns : tie.Need-returns Inv-loop μ-loop
-returns c = c .before .before .before .before .loop .inv
+returns c = c .before .before .before .loop .inv
 
 add-n : tie.Need-add-n Inv-loop μ-loop
 add-n c = search needs
@@ -49,8 +40,8 @@ loop-less c = search needs
 
 loop-again : tie.Need-loop-again Inv-loop μ-loop
 loop-again c =
-    let v = c .before .before .before .before .loop .inv in
-    equal-next _ v (omega (arith, c .before .before .before .loop-test .taken, c .before .before .before .before .before .before .pre .2)) (sym (c .before .before .number64 .ensures) ∙ c .if1 .left ∙ c .before .number642 .ensures)
+    let v = c .before .before .before .loop .inv in
+    equal-next _ v (omega (arith, c .before .before .loop-test .taken, c .before .before .before .before .before .pre .2)) (c .before .same-record .ensures (not-false _ (c .if1 .left)))
 
 returns-2 : tie.Need-returns-2 Inv-loop μ-loop
 returns-2 c = c .before .loop .inv
@@ -63,12 +54,9 @@ equal-records-spec =
     μ-loop
     loop-holds
     add-loop
-    add-number64
-    mul-number64
-    number64-requires
-    add-number64-2
-    mul-number64-2
-    number64-requires-2
+    add-same-record
+    add-same-record-2
+    same-record-requires
     returns
     add-n
     loop-less

@@ -1,5 +1,6 @@
 -- `equal_values` meets its contract.
 use native.Mathlib.Nat.{mul-div-le}
+use native.Mathlib.Omega.{arith}
 use borrow.Author.Needs.{needs}
 use Rattle.inference.proofs.InPlace.Repeats.{equal-fewer}
 use Rattle.inference.proofs.repeats.equal_values.Statement.{statement}
@@ -12,7 +13,7 @@ equal-records-requires : tie.Need-equal-records-requires
 equal-records-requires c κs = search needs
 
 returns : tie.Need-returns
-returns c = search needs
+returns c = equal-fewer _ _ (omega arith) (c .before .equal-records .ensures)
 
 div-result : tie.Need-div-result
 div-result c = search needs

@@ -6,7 +6,8 @@ use Prim.Native.Nat.{ℕ, _+_, _*_, _-_, _/_, _≤_, _<_}
 use native.Mathlib.Omega.{arith}
 use lib.ListN.{length}
 use borrow.Author.Needs.{needs}
-use Rattle.value_table.specs.Value.{Values, keyAt, kindAt}
+use Rattle.value_table.specs.Value.{recordSize, Values, keyAt, kindAt}
+use Rattle.counting_theory.specs.Encoding.{typeSize}
 use Rattle.counting_theory.specs.Label.{Equivalence, CountingType}
 use Rattle.inference.specs.declared.scalar_fields.Sought.{Sought}
 use Rattle.inference.specs.declared.scalar_fields.Sought.the-variants.{Field}
@@ -19,8 +20,8 @@ use Rattle.inference.proofs.scalar_fields.count_fields.Statement.{state
 use Rattle.inference.proofs.scalar_fields.count_fields.Tie as tie
 
 abbrev Inv-loop : tie.InvT-loop
-Inv-loop a₀ from n t i weight end next₀ at₀ a next at = (end ≡ length t / 8) × (i ≤ next) × (length a ≡ length a₀) ×
-    ((label : Bool) (vs : Values) (f : CountingType) (q : List ℕ) (rest : ℕ) → length q ≡ 16 * rest → Ran (under label) true weight vs f q a₀ t n i from → Ran (under label) true weight vs f q a t n next at)
+Inv-loop a₀ from n t i weight end next₀ at₀ a next at = (end ≡ length t / recordSize) × (i ≤ next) × (length a ≡ length a₀) ×
+    ((label : Bool) (vs : Values) (f : CountingType) (q : List ℕ) (rest : ℕ) → length q ≡ typeSize * rest → Ran (under label) true weight vs f q a₀ t n i from → Ran (under label) true weight vs f q a t n next at)
 
 abbrev μ-loop : tie.MeasureT-loop
 μ-loop a₀ from n t i weight end next₀ at₀ a next at = end - next
@@ -36,10 +37,10 @@ module _ (c : tie.In-loop Inv-loop μ-loop) where
   abbrev loop : tie.At-loop Inv-loop μ-loop
   loop = c .before
 
-  more : 8 * loop .loop .next < length (start .args .t .now)
+  more : recordSize * loop .loop .next < length (start .args .t .now)
   more = omega (arith, c .loop-test .taken, loop .loop .inv .0)
 
-  bounds : (8 * loop .loop .next + 8 ≤ length (start .args .t .now)) × (length (start .args .t .now) ≤ 65536) × (length (loop .loop .a) ≤ 65536)
+  bounds : (recordSize * loop .loop .next + recordSize ≤ length (start .args .t .now)) × (length (start .args .t .now) ≤ 65536) × (length (loop .loop .a) ≤ 65536)
   bounds = omega (arith, c .loop-test .taken, loop .loop .inv .0, loop .loop .inv .2, start .pre .short, start .pre .short-table)
 
 loop-holds : tie.Need-loop-holds Inv-loop μ-loop
@@ -69,11 +70,11 @@ module _ (c : tie.After-count-field Inv-loop μ-loop) where
   abbrev head : tie.In-loop Inv-loop μ-loop
   head = c .before .before .before .before .before
 
-  ran : (label : Bool) (vs : Values) (f : CountingType) (q : List ℕ) (rest : ℕ) → length q ≡ 16 * rest → Ran (under label) true (start head .args .weight) vs f q (start head .args .a .now) (start head .args .t .now) (start head .args .n) (start head .args .i) (start head .args .from) →
+  ran : (label : Bool) (vs : Values) (f : CountingType) (q : List ℕ) (rest : ℕ) → length q ≡ typeSize * rest → Ran (under label) true (start head .args .weight) vs f q (start head .args .a .now) (start head .args .t .now) (start head .args .n) (start head .args .i) (start head .args .from) →
       Ran (under label) true (start head .args .weight) vs f q (loop head .loop .a) (start head .args .t .now) (start head .args .n) (loop head .loop .next) (loop head .loop .at)
   ran = loop head .loop .inv .3
 
-  counted : (o : Sought) → c .count-field .result ≡ o → (label : Bool) (vs : Values) (f : CountingType) (q : List ℕ) (rest : ℕ) (u : length q ≡ 16 * rest) (r : Ran (under label) true (start head .args .weight) vs f q (start head .args .a .now) (start head .args .t .now) (start head .args .n) (start head .args .i) (start head .args .from)) →
+  counted : (o : Sought) → c .count-field .result ≡ o → (label : Bool) (vs : Values) (f : CountingType) (q : List ℕ) (rest : ℕ) (u : length q ≡ typeSize * rest) (r : Ran (under label) true (start head .args .weight) vs f q (start head .args .a .now) (start head .args .t .now) (start head .args .n) (start head .args .i) (start head .args .from)) →
       FieldCounted (under label) (keyAt (start head .args .t .now) (loop head .loop .next)) (kindAt (start head .args .t .now) (loop head .loop .next)) (start head .args .weight) (ran label vs f q rest u r .g) q (start head .args .n) (loop head .loop .a) o (c .count-field .last .0)
   counted o z label vs f q rest u r =
       let x = ran label vs f q rest u r in
@@ -90,7 +91,7 @@ module _ (c : tie.After-known-told2 Inv-loop μ-loop) where
   scalar : kindAt (start (head done) .args .t .now) (loop (head done) .loop .next) ≤ 4
   scalar = omega (arith, done .before .before .before .if1 .left, done .before .before .before .before .kind-at .ensures)
 
-  module _ (label : Bool) (vs : Values) (f : CountingType) (q : List ℕ) (rest : ℕ) (u : length q ≡ 16 * rest) (r : Ran (under label) true (start (head done) .args .weight) vs f q (start (head done) .args .a .now) (start (head done) .args .t .now) (start (head done) .args .n) (start (head done) .args .i) (start (head done) .args .from)) where
+  module _ (label : Bool) (vs : Values) (f : CountingType) (q : List ℕ) (rest : ℕ) (u : length q ≡ typeSize * rest) (r : Ran (under label) true (start (head done) .args .weight) vs f q (start (head done) .args .a .now) (start (head done) .args .t .now) (start (head done) .args .n) (start (head done) .args .i) (start (head done) .args .from)) where
     counts : FieldCounted (under label) (keyAt (start (head done) .args .t .now) (loop (head done) .loop .next)) (kindAt (start (head done) .args .t .now) (loop (head done) .loop .next)) (start (head done) .args .weight) (ran done label vs f q rest u r .g) q (start (head done) .args .n) (loop (head done) .loop .a) (Field (c .before .p2 .given .0 .0)) (done .count-field .last .0)
     counts = counted done _ (c .before .p2 .given .1) label vs f q rest u r
 

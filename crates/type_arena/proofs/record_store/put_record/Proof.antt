@@ -1,12 +1,12 @@
 -- `put_record` meets its contract.
 use mathlib.Core.Path.{sym}
-use mathlib.Core.List.{List}
+use mathlib.Core.List.{List, []}
 use Prim.Native.Nat.{ℕ}
 use lib.ListN.{replicate}
 use Rattle.counting_theory.specs.Encoding.{typeSize}
 use Rattle.type_arena.specs.Arena.{headerOf}
 use Rattle.type_arena.specs.Payload.{payloadOf}
-use Rattle.type_arena.proofs.Sets.{length-headerOf, sets-aside}
+use Rattle.type_arena.proofs.Sets.{length-header, sets-aside}
 use borrow.Author.Needs.{needs}
 use Rattle.type_arena.proofs.record_store.put_record.Statement.{statement}
 use Rattle.type_arena.proofs.record_store.put_record.Tie as tie
@@ -42,7 +42,7 @@ returns-2 : tie.Need-returns-2
 returns-2 c =
     let a = c .before .before .before .before .before .before .before .before .before .before .args in
     let h : List ℕ = headerOf (a .kind) (a .key) (a .span) (payloadOf (a .payload)) in
-    let n = length-headerOf (a .kind) (a .key) (a .span) (payloadOf (a .payload)) in
+    let n = length-header (record { kind = a .kind; key = a .key; keys = [] }) (a .span) (payloadOf (a .payload)) in
     sets-aside h (replicate typeSize 0) (a .out .now) (a .at) (sym n) (c .before .before .before .before .before .before .store-record2 .ensures)
     (c .before .before .put-bytes .ensures)
 

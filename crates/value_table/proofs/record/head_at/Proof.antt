@@ -4,7 +4,7 @@ use native.Mathlib.Nat.{add-zero}
 use native.Mathlib.Omega.{arith}
 use borrow.Author.Needs.{needs}
 use Rattle.value_table.specs.Format.{fieldAt}
-use Rattle.value_table.specs.Value.{kindAt, zeroAt}
+use Rattle.value_table.specs.Value.{recordSize, kindAt, zeroAt}
 use Rattle.value_table.proofs.Number.{numberAt-add}
 use Rattle.value_table.proofs.record.head_at.Statement.{statement}
 use Rattle.value_table.proofs.record.head_at.Tie as tie
@@ -19,7 +19,7 @@ returns : tie.Need-returns
 unfolding kindAt zeroAt fieldAt
 returns c =
     let t = c .before .before .args .table .now in
-    let p = 8 * c .before .before .args .i in
+    let p = recordSize * c .before .before .args .i in
     rw add-zero (omega (arith, c .number16 .ensures .0, numberAt-add 1 1 t p (omega arith)))
 
 pub head-at-spec : {M : Type 1} → statement M

@@ -1,0 +1,32 @@
+-- `same_record` meets its contract.
+use mathlib.Core.Path.{sym, _∙_}
+use Prim.Native.Nat.{_*_}
+use native.Mathlib.Omega.{arith}
+use borrow.Author.Needs.{needs}
+use borrow.Author.Tests.{eqb-true}
+use Rattle.value_table.specs.Value.{recordSize}
+use Rattle.value_table.proofs.Format.{part-same}
+use Rattle.value_table.proofs.record.same_record.Statement.{statement}
+use Rattle.value_table.proofs.record.same_record.Tie as tie
+
+mul-number64 : tie.Need-mul-number64
+mul-number64 c = search needs
+
+number64-requires : tie.Need-number64-requires
+number64-requires c κs = search needs
+
+mul-number64-2 : tie.Need-mul-number64-2
+mul-number64-2 c = search needs
+
+number64-requires-2 : tie.Need-number64-requires-2
+number64-requires-2 c κs = search needs
+
+returns : tie.Need-returns
+returns c e =
+    let s = c .before .before .before in
+    part-same recordSize (s .args .table .now) (recordSize * s .args .i) (recordSize * s .args .j) (λ p. c .before .before .shared-slice-known .given p .fits) (omega (arith, s .pre)) (omega (arith, s .pre))
+    (sym (c .before .number64 .ensures) ∙ eqb-true _ _ e ∙ c .number642 .ensures)
+
+pub same-record-spec : {M : Type 1} → statement M
+same-record-spec =
+    tie.close (tie.spec mul-number64 number64-requires mul-number64-2 number64-requires-2 returns)
