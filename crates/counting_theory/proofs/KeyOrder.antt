@@ -2,9 +2,10 @@
 use mathlib.Core.Path.{_≡_, refl, sym, _∙_}
 use mathlib.Core.List.{List, _∷_}
 use Prim.Native.Nat.{ℕ, _+_, _<_, Ordering, Ordering·lt as lt, Ordering·eq as eq, Ordering·gt as gt}
-use Rattle.value_table.specs.Chain.{Chain}
+use Rattle.value_table.specs.Inside.Chain.{Chain}
 use Rattle.value_table.proofs.Chain.{Sibling, chain-sibling, chain-done}
-use Rattle.counting_theory.specs.Order.{IsOrder, then, compareList}
+use Rattle.counting_theory.specs.Order.{then, compareList}
+use Rattle.counting_theory.specs.Inside.TrieLaws.{IsOrder}
 use Rattle.counting_theory.specs.Label.{compareKeys}
 use Rattle.counting_theory.proofs.Order.{number-order, number-refl, less-compare, more-compare, list-order}
 

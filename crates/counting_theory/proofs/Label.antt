@@ -6,8 +6,8 @@ use Prim.Native.Nat.{ℕ, _+_, compare, Ordering, Ordering·lt as lt, Ordering·
 use native.Mathlib.Omega.{arith}
 use lib.Dec.{eqb}
 use Rattle.counting_theory.specs.Payload.{Payload, join}
-use Rattle.counting_theory.specs.Order.{IsOrder, then, comparePair, compareOn}
-use Rattle.counting_theory.specs.Trie.{TrieLaws}
+use Rattle.counting_theory.specs.Order.{then, comparePair, compareOn}
+use Rattle.counting_theory.specs.Inside.TrieLaws.{IsOrder, TrieLaws}
 use Rattle.counting_theory.specs.Label.{Label, fieldKind, fieldLabel, parts, compareLabel, Counting}
 use Rattle.counting_theory.proofs.Payload.{join-comm, join-assoc, count-join}
 use Rattle.counting_theory.proofs.Order.{number-order, pair-order, order-on}

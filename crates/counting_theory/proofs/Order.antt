@@ -5,7 +5,8 @@ use Prim.Native.Nat.{ℕ, zero, suc, _<_, compare, compare·zero-zero, compare·
 use native.Mathlib.Omega.{arith}
 use lib.Dec.{isLe, isEq}
 use borrow.Author.Tests.{leb-true, leb-false, eqb-false}
-use Rattle.counting_theory.specs.Order.{flip, IsOrder, then, comparePair, compareList, compareOn}
+use Rattle.counting_theory.specs.Order.{then, comparePair, compareList, compareOn}
+use Rattle.counting_theory.specs.Inside.TrieLaws.{flip, IsOrder}
 
 pub number-refl : (n : ℕ) → compare n n ≡ eq
 number-refl zero = compare·zero-zero

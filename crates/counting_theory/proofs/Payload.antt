@@ -6,7 +6,7 @@ use Prim.Native.Nat.{ℕ, _+_, _*_, _^_, _≤_, _<_}
 use native.Mathlib.Nat.{add-comm, add-assoc, add-mul, one-mul}
 use native.Mathlib.Omega.{arith}
 use lib.ListN.{length}
-use Rattle.value_table.specs.Format.{Fits}
+use Rattle.byte_records.specs.Inside.Fits.{Fits}
 use Rattle.value_table.specs.Value.{Head, recordSize, maxLength, arrayKind, Values}
 use Rattle.value_table.specs.Value as table
 use Rattle.counting_theory.specs.Payload.{Payload, payloadFormat, numbers, ofNumbers, one, oneField, join, copies, proper}

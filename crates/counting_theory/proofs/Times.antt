@@ -7,7 +7,7 @@ use native.Mathlib.Omega.{arith}
 use Rattle.counting_theory.specs.Trie.{nil, node, size, _⊞_ as joinOption, lookupNode, lookup, add, Sorted}
 use Rattle.counting_theory.specs.Label.{Label, Counting, CountingType}
 use Rattle.counting_theory.specs.Payload.{Payload, copies}
-use Rattle.counting_theory.specs.Times.{times}
+use Rattle.counting_theory.specs.Inside.Times.{times}
 use Rattle.counting_theory.proofs.Payload.{copies-one, copies-add}
 use Rattle.counting_theory.proofs.Label.{counting-laws}
 use Rattle.counting_theory.proofs.Trie.Join.{⊞-assoc, ⊞-left-comm}

@@ -1,8 +1,8 @@
 -- The starred trials hold, by computation.
 use mathlib.Core.Path.{refl}
 use mathlib.Core.List.{flatMap}
-use Rattle.value_table.specs.Number.{bytesOf, numberOf, numberAt}
-use Rattle.value_table.specs.Format.{fieldAt, fieldsFrom, recordBytes}
+use Rattle.byte_records.specs.Number.{bytesOf, numberOf, numberAt}
+use Rattle.byte_records.specs.Format.{fieldAt, fieldsFrom, recordBytes}
 use Rattle.value_table.specs.Value as table
 use Rattle.value_table.specs.Judged as judging
 use Rattle.counting_theory.specs.Payload.{numbers, ofNumbers, one, oneField, join, proper}

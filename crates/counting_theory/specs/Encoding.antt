@@ -5,7 +5,7 @@ use mathlib.Core.List.{List, [], _∷_, _++_}
 use Prim.Native.Nat.{ℕ, zero, suc, _+_, _/_, _≤_}
 use lib.Dec.{eqb, ltb}
 use lib.ListN.{length, drop}
-use Rattle.value_table.specs.Format.{Format, widthOf, fieldAt, fieldsAt, recordBytes, Fits}
+use Rattle.byte_records.specs.Format.{Format, widthOf, fieldAt, fieldsAt, recordBytes}
 use Rattle.value_table.specs.Value.{recordKind, arrayKind, lastScalar}
 use Rattle.counting_theory.specs.Payload.{Payload, payloadFormat, numbers, ofNumbers}
 use Rattle.counting_theory.specs.Trie.{nil, node, size}
@@ -34,9 +34,6 @@ typeKey = fieldAt typeFormat 2
 
 unfoldable pub typeSpan : List ℕ → ℕ → ℕ
 typeSpan = fieldAt typeFormat 3
-
-unfoldable pub typeCount : List ℕ → ℕ → ℕ
-typeCount = fieldAt typeFormat 4
 
 unfoldable pub typePayload : List ℕ → ℕ → Payload
 typePayload b i = ofNumbers (drop 4 (fieldsAt typeFormat b i))
@@ -81,8 +78,3 @@ abbrev pub Tagged : Equivalence → Bool → CountingType → Type 0
 Tagged eq field nil = Unit {0}
 Tagged eq true (node l a children next) = (l ≡ fieldLabel (l .key)) × Tagged eq false children × Tagged eq true next
 Tagged eq false (node l a children next) = AddendShape eq l children × Tagged eq (eqb (l .kind) recordKind) children × Tagged eq false next
-
--- each number fits its bytes
-unfoldable pub Fitting : CountingType → Type 0
-Fitting nil = Unit {0}
-Fitting (node l a children next) = Fits typeFormat (recordNumbers l (1 + size children) a) × Fitting children × Fitting next

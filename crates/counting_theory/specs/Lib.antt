@@ -4,7 +4,6 @@ pub mod Trie
 pub mod Payload
 pub mod Label
 pub mod Raw
-pub mod Times
 pub mod Place
 pub mod Encoding
 pub mod Published
@@ -13,3 +12,4 @@ pub mod WellFormed
 pub mod Answers
 pub mod Ways
 pub mod Trials
+pub mod Inside

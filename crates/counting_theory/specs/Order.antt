@@ -1,19 +1,6 @@
--- Comparisons, what is asked of one, and comparisons of pairs, of lists and by a key.
-use mathlib.Core.Path.{_≡_}
+-- Comparisons of pairs, of lists and by a key.
 use mathlib.Core.List.{List, [], _∷_}
 use Prim.Native.Nat.{Ordering, Ordering·lt as lt, Ordering·eq as eq, Ordering·gt as gt}
-
-abbrev pub flip : Ordering → Ordering
-flip lt = gt
-flip eq = eq
-flip gt = lt
-
--- a strict total order, by its comparison
-pub record IsOrder {L : Type 0} (compare : L → L → Ordering) : Type 0 where
-  pub compare-refl : (x : L) → compare x x ≡ eq
-  pub compare-eq : {x y : L} → compare x y ≡ eq → x ≡ y
-  pub compare-flip : (x y : L) → compare y x ≡ flip (compare x y)
-  pub compare-trans : {x y z : L} → compare x y ≡ lt → compare y z ≡ lt → compare x z ≡ lt
 
 -- the first of two comparisons that tells its arguments apart
 unfoldable pub then : Ordering → Ordering → Ordering

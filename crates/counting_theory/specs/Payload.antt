@@ -3,7 +3,7 @@ use mathlib.Core.Bool.{Bool, true}
 use mathlib.Core.List.{List, [], _∷_}
 use Prim.Native.Nat.{ℕ, _+_, _*_}
 use lib.ListN.{getD}
-use Rattle.value_table.specs.Format.{Format}
+use Rattle.byte_records.specs.Format.{Format}
 use Rattle.value_table.specs.Value.{Head, Values}
 
 pub record Payload : Type 0 where

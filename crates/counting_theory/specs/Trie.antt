@@ -3,8 +3,7 @@
 use mathlib.Core.Path.{_≡_}
 use mathlib.Core.List.{List, [], _∷_}
 use mathlib.Core.Option.{Option, none, some}
-use Prim.Native.Nat.{ℕ, _+_, _≤_, max, Ordering, Ordering·lt as lt, Ordering·eq as eq, Ordering·gt as gt}
-use Rattle.counting_theory.specs.Order.{IsOrder}
+use Prim.Native.Nat.{ℕ, _+_, max, Ordering, Ordering·lt as lt, Ordering·eq as eq, Ordering·gt as gt}
 
 -- a list of siblings, each with its children
 pub data Forest (L P : Type 0) : Type 0 where
@@ -19,23 +18,7 @@ pub record TrieOps : Type 1 where
   pub join : Payload → Payload → Payload
   pub weight : Label → Payload → ℕ
 
--- what is asked of these operations
-pub record TrieLaws (T : TrieOps) : Type 0 where
-  pub order : IsOrder (T .compare)
-  pub join-comm : (a b : T .Payload) → T .join a b ≡ T .join b a
-  pub join-assoc : (a b c : T .Payload) → T .join (T .join a b) c ≡ T .join a (T .join b c)
-  pub weight-join : (l : T .Label) (a b : T .Payload) → T .weight l (T .join a b) ≡ T .weight l a + T .weight l b
-
 module _ {L P : Type 0} where
-  unfoldable pub append : Forest L P → Forest L P → Forest L P
-  append nil g = g
-  append (node l a c s) g = node l a c (append s g)
-
-  -- a collection of forests as one
-  unfoldable pub concat : List (Forest L P) → Forest L P
-  concat [] = nil
-  concat (r ∷ rs) = append r (concat rs)
-
   unfoldable pub size : Forest L P → ℕ
   size nil = 0
   size (node l a c s) = 1 + (size c + size s)
@@ -74,9 +57,6 @@ module _ (T : TrieOps) where
   unfoldable pub lookup : Trie → List Label → Option Payload
   lookup nil q = none
   lookup (node l a c s) q = lookupNode l a (lookup c) q ⊞ lookup s q
-
-  abbrev pub SameMap : Trie → Trie → Type 0
-  SameMap f g = (q : List Label) → lookup f q ≡ lookup g q
 
   -- insert at a first node with label k, by the comparison of l with k; r is what insert makes of its siblings s
   unfoldable pub insertStep : Ordering → Label → Payload → (Trie → Trie) → Label → Payload → Trie → Trie → Trie → Trie
@@ -136,9 +116,3 @@ module _ (T : TrieOps) where
   -- the largest total of any union
   unfoldable pub largestTotal : Trie → ℕ
   largestTotal f = max (total f) (largestBelow f)
-
-  -- whatever limits g keeps, f keeps too
-  pub record NoLarger (f g : Trie) : Type 0 where
-    pub sizes : size f ≤ size g
-    pub totals : total f ≤ total g
-    pub largest : largestTotal f ≤ largestTotal g

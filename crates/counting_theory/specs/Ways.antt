@@ -7,7 +7,7 @@ use mathlib.Core.Option.{Option, none, some}
 use Prim.Native.Nat.{ℕ, zero, suc, _+_, _*_, _-_, _≤_, _<_, pred}
 use lib.Dec.{eqb, ltb}
 use lib.ListN.{length}
-use Rattle.value_table.specs.Number.{Bytes}
+use Rattle.byte_records.specs.Number.{Bytes}
 use Rattle.value_table.specs.Outcome.{accepted, refused}
 use Rattle.value_table.specs.Value.{Values, value}
 use Rattle.value_table.specs.Value as table

@@ -6,7 +6,7 @@ use mathlib.Core.List.{List}
 use Prim.Native.Nat.{ℕ, zero, suc, _+_, _*_, _%_, _≤_, _<_, Ordering, Ordering·lt as lt, Ordering·eq as eq, Ordering·gt as gt}
 use lib.Dec.{eqb, leb, ltb}
 use lib.ListN.{length}
-use Rattle.value_table.specs.Number.{Bytes}
+use Rattle.byte_records.specs.Number.{Bytes}
 use Rattle.value_table.specs.Value.{maxLength, maxDepth, recordKind, arrayKind, lastScalar}
 use Rattle.counting_theory.specs.Payload.{proper}
 use Rattle.counting_theory.specs.Trie.{nil, node, size, reduce, Sorted, total, largestTotal}

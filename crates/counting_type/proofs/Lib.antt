@@ -1,6 +1,2 @@
--- The laws behind the code's loops; a folder for each function's proof.
-pub mod OnePass
-pub mod TypeMerge
-pub mod Equivalence
-pub mod Exact
-pub mod Fronts
+-- The laws behind the calls; a folder for each function's proof.
+pub mod InferredFront

@@ -1,100 +1,37 @@
 // The upper library: infers, judges and merges counting types.
-mod addend;
-mod checker;
-mod merging;
-
-use checker::well_formed;
-use inference::gathering::add_messages;
+use answers::Answered;
+use answers::Refusal;
+use answers::bytes_written;
+use byte_records::clearing::clear_from;
+use gathering::add_messages;
 use inference::inferring::Inferred;
 use merging::merge_types;
-use type_arena::clearing::clear_from;
 use type_arena::type_record;
 use type_arena::type_record::bad_length;
+use type_check::well_formed;
 use value_table::Judged;
 use value_table::judge;
 use value_table::record;
 ghost use mathlib.Core.Path.{_≡_};
 ghost use mathlib.Core.Bool.{not, _||_};
 ghost use mathlib.Core.List.{[]};
-ghost use Prim.Native.Nat.{_*_, _^_, _≤_, _<_};
+ghost use Prim.Native.Nat.{_≤_};
 ghost use lib.Dec.{eqb};
 ghost use lib.ListN.{length};
 ghost use Rattle.value_table.specs.Value.{maxLength};
 ghost use Rattle.value_table.specs.Judged.{badLength, messages};
-ghost use Rattle.value_table.specs.Outcome.{outcomeOfAnswer};
 ghost use Rattle.counting_theory.specs.Trie.{reduce};
 ghost use Rattle.counting_theory.specs.Label.{Counting};
 ghost use Rattle.counting_theory.specs.Raw.{profileOf};
-ghost use Rattle.counting_theory.specs.Encoding.{typeSize, typeOf};
+ghost use Rattle.counting_theory.specs.Encoding.{typeOf};
 ghost use Rattle.counting_theory.specs.WellFormed.{badTypeLength, IsType};
 ghost use Rattle.counting_theory.specs.Answers.{judgedType, leaves, stored, inferred, inferredDefault, merged, mergedTypes};
-ghost use Rattle.type_arena.specs.Arena.{under};
-ghost use Rattle.inference.specs.Inferring.{AcceptedTable};
-ghost use Rattle.counting_type.specs.Outcomes.{numberOfRefusal, outcomeOf, leftBy, Front};
+ghost use Rattle.type_arena.specs.Inside.Arena.{under};
+ghost use Rattle.inference.specs.Inside.Inferring.{AcceptedTable};
+ghost use Rattle.answers.specs.Outcomes.{outcomeOf, leftBy, Front};
 
 // The equivalence of call 3: kind.
 const HOUSE_DEFAULT: u64 = 0;
-
-// Why a call is refused: a length, an unknown equivalence, a fault of the table, a malformed first (or only) or second type, a total
-// above the limit, or no room in the arena.
-pub enum Refusal {
-    Length,
-    Equivalence,
-    Table(value_table::Refusal),
-    First,
-    Second,
-    Total,
-    Room,
-}
-
-// The answer of a call: a number of type records, or a refusal with its place.
-pub enum Answered {
-    Accepted(usize),
-    Refused(Refusal, usize),
-}
-
-fn refusal_number(why: Refusal) -> u64
-    ensures { λ r. ⌜ r ≡ numberOfRefusal why ⌝ }
-{
-    match why {
-        Refusal::Length => 1,
-        Refusal::Equivalence => 2,
-        Refusal::Table(fault) => value_table::refusal_number(fault),
-        Refusal::First => 8,
-        Refusal::Second => 9,
-        Refusal::Total => 10,
-        Refusal::Room => 11,
-    }
-}
-
-// An answer as three numbers.
-pub fn answer_of(answered: Answered) -> value_table::Answer
-    ensures { λ r. ⌜ outcomeOfAnswer r ≡ outcomeOf answered ⌝ }
-{
-    match answered {
-        Answered::Accepted(records) => value_table::Answer {
-            number: 0,
-            place: 0,
-            count: records as u64,
-        },
-        Answered::Refused(why, place) => value_table::Answer {
-            number: refusal_number(why),
-            place: place as u64,
-            count: 0,
-        },
-    }
-}
-
-// The bytes of the type that a call has written.
-fn bytes_written(answered: Answered) -> usize
-    requires { ⌜ typeSize * outcomeOf answered .count < 2 ^ 64 ⌝ }
-    ensures { λ r. ⌜ r ≡ typeSize * outcomeOf answered .count ⌝ }
-{
-    match answered {
-        Answered::Accepted(records) => records * type_record::SIZE,
-        Answered::Refused(_, _) => 0,
-    }
-}
 
 // Whether the length of a table, of an arena or of its working buffer is wrong.
 fn bad_buffers(table: usize, arena: usize, work: usize) -> bool

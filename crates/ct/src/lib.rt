@@ -26,7 +26,7 @@ pub extern "C" fn ct_infer(
 ) -> Answer
     ensures { λ r. ⌜ answerLeft r (now (arena .exit)) (now (work .exit)) ≡ leaves (inferred (now (table .entry)) equivalence (length (now (arena .entry))) (length (now (work .entry)))) (now (arena .entry)) (now (work .entry)) ⌝ }
 {
-    counting_type::answer_of(counting_type::infer(table, equivalence, arena, work))
+    answers::answer_of(counting_type::infer(table, equivalence, arena, work))
 }
 
 // Call 3: infers under the house default.
@@ -34,7 +34,7 @@ pub extern "C" fn ct_infer(
 pub extern "C" fn ct_infer_default(table: &[u8], arena: &mut [u8], work: &mut [u8]) -> Answer
     ensures { λ r. ⌜ answerLeft r (now (arena .exit)) (now (work .exit)) ≡ leaves (inferredDefault (now (table .entry)) (length (now (arena .entry))) (length (now (work .entry)))) (now (arena .entry)) (now (work .entry)) ⌝ }
 {
-    counting_type::answer_of(counting_type::infer_default(table, arena, work))
+    answers::answer_of(counting_type::infer_default(table, arena, work))
 }
 
 // Call 4: judges a type under an equivalence.
@@ -42,7 +42,7 @@ pub extern "C" fn ct_infer_default(table: &[u8], arena: &mut [u8], work: &mut [u
 pub extern "C" fn ct_judge_type(bytes: &[u8], equivalence: u64) -> Answer
     ensures { λ r. ⌜ outcomeOfAnswer r ≡ judgedType (now (bytes .entry)) equivalence ⌝ }
 {
-    counting_type::answer_of(counting_type::judge_type(bytes, equivalence))
+    answers::answer_of(counting_type::judge_type(bytes, equivalence))
 }
 
 // Call 5: merges a first and a second type under an equivalence into the arena.
@@ -55,5 +55,5 @@ pub extern "C" fn ct_merge(
 ) -> Answer
     ensures { λ r. ⌜ answerLeft r (now (arena .exit)) [] ≡ leaves (merged (now (first .entry)) (now (second .entry)) equivalence (length (now (arena .entry)))) (now (arena .entry)) [] ⌝ }
 {
-    counting_type::answer_of(counting_type::merge(first, second, equivalence, arena))
+    answers::answer_of(counting_type::merge(first, second, equivalence, arena))
 }

@@ -1,3 +1,2 @@
 -- The laws behind inference; a folder for each function's proof.
 pub mod InPlace
-pub mod Waiting

@@ -1,4 +1,2 @@
 -- What the contracts of inference cite beside the theory.
-pub mod Inferring
-pub mod ScalarFields
-pub mod Gathering
+pub mod Inside

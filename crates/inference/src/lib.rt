@@ -1,9 +1,7 @@
-// Inference in place: the type of a table's messages, in the front of an arena.
-pub mod gathering;
+// Inference in place: runs of values are added to the siblings that stand in an arena.
 pub mod inferring;
 mod key_list;
 mod placing;
-mod repeats;
+pub mod repeats;
 mod scalar_fields;
 mod search;
-mod slots;

@@ -16,9 +16,9 @@ ghost use lib.ListN.{length};
 ghost use Rattle.value_table.specs.Value.{recordKind, Values};
 ghost use Rattle.counting_theory.specs.Trie.{size};
 ghost use Rattle.counting_theory.specs.Label.{CountingType};
-ghost use Rattle.type_arena.specs.Arena.{under};
-ghost use Rattle.type_arena.specs.Payload.{payloadOf, itemPayload};
-ghost use Rattle.inference.specs.Inferring.{keysPerRecord, TableRun, SomeRun, wanted, Holds, Starts, HeldFrom, split, CountedWithin, PlacedAt, labelFor, withItem};
+ghost use Rattle.type_arena.specs.Inside.Arena.{under};
+ghost use Rattle.type_arena.specs.Inside.Payload.{payloadOf, itemPayload};
+ghost use Rattle.inference.specs.Inside.Inferring.{keysPerRecord, TableRun, SomeRun, wanted, Holds, Starts, HeldFrom, split, CountedWithin, PlacedAt, labelFor, withItem};
 
 // The record where a label stands, and the number of records of its siblings; or that there is no room.
 pub enum Put {

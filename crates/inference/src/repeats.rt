@@ -4,7 +4,7 @@ use value_table::record::same_record;
 ghost use Prim.Native.Nat.{_*_, _-_, _≤_, _<_};
 ghost use lib.ListN.{length};
 ghost use Rattle.value_table.specs.Value.{recordSize};
-ghost use Rattle.inference.specs.Inferring.{EqualRecords};
+ghost use Rattle.inference.specs.Inside.Inferring.{EqualRecords};
 
 // How many records from i on equal those from j on, one by one, up to record `end`.
 pub fn equal_records(t: &[u8], i: usize, j: usize, end: usize) -> usize

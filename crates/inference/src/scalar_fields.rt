@@ -16,9 +16,9 @@ ghost use lib.ListN.{length};
 ghost use Rattle.value_table.specs.Value.{lastScalar, Values};
 ghost use Rattle.counting_theory.specs.Label.{fieldKind, CountingType};
 ghost use Rattle.counting_theory.specs.Encoding.{typeSize};
-ghost use Rattle.type_arena.specs.Arena.{under, InTable};
-ghost use Rattle.inference.specs.Inferring.{Holds, Starts, StandsAt, spot};
-ghost use Rattle.inference.specs.ScalarFields.{Ran, SomeRan, plain, SomeFrom, SomeField, fieldStart, SoughtIn, withScalar, ScalarCounted, FieldCounted};
+ghost use Rattle.type_arena.specs.Inside.Arena.{under, InTable};
+ghost use Rattle.inference.specs.Inside.Inferring.{Holds, Starts, StandsAt, spot};
+ghost use Rattle.inference.specs.Inside.ScalarFields.{Ran, SomeRan, plain, SomeFrom, SomeField, fieldStart, SoughtIn, withScalar, ScalarCounted, FieldCounted};
 
 // Where a field stands; or a field from which a search for it may begin.
 pub enum Sought {

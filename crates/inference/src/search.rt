@@ -1,10 +1,9 @@
 // The search for a label among siblings in an arena. The key list of the label stands in the working buffer.
+use byte_records::little_endian::number16;
 use type_arena::label_order::Order;
-use type_arena::type_record;
 use type_arena::type_record::key_at;
 use type_arena::type_record::kind_at;
 use type_arena::type_record::span_at;
-use value_table::little_endian::number16;
 use value_table::record;
 ghost use mathlib.Core.Path.{_≡_};
 ghost use mathlib.Core.Bool.{Bool, cond};
@@ -13,9 +12,9 @@ ghost use Prim.Native.Nat.{ℕ, _*_, _≤_};
 ghost use lib.Dec.{ltb};
 ghost use lib.ListN.{length};
 ghost use Rattle.counting_theory.specs.Label.{compareKeys, compareLabel, CountingType};
-ghost use Rattle.type_arena.specs.Arena.{under, keysIn, labelAt, InTable, FieldsInside, Labelled};
-ghost use Rattle.type_arena.specs.LabelOrder.{orderingOf};
-ghost use Rattle.inference.specs.Inferring.{keysOf, wanted, spot, Holds, Starts, resumed, Shown};
+ghost use Rattle.type_arena.specs.Inside.Arena.{under, keysIn, labelAt, InTable, FieldsInside, Labelled};
+ghost use Rattle.type_arena.specs.Inside.LabelOrder.{orderingOf};
+ghost use Rattle.inference.specs.Inside.Inferring.{keysOf, wanted, spot, Holds, Starts, resumed, Shown};
 
 // Where a label stands among siblings, or would.
 pub enum Found {

@@ -2,10 +2,10 @@
 use mathlib.Core.Path.{_≡_, refl}
 use mathlib.Core.List.{List, [], _++_}
 use Prim.Native.Nat.{ℕ}
-use Rattle.value_table.specs.Number.{bytesOf, numberOf, numberAt}
+use Rattle.byte_records.specs.Number.{bytesOf, numberOf, numberAt}
 use Rattle.value_table.specs.Value.{header, keys, member, kindAt, zeroAt, keyAt, spanAt}
 use Rattle.value_table.specs.Judged.{badLength, badKind, badSpan, badKey, repeated, tooDeep, fault, faultIn, close, enter, walk, judged, decode, messages}
-use Rattle.value_table.specs.Format.{fieldAt, fieldsFrom, recordBytes}
+use Rattle.byte_records.specs.Format.{fieldAt, fieldsFrom, recordBytes}
 use Rattle.counting_theory.specs.Payload.{numbers, ofNumbers, one, oneField, join}
 use Rattle.counting_theory.specs.Order.{then, comparePair, compareList, compareOn}
 use Rattle.counting_theory.specs.Trie.{nil, node, size, insertStep, insert, add, total}

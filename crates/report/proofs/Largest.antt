@@ -6,11 +6,12 @@ use Prim.Native.Nat.{ℕ, suc, _+_, _-_, _≤_, _<_, max}
 use native.Mathlib.Omega.{arith}
 use Rattle.counting_theory.specs.Trie.{nil, node, size}
 use Rattle.counting_theory.specs.Label.{Equivalence, CountingType}
-use Rattle.counting_theory.specs.Encoding.{typeSpan, typeCount}
+use Rattle.counting_theory.specs.Encoding.{typeSpan}
+use Rattle.counting_theory.specs.Inside.TypeBytes.{typeCount}
 use Rattle.counting_theory.specs.WellFormed.{maxTotal}
 use Rattle.counting_theory.proofs.WellFormed.Holds.{Holds, holds-first}
 use Rattle.report.specs.Report.{largestCount}
-use Rattle.report.specs.Walk.{largestFrom, Shares}
+use Rattle.report.specs.Inside.Walk.{largestFrom, Shares}
 
 module _ (b : List ℕ) (n i largest : ℕ) where
   pub largest-next : i < n → max largest (largestFrom b (n - i) i) ≡ max (max largest (typeCount b i)) (largestFrom b (n - (i + 1)) (i + 1))

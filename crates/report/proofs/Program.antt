@@ -9,7 +9,7 @@ use lib.Dec.{eqb, ltb}
 use lib.ListN.{length, take, replicate, length-append, length-take}
 use lib.Seq.{take-at}
 use borrow.Author.Tests.{ltb-false}
-use Rattle.value_table.specs.Number.{Bytes}
+use Rattle.byte_records.specs.Number.{Bytes}
 use Rattle.value_table.specs.Value.{maxLength}
 use Rattle.value_table.specs.declared.Answer.{Answer}
 use Rattle.value_table.specs.declared.Refusal.the-variants as faults
@@ -26,11 +26,11 @@ use Rattle.counting_theory.specs.Raw.{profileOf}
 use Rattle.counting_theory.specs.Encoding.{typeSize, encode, typeOf}
 use Rattle.counting_theory.specs.WellFormed.{badTypeLength, IsType}
 use Rattle.counting_theory.specs.Answers.{numberOf, houseDefault, Written, turnedDown, arenaWith, stored, inferredUnder, inferred, inferredDefault}
-use Rattle.counting_type.specs.declared.Answered.{Answered}
-use Rattle.counting_type.specs.declared.Answered.the-variants.{Accepted, Refused}
-use Rattle.counting_type.specs.declared.Refusal.the-variants as refusals
-use Rattle.counting_type.specs.Outcomes.{outcomeOf}
-use Rattle.counting_type.proofs.Exact.{exact-inferred}
+use Rattle.answers.specs.declared.Answered.{Answered}
+use Rattle.answers.specs.declared.Answered.the-variants.{Accepted, Refused}
+use Rattle.answers.specs.declared.Refusal.the-variants as refusals
+use Rattle.answers.specs.Outcomes.{outcomeOf}
+use Rattle.answers.proofs.Exact.{exact-inferred}
 use Rattle.counting_theory.proofs.WellFormed.Closed.{profile-type}
 use Rattle.counting_theory.proofs.WellFormed.Whole.{type-unique}
 use Rattle.counting_theory.proofs.Ways.Weights.{largest-values}

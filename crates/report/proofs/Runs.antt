@@ -18,10 +18,10 @@ use Rattle.counting_theory.proofs.Label.{kind-eq}
 use Rattle.counting_theory.proofs.Tagged.Parts.{holdsFields, Shape, tagged-parts}
 use Rattle.counting_theory.proofs.Encoding.Header.{length-encode}
 use Rattle.counting_theory.proofs.WellFormed.Holds.{Holds, holds-first}
-use Rattle.type_arena.specs.Addend.{Coded}
+use Rattle.type_arena.specs.Inside.Addend.{Coded}
 use Rattle.type_arena.proofs.FirstAddend.{coded-type}
 use Rattle.report.specs.Report.{wholeInside, linesOf}
-use Rattle.report.specs.Walk.{bytesIn, typeIn, lineAt, depthIn, wholeIn, Shares, Inside, Run, Printable}
+use Rattle.report.specs.Inside.Walk.{bytesIn, typeIn, lineAt, depthIn, wholeIn, Shares, Inside, Run, Printable}
 
 -- the bytes of the records that hold a type are that type's
 pub coded-in : {e : Equivalence} {b : List ℕ} {i end : ℕ} {field : Bool} {depth : ℕ} {f : CountingType} → Holds e b i end field depth f → Coded e field (bytesIn b i end)

@@ -6,7 +6,7 @@ use native.Mathlib.Numerals.{add-one}
 use native.Mathlib.Omega.{arith}
 use lib.ListN.{length, take, drop, replicate, set, length-set, length-append}
 use lib.Seq.{sets, length-sets, sets-eq, take-at, drop-at}
-use Rattle.type_arena.proofs.Sets.{sets-append}
+use Rattle.byte_records.proofs.Sets.{sets-append}
 use Rattle.report.specs.Decimal.{Stored, Front}
 
 -- a part of a run of one byte

@@ -8,7 +8,7 @@ use Rattle.counting_theory.specs.Encoding.{typeSpan}
 use Rattle.report.specs.Decimal.{Stored}
 use Rattle.report.specs.Line.{lineLimit}
 use Rattle.report.specs.Report.{linesOf}
-use Rattle.report.specs.Walk.{typeIn, lineAt, depthIn, wholeIn, Run}
+use Rattle.report.specs.Inside.Walk.{typeIn, lineAt, depthIn, wholeIn, Run}
 use Rattle.report.proofs.Storing.{Storing, storing-all, storing-past, storing-none}
 use Rattle.report.proofs.Runs.{run-first, run-done}
 

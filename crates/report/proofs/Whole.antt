@@ -21,11 +21,11 @@ use Rattle.counting_theory.proofs.WellFormed.Nodes.{counted-parts, fieldCounts-
 use Rattle.counting_theory.proofs.WellFormed.Fitting.{weight-addend}
 use Rattle.counting_theory.proofs.WellFormed.Holds.{Holds}
 use Rattle.counting_theory.proofs.WellFormed.Whole.{type-holds}
-use Rattle.type_arena.specs.Addend.{Coded, Union}
+use Rattle.type_arena.specs.Inside.Addend.{Coded, Union}
 use Rattle.type_arena.proofs.FirstAddend.{type-coded}
 use Rattle.report.specs.Decimal.{digitCount}
 use Rattle.report.specs.Report.{linesOf, report}
-use Rattle.report.specs.Walk.{typeIn, largestFrom, Shares, Run}
+use Rattle.report.specs.Inside.Walk.{typeIn, largestFrom, Shares, Run}
 use Rattle.report.proofs.Runs.{typed, fields-inside}
 use Rattle.report.proofs.Largest.{largest-held, largest-below}
 

@@ -2,4 +2,4 @@
 pub mod Decimal
 pub mod Line
 pub mod Report
-pub mod Walk
+pub mod Inside

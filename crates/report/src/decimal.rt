@@ -1,5 +1,5 @@
 // Bytes, texts and decimal numbers, stored in a buffer from a position on. Each function answers the position behind what it stored.
-use type_arena::store::put_bytes;
+use byte_records::store::put_bytes;
 ghost use mathlib.Core.Path.{_≡_};
 ghost use mathlib.Core.List.{[], _∷_};
 ghost use Prim.Native.Nat.{_+_, _-_, _^_, _≤_, _<_};

@@ -3,7 +3,7 @@ mod decimal;
 mod line;
 mod walk;
 
-use counting_type::answer_of;
+use answers::answer_of;
 use counting_type::infer_default;
 use decimal::digit_count;
 use decimal::put_text;

@@ -17,7 +17,7 @@ ghost use Rattle.counting_theory.specs.WellFormed.{maxTotal};
 ghost use Rattle.report.specs.Decimal.{maxDigits, Stored};
 ghost use Rattle.report.specs.Line.{lineLimit};
 ghost use Rattle.report.specs.Report.{linesOf, programEquivalence};
-ghost use Rattle.report.specs.Walk.{typeIn, lineAt, depthIn, wholeIn, largestFrom, Inside, Run, Printable};
+ghost use Rattle.report.specs.Inside.Walk.{typeIn, lineAt, depthIn, wholeIn, largestFrom, Inside, Run, Printable};
 
 fn larger(x: usize, y: usize) -> usize
     ensures { λ r. ⌜ r ≡ max x y ⌝ }

@@ -14,7 +14,7 @@ use crate::text::find;
 use crate::text::number_or;
 use crate::text::part;
 use crate::text::word;
-use counting_type::Answered;
+use answers::Answered;
 use type_arena::type_record;
 
 // The largest arena, which is lent where a line names none.
@@ -42,7 +42,7 @@ fn infer(call: u8, equivalence: u64, table: &[u8], arena: &mut [u8], work: &mut 
 }
 
 fn infer_into(call: u8, equivalence: u64, table: &[u8], arena: &mut [u8], work: &mut [u8]) {
-    let answer = counting_type::answer_of(infer(call, equivalence, table, arena, work));
+    let answer = answers::answer_of(infer(call, equivalence, table, arena, work));
     print_answer(answer);
     print(nonzero(behind_type(arena, answer.count)));
     print(nonzero(work));
@@ -76,12 +76,12 @@ fn try_type(equivalence: u64, head: &[u8], records: &[u8]) {
     let mut bytes = [0u8; ROOM];
     let built = start_of(Layout::Type, build(&mut bytes, Layout::Type, records));
     let judged = part(&bytes, 0, number_or(head, 1, built));
-    print_answer(counting_type::answer_of(counting_type::judge_type(judged, equivalence)));
+    print_answer(answers::answer_of(counting_type::judge_type(judged, equivalence)));
 }
 
 fn merge_into(equivalence: u64, first: &[u8], second: &[u8], arena: &mut [u8]) {
     let answered = counting_type::merge(first, second, equivalence, arena);
-    let answer = counting_type::answer_of(answered);
+    let answer = answers::answer_of(answered);
     print_answer(answer);
     print(nonzero(behind_type(arena, answer.count)));
     print_type(type_in(arena, answer.count));

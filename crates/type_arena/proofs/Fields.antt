@@ -5,10 +5,10 @@ use Prim.Native.Nat.{ℕ, zero, suc, _+_, _-_, _≤_}
 use native.Mathlib.Nat.{le-refl}
 use native.Mathlib.Omega.{arith}
 use borrow.Author.Tests.{lt-ltb, le-ltb}
-use Rattle.value_table.specs.Chain.{Chain, done, next}
+use Rattle.value_table.specs.Inside.Chain.{Chain, done, next}
 use Rattle.value_table.proofs.Chain.{chain-le}
 use Rattle.counting_theory.specs.Encoding.{typeKey, typeSpan}
-use Rattle.type_arena.specs.Arena.{keysFrom, keysIn, FieldsInside}
+use Rattle.type_arena.specs.Inside.Arena.{keysFrom, keysIn, FieldsInside}
 
 module _ (b : List ℕ) where
   chain-keys : {end p : ℕ} {ks : List ℕ} (k : ℕ) → end - p ≤ k → Chain (typeSpan b) (typeKey b) end p ks → keysFrom b k p end ≡ ks

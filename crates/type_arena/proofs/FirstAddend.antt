@@ -11,17 +11,18 @@ use Rattle.value_table.specs.Value.{recordKind}
 use Rattle.counting_theory.specs.Payload.{Payload}
 use Rattle.counting_theory.specs.Trie.{nil, node, size}
 use Rattle.counting_theory.specs.Label.{Equivalence, Label, CountingType}
-use Rattle.counting_theory.specs.Encoding.{typeSize, typeKind, typeKey, typeSpan, typePayload, header, encode, decode, typeOf, Fitting}
+use Rattle.counting_theory.specs.Encoding.{typeSize, typeKind, typeKey, typeSpan, typePayload, header, encode, decode, typeOf}
+use Rattle.counting_theory.specs.Inside.TypeBytes.{Fitting}
 use Rattle.counting_theory.specs.WellFormed.{IsType}
-use Rattle.type_arena.specs.Arena.{labelAt, headerOf, Labelled}
-use Rattle.type_arena.specs.Addend.{front, body, rest, Headed, Coded}
+use Rattle.type_arena.specs.Inside.Arena.{labelAt, headerOf, Labelled}
+use Rattle.type_arena.specs.Inside.Addend.{front, body, rest, Headed, Coded}
 use Rattle.counting_theory.proofs.Tagged.Parts.{holdsFields, Shape, Parts, tagged-parts}
 use Rattle.counting_theory.proofs.WellFormed.Fitting.{type-fitting}
 use Rattle.counting_theory.proofs.Encoding.Header.{length-encode}
 use Rattle.counting_theory.proofs.Encoding.Node.{NodeAt, node-read}
 use Rattle.counting_theory.proofs.Encoding.Decode.{decode-encode}
 use Rattle.type_arena.proofs.Nodes.{fitting-heads, NodeIn, node-in}
-use Rattle.type_arena.proofs.Sets.{length-header}
+use Rattle.type_arena.proofs.RecordBytes.{length-header}
 
 -- the header of a label, and that of its kind and key
 header-parts : (l : Label) (span : ℕ) (a : Payload) → header l span a ≡ headerOf (l .kind) (l .key) span a

@@ -1,9 +1,7 @@
 -- The laws behind the loops over type records and buffers; a folder for each function's proof.
 pub mod Fields
 pub mod Nodes
-pub mod Sets
+pub mod RecordBytes
 pub mod PayloadBytes
-pub mod Clear
 pub mod FirstAddend
 pub mod UnionTotal
-pub mod Gap

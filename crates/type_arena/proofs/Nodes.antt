@@ -5,12 +5,13 @@ use mathlib.Core.List.{List, _++_}
 use Prim.Native.Nat.{ℕ, _+_, _*_, _-_, _^_, _<_}
 use native.Mathlib.Omega.{arith}
 use lib.ListN.{length, drop, length-append, length-drop}
-use Rattle.value_table.specs.Chain.{Chain, done, next}
+use Rattle.value_table.specs.Inside.Chain.{Chain, done, next}
 use Rattle.counting_theory.specs.Payload.{Payload}
 use Rattle.counting_theory.specs.Trie.{nil, node, size}
 use Rattle.counting_theory.specs.Label.{Equivalence, Label, CountingType}
-use Rattle.counting_theory.specs.Encoding.{typeSize, typeKind, typeKey, typeSpan, siblingKeys, encode, Tagged, Fitting}
-use Rattle.type_arena.specs.Arena.{labelAt, FieldsInside, Labelled}
+use Rattle.counting_theory.specs.Encoding.{typeSize, typeKind, typeKey, typeSpan, siblingKeys, encode, Tagged}
+use Rattle.counting_theory.specs.Inside.TypeBytes.{Fitting}
+use Rattle.type_arena.specs.Inside.Arena.{labelAt, FieldsInside, Labelled}
 use Rattle.counting_theory.proofs.Tagged.Parts.{tagged-parts, shape-label}
 use Rattle.counting_theory.proofs.Encoding.Header.{length-encode}
 use Rattle.counting_theory.proofs.Encoding.Node.{NodeFront, node-front}

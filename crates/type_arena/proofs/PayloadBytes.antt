@@ -8,16 +8,16 @@ use native.Mathlib.Omega.{arith}
 use lib.Dec.{eqb}
 use lib.ListN.{length, drop}
 use lib.Seq.{drop-at, sets}
-use Rattle.value_table.specs.Number.{bytesOf, numberOf}
+use Rattle.byte_records.specs.Number.{bytesOf, numberOf}
 use Rattle.value_table.specs.Value.{Values}
-use Rattle.value_table.specs.Format.{fieldAt, fieldsFrom, recordBytes}
-use Rattle.value_table.proofs.Number.{bytes-past, bytes-more}
-use Rattle.value_table.proofs.Format.{field-stored, sets-behind}
+use Rattle.byte_records.specs.Format.{fieldAt, fieldsFrom, recordBytes}
+use Rattle.byte_records.proofs.Number.{bytes-past, bytes-more}
+use Rattle.byte_records.proofs.Format.{field-stored, sets-behind}
 use Rattle.counting_theory.specs.Payload.{Payload, numbers, ofNumbers, one, oneField, join, copies}
 use Rattle.counting_theory.specs.Label.{Label, fieldKind}
 use Rattle.counting_theory.specs.Encoding.{typeFormat, typeSize, typePayload, recordNumbers, header}
-use Rattle.type_arena.specs.Arena.{headerOf}
-use Rattle.type_arena.specs.Payload.{payloadOffset, payloadBytes, itemPayload}
+use Rattle.type_arena.specs.Inside.Arena.{headerOf}
+use Rattle.type_arena.specs.Inside.Payload.{payloadOffset, payloadBytes, itemPayload}
 
 -- the bytes of the code's join, whose sum may wrap
 pub wrapped-join : (a b c : Payload) → c .count ≡ (a .count + b .count) % 2 ^ 64 → payloadBytes c ≡ payloadBytes (join a b)

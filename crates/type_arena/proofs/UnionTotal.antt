@@ -8,9 +8,10 @@ use native.Mathlib.Omega.{arith}
 use lib.ListN.{length}
 use Rattle.counting_theory.specs.Trie.{total}
 use Rattle.counting_theory.specs.Label.{Equivalence, Counting}
-use Rattle.counting_theory.specs.Encoding.{typePayload, typeCount, typeOf}
-use Rattle.type_arena.specs.Arena.{labelAt}
-use Rattle.type_arena.specs.Addend.{rest, Coded}
+use Rattle.counting_theory.specs.Encoding.{typePayload, typeOf}
+use Rattle.counting_theory.specs.Inside.TypeBytes.{typeCount}
+use Rattle.type_arena.specs.Inside.Arena.{labelAt}
+use Rattle.type_arena.specs.Inside.Addend.{rest, Coded}
 use Rattle.counting_theory.proofs.Encoding.Header.{payload-count}
 use Rattle.counting_theory.proofs.WellFormed.Fitting.{weight-addend}
 use Rattle.type_arena.proofs.FirstAddend.{Addend, addend, type-empty}

@@ -1,5 +1,2 @@
 -- What the contracts on type records cite beside the theory.
-pub mod Arena
-pub mod Addend
-pub mod LabelOrder
-pub mod Payload
+pub mod Inside

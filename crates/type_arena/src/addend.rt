@@ -7,7 +7,7 @@ ghost use mathlib.Core.Bool.{false};
 ghost use Rattle.counting_theory.specs.Trie.{total};
 ghost use Rattle.counting_theory.specs.Label.{Equivalence, Counting};
 ghost use Rattle.counting_theory.specs.Encoding.{typeOf};
-ghost use Rattle.type_arena.specs.Addend.{front, body, rest, Headed, Coded, Union};
+ghost use Rattle.type_arena.specs.Inside.Addend.{front, body, rest, Headed, Coded, Union};
 
 // The first addend or field of x, with what stands inside it.
 pub fn front_of<'a>(x: &'a [u8]) -> &'a [u8]

@@ -1,13 +1,12 @@
 // The order of labels, and of the key lists that records have.
-use crate::type_record;
 use crate::type_record::key_at;
 use crate::type_record::kind_at;
 use crate::type_record::span_at;
 use value_table::record;
 ghost use mathlib.Core.Path.{_≡_};
 ghost use Rattle.counting_theory.specs.Label.{compareKeys, compareLabel};
-ghost use Rattle.type_arena.specs.Arena.{under, keysIn, labelAt, FieldsInside, Labelled};
-ghost use Rattle.type_arena.specs.LabelOrder.{orderingOf};
+ghost use Rattle.type_arena.specs.Inside.Arena.{under, keysIn, labelAt, FieldsInside, Labelled};
+ghost use Rattle.type_arena.specs.Inside.LabelOrder.{orderingOf};
 
 // How one label, or one key list, stands to another.
 pub enum Order {

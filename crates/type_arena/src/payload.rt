@@ -1,8 +1,8 @@
 // The payload of a type record: what a type keeps of the values at one place.
-use crate::store::store64;
 use crate::type_record::PAYLOAD_OFFSET;
 use crate::type_record::SIZE;
-use value_table::little_endian::number64;
+use byte_records::little_endian::number64;
+use byte_records::store::store64;
 ghost use mathlib.Core.Path.{_≡_};
 ghost use Prim.Native.Nat.{_+_, _*_, _≤_};
 ghost use lib.ListN.{length};
@@ -10,7 +10,7 @@ ghost use lib.Seq.{sets};
 ghost use Rattle.value_table.specs.Value.{Values};
 ghost use Rattle.counting_theory.specs.Payload as theory;
 ghost use Rattle.counting_theory.specs.Encoding.{typeSize, typePayload};
-ghost use Rattle.type_arena.specs.Payload.{payloadOf, payloadOffset, payloadBytes, itemPayload};
+ghost use Rattle.type_arena.specs.Inside.Payload.{payloadOf, payloadOffset, payloadBytes, itemPayload};
 
 pub struct Payload {
     pub count: usize,

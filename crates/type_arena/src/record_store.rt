@@ -3,23 +3,23 @@ use crate::payload::Payload;
 use crate::payload::join;
 use crate::payload::payload_at;
 use crate::payload::store_payload;
-use crate::store::open_gap;
-use crate::store::put_bytes;
-use crate::store::store16;
-use crate::store::store32;
 use crate::type_record::KEY_OFFSET;
 use crate::type_record::SIZE;
 use crate::type_record::SPAN_OFFSET;
+use byte_records::store::open_gap;
+use byte_records::store::put_bytes;
+use byte_records::store::store16;
+use byte_records::store::store32;
 ghost use mathlib.Core.Path.{_≡_};
 ghost use mathlib.Core.List.{_++_};
 ghost use Prim.Native.Nat.{_+_, _*_, _^_, _≤_, _<_};
 ghost use lib.ListN.{length, take, drop};
 ghost use lib.Seq.{sets};
-ghost use Rattle.value_table.specs.Number.{bytesOf};
+ghost use Rattle.byte_records.specs.Number.{bytesOf};
 ghost use Rattle.counting_theory.specs.Payload as theory;
 ghost use Rattle.counting_theory.specs.Encoding.{typeSize, typePayload};
-ghost use Rattle.type_arena.specs.Arena.{spanOffset, headerOf};
-ghost use Rattle.type_arena.specs.Payload.{payloadOf, payloadOffset, payloadBytes};
+ghost use Rattle.type_arena.specs.Inside.Arena.{spanOffset, headerOf};
+ghost use Rattle.type_arena.specs.Inside.Payload.{payloadOf, payloadOffset, payloadBytes};
 
 // Stores the span of record i.
 pub fn store_span(b: &mut [u8], i: usize, span: usize)

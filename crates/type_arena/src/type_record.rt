@@ -1,13 +1,14 @@
 // The fields of a type record.
-use value_table::little_endian::number16;
-use value_table::little_endian::number32;
-use value_table::little_endian::number64;
+use byte_records::little_endian::number16;
+use byte_records::little_endian::number32;
+use byte_records::little_endian::number64;
 use value_table::record;
 ghost use mathlib.Core.Path.{_≡_};
 ghost use Prim.Native.Nat.{_+_, _*_, _≤_, _<_};
 ghost use lib.ListN.{length};
 ghost use Rattle.counting_theory.specs.WellFormed.{badTypeLength};
-ghost use Rattle.counting_theory.specs.Encoding.{typeSize, typeKind, typeZero, typeKey, typeSpan, typeCount};
+ghost use Rattle.counting_theory.specs.Encoding.{typeSize, typeKind, typeZero, typeKey, typeSpan};
+ghost use Rattle.counting_theory.specs.Inside.TypeBytes.{typeCount};
 
 pub const SIZE: usize = 16;
 

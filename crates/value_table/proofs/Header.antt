@@ -4,10 +4,11 @@ use mathlib.Core.List.{List, _++_}
 use Prim.Native.Nat.{ℕ, _+_, _*_, _<_, _≤_}
 use native.Mathlib.Omega.{arith}
 use lib.ListN.{length, drop, length-append}
-use Rattle.value_table.specs.Number.{Bytes}
-use Rattle.value_table.specs.Format.{fieldsFrom, Fits}
+use Rattle.byte_records.specs.Number.{Bytes}
+use Rattle.byte_records.specs.Format.{fieldsFrom}
+use Rattle.byte_records.specs.Inside.Fits.{Fits}
 use Rattle.value_table.specs.Value.{valueFormat, recordSize, Head, headAt, recordNumbers, kindAt, zeroAt, keyAt, spanAt, header, Values, none, value, size, encode}
-use Rattle.value_table.proofs.Format.{length-record, field-read, next-read, field-below, record-written}
+use Rattle.byte_records.proofs.Format.{length-record, field-read, next-read, field-below, record-written}
 
 pub length-encode : (vs : Values) → length (encode vs) ≡ recordSize * size vs
 unfolding encode size header

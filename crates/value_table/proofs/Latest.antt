@@ -12,8 +12,8 @@ use lib.Seq.{getD-set-same, getD-set-other}
 use borrow.Author.Tests.{eqb-true, eqb-false}
 use Rattle.value_table.specs.Value.{keyAt, member}
 use Rattle.value_table.specs.Judged.{repeated}
-use Rattle.value_table.specs.Chain.{Chain, done, next}
-use Rattle.value_table.specs.Siblings.{Before, field, other, keyBuckets, Latest}
+use Rattle.value_table.specs.Inside.Chain.{Chain, done, next}
+use Rattle.value_table.specs.Inside.Siblings.{Before, field, other, keyBuckets, Latest}
 use Rattle.value_table.proofs.Siblings.{member-tail}
 
 -- a bound of what stands at j holds after a larger number is stored at i

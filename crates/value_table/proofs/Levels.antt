@@ -10,8 +10,8 @@ use lib.ListN.{length, getD, set}
 use lib.Seq.{getD-set-same, getD-set-other}
 use Rattle.value_table.specs.Value.{recordKind, kindAt, keyAt, spanAt}
 use Rattle.value_table.specs.Judged.{Open, endOf, inRecord, seen, withKey, enter}
-use Rattle.value_table.specs.Chain.{done}
-use Rattle.value_table.specs.Siblings.{Before, field, other, innermostOf, firstOf}
+use Rattle.value_table.specs.Inside.Chain.{done}
+use Rattle.value_table.specs.Inside.Siblings.{Before, field, other, innermostOf, firstOf}
 use Rattle.value_table.proofs.Chain.{chain-more}
 
 -- `depth` levels of the arrays hold the open values around record i, in a table of n records

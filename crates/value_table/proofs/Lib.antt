@@ -1,6 +1,4 @@
 -- The laws behind the promises; a folder for each function's proof.
-pub mod Number
-pub mod Format
 pub mod Header
 pub mod Tests
 pub mod Keys

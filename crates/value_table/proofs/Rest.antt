@@ -9,7 +9,7 @@ use native.Mathlib.Omega.{arith}
 use lib.Dec.{leb}
 use lib.ListN.{length}
 use borrow.Author.Tests.{leb-true}
-use Rattle.value_table.specs.Number.{Bytes}
+use Rattle.byte_records.specs.Number.{Bytes}
 use Rattle.value_table.specs.Value.{maxLength, records, keyAt, Values, none, count, Distinct}
 use Rattle.value_table.specs.Judged.{Open, endOf, inRecord, seen, close, withKey, enter, messagesIn}
 use Rattle.value_table.proofs.Fault.{FaultlessIn}

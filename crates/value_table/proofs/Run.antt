@@ -8,8 +8,8 @@ use lib.Dec.{eqb, lit<}
 use lib.ListN.{length, drop, length-append, length-drop}
 use lib.Seq.{drop-drop, drop-at}
 use borrow.Author.Tests.{eq-eqb, eqb-true}
-use Rattle.value_table.specs.Number.{Bytes}
-use Rattle.value_table.specs.Format.{Fits}
+use Rattle.byte_records.specs.Number.{Bytes}
+use Rattle.byte_records.specs.Inside.Fits.{Fits}
 use Rattle.value_table.specs.Value.{recordSize, recordKind, maxLength, valueFormat, Head, headAt, recordNumbers, Proper, kindAt, keyAt, spanAt, header, Values, none, value, size, keys, encode, Distinct, KeyFits, ValidAt}
 use Rattle.value_table.proofs.Header.{Fields, length-encode, header-read, header-written}
 use Rattle.value_table.proofs.Keys.{distinct-new}

@@ -8,8 +8,8 @@ use borrow.Author.Tests.{eq-eqb, ne-eqb, lt-ltb, le-ltb}
 use lib.Dec.{ltb}
 use Rattle.value_table.specs.Value.{keyAt, spanAt, member}
 use Rattle.value_table.specs.Judged.{repeated}
-use Rattle.value_table.specs.Chain.{Chain}
-use Rattle.value_table.specs.Siblings.{Before, field, other, Siblings}
+use Rattle.value_table.specs.Inside.Chain.{Chain}
+use Rattle.value_table.specs.Inside.Siblings.{Before, field, other, Siblings}
 use Rattle.value_table.proofs.Chain.{Sibling, chain-le, chain-sibling, chain-done}
 
 member-head : {key x : ℕ} (xs : List ℕ) → key ≡ x → member key (x ∷ xs) ≡ true

@@ -9,11 +9,11 @@ use lib.ListN.{length, set, length-set}
 use borrow.Author.Tests.{le-leb, lt-leb}
 use Rattle.value_table.specs.declared.Refusal.{Refusal}
 use Rattle.value_table.specs.declared.Refusal.the-variants.{Length, Kind, Span, Key, Repeat, Depth}
-use Rattle.value_table.specs.Number.{Bytes}
+use Rattle.byte_records.specs.Number.{Bytes}
 use Rattle.value_table.specs.Value.{maxDepth, records, kindAt, keyAt, spanAt}
 use Rattle.value_table.specs.Outcome.{Outcome, accepted, refused, numberOfRefusal}
 use Rattle.value_table.specs.Judged.{Open, endOf, inRecord, seen, faultIn, close, withKey, enter, messagesIn, decide, walk}
-use Rattle.value_table.specs.Siblings.{FaultIs, innermostOf, firstOf, messagesAt, Parent}
+use Rattle.value_table.specs.Inside.Siblings.{FaultIs, innermostOf, firstOf, messagesAt, Parent}
 use Rattle.value_table.proofs.Fault.{FaultlessIn, faultless}
 use Rattle.value_table.proofs.Header.{keyAt-below}
 use Rattle.value_table.proofs.Levels.{Levels, outside, inside, levels-depth, levels-end, levels-upto, levels-before, levels-next, levels-enter}

@@ -5,7 +5,7 @@ use mathlib.Core.List.{List}
 use Prim.Native.Nat.{ℕ, zero, suc, _+_, _≤_, _<_}
 use native.Mathlib.Omega.{arith}
 use lib.ListN.{length}
-use Rattle.value_table.specs.Number.{Bytes}
+use Rattle.byte_records.specs.Number.{Bytes}
 use Rattle.value_table.specs.Value.{maxLength, records}
 use Rattle.value_table.specs.Outcome.{Outcome, accepted}
 use Rattle.value_table.specs.Judged.{Open, faultIn, close, enter, messagesIn, decide, walk}

@@ -3,7 +3,7 @@ use mathlib.Core.Path.{_≡_}
 use mathlib.Core.Logic.{_↔_}
 use mathlib.Core.List.{List}
 use Prim.Native.Nat.{ℕ, _*_, _≤_}
-use Rattle.value_table.specs.Number.{Bytes}
+use Rattle.byte_records.specs.Number.{Bytes}
 use Rattle.value_table.specs.Value.{records, Values, Valid, encode, size, count, recordSize, maxLength}
 use Rattle.value_table.specs.Outcome.{accepted}
 use Rattle.value_table.specs.Judged.{judged, messages}

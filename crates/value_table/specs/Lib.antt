@@ -1,9 +1,6 @@
 -- The statements of the lower library, in the order of document 01.
-pub mod Number
-pub mod Format
 pub mod Value
 pub mod Outcome
 pub mod Judged
 pub mod Acceptance
-pub mod Chain
-pub mod Siblings
+pub mod Inside

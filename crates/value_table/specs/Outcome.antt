@@ -3,8 +3,6 @@ use Prim.Native.Nat.{ℕ}
 use Rattle.value_table.specs.declared.Answer.{Answer}
 use Rattle.value_table.specs.declared.Judged.{Judged}
 use Rattle.value_table.specs.declared.Judged.the-variants.{Accepted, Refused}
-use Rattle.value_table.specs.declared.faults.Fault.{Fault}
-use Rattle.value_table.specs.declared.faults.Fault.the-variants.{Nothing, Found}
 use Rattle.value_table.specs.declared.Refusal.{Refusal}
 use Rattle.value_table.specs.declared.Refusal.the-variants.{Length, Kind, Span, Key, Repeat, Depth}
 
@@ -27,11 +25,6 @@ numberOfRefusal Span = 4
 numberOfRefusal Key = 5
 numberOfRefusal Repeat = 6
 numberOfRefusal Depth = 7
-
--- what is wrong with one record, 0 for nothing
-abbrev pub numberOfFault : Fault → ℕ
-numberOfFault Nothing = 0
-numberOfFault (Found why) = numberOfRefusal why
 
 -- call 1's answer
 abbrev pub outcomeOf : Judged → Outcome

@@ -5,7 +5,7 @@ use mathlib.Core.List.{List, [], _∷_, _++_}
 use Prim.Native.Nat.{ℕ, suc, _+_, _*_, _/_, _≤_, _<_}
 use lib.ListN.{length, take, drop}
 use lib.Dec.{eqb}
-use Rattle.value_table.specs.Format.{Format, widthOf, fieldAt, recordBytes}
+use Rattle.byte_records.specs.Format.{Format, widthOf, fieldAt, recordBytes}
 
 -- the fields of a value record: kind, zero, key and span
 abbrev pub valueFormat : Format

@@ -12,10 +12,9 @@ ghost use mathlib.Core.List.{List};
 ghost use Prim.Native.Nat.{ℕ, _+_, _*_, _%_, _≤_, _<_};
 ghost use lib.ListN.{length};
 ghost use Rattle.value_table.specs.Value.{recordSize, maxLength, keyAt, spanAt, member};
-ghost use Rattle.value_table.specs.Outcome.{numberOfFault};
+ghost use Rattle.value_table.specs.Inside.Siblings.{numberOfFault, Siblings, Before, Parent, FaultIs, keyBuckets, Latest};
 ghost use Rattle.value_table.specs.Judged.{badKind, badSpan, badKey, repeated};
-ghost use Rattle.value_table.specs.Chain.{Chain};
-ghost use Rattle.value_table.specs.Siblings.{Siblings, Before, Parent, FaultIs, keyBuckets, Latest};
+ghost use Rattle.value_table.specs.Inside.Chain.{Chain};
 
 // How many buckets the keys are spread over.
 pub const KEY_BUCKETS: usize = 64;

@@ -1,6 +1,5 @@
 // The lower library: judges value tables.
 mod faults;
-pub mod little_endian;
 pub mod record;
 mod walk;
 

@@ -1,12 +1,12 @@
 // The fields of a value record, and records with the same bytes.
-use crate::little_endian::number16;
-use crate::little_endian::number32;
-use crate::little_endian::number64;
+use byte_records::little_endian::number16;
+use byte_records::little_endian::number32;
+use byte_records::little_endian::number64;
 ghost use mathlib.Core.Path.{_≡_};
 ghost use mathlib.Core.Bool.{true};
 ghost use Prim.Native.Nat.{_+_, _*_, _≤_, _<_};
 ghost use lib.ListN.{length};
-ghost use Rattle.value_table.specs.Number.{numberAt};
+ghost use Rattle.byte_records.specs.Number.{numberAt};
 ghost use Rattle.value_table.specs.Value.{recordSize, recordAt, kindAt, zeroAt, keyAt, spanAt};
 ghost use Rattle.value_table.specs.Judged.{badLength};
 

@@ -2,8 +2,8 @@
 use mathlib.Core.List.{_++_}
 use Prim.Native.Nat.{_+_}
 use native.Mathlib.Omega.{arith}
-use Rattle.value_table.specs.Number.{Bytes}
-use Rattle.value_table.proofs.Format.{bytes-append, bytes-record}
+use Rattle.byte_records.specs.Number.{Bytes}
+use Rattle.byte_records.proofs.Format.{bytes-append, bytes-record}
 use Rattle.counting_theory.specs.Trie.{nil, node, size}
 use Rattle.counting_theory.specs.Label.{CountingType}
 use Rattle.counting_theory.specs.Encoding.{typeFormat, recordNumbers, header, encode}

@@ -7,9 +7,11 @@ use native.Mathlib.Omega.{arith}
 use lib.ListN.{length, drop}
 use lib.Seq.{drop-length}
 use borrow.Author.Tests.{lt-ltb, le-ltb}
-use Rattle.counting_theory.specs.Trie.{nil, node, size, SameMap, Sorted}
+use Rattle.counting_theory.specs.Trie.{nil, node, size, Sorted}
+use Rattle.counting_theory.specs.Inside.TrieLaws.{SameMap}
 use Rattle.counting_theory.specs.Label.{Equivalence, Counting, CountingType}
-use Rattle.counting_theory.specs.Encoding.{typeSize, typeSpan, encode, decode, typeOf, Tagged, Fitting}
+use Rattle.counting_theory.specs.Encoding.{typeSize, typeSpan, encode, decode, typeOf, Tagged}
+use Rattle.counting_theory.specs.Inside.TypeBytes.{Fitting}
 use Rattle.counting_theory.proofs.Trie.Canonical.{canonical}
 use Rattle.counting_theory.proofs.Label.{counting-laws}
 use Rattle.counting_theory.proofs.Tagged.Parts.{holdsFields, tagged-parts, shape-label}

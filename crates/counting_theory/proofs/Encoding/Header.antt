@@ -4,13 +4,15 @@ use mathlib.Core.List.{List, _++_}
 use Prim.Native.Nat.{ℕ, suc, _+_, _*_, _^_, _<_, _≤_}
 use native.Mathlib.Omega.{arith}
 use lib.ListN.{length, drop, length-append}
-use Rattle.value_table.specs.Number.{Bytes}
-use Rattle.value_table.specs.Format.{fieldsFrom, fieldsAt, Fits}
-use Rattle.value_table.proofs.Format.{length-record, field-read, fields-read, next-read, field-below, record-written, record-fits}
+use Rattle.byte_records.specs.Number.{Bytes}
+use Rattle.byte_records.specs.Format.{fieldsFrom, fieldsAt}
+use Rattle.byte_records.specs.Inside.Fits.{Fits}
+use Rattle.byte_records.proofs.Format.{length-record, field-read, fields-read, next-read, field-below, record-written, record-fits}
 use Rattle.counting_theory.specs.Payload.{Payload, ofNumbers}
 use Rattle.counting_theory.specs.Trie.{nil, node, size}
 use Rattle.counting_theory.specs.Label.{Label, CountingType}
-use Rattle.counting_theory.specs.Encoding.{typeFormat, typeSize, typeKind, typeZero, typeKey, typeSpan, typeCount, typePayload, recordNumbers, header, encode}
+use Rattle.counting_theory.specs.Encoding.{typeFormat, typeSize, typeKind, typeZero, typeKey, typeSpan, typePayload, recordNumbers, header, encode}
+use Rattle.counting_theory.specs.Inside.TypeBytes.{typeCount}
 use Rattle.counting_theory.proofs.Payload.{length-numbers, numbers-read, numbers-written}
 
 pub length-encode : (f : CountingType) → length (encode f) ≡ typeSize * size f

@@ -8,7 +8,8 @@ use lib.Seq.{drop-drop, drop-at}
 use Rattle.counting_theory.specs.Payload.{Payload}
 use Rattle.counting_theory.specs.Trie.{node, size}
 use Rattle.counting_theory.specs.Label.{Label, CountingType}
-use Rattle.counting_theory.specs.Encoding.{typeSize, typeKind, typeZero, typeKey, typeSpan, typeCount, typePayload, encode, Fitting}
+use Rattle.counting_theory.specs.Encoding.{typeSize, typeKind, typeZero, typeKey, typeSpan, typePayload, encode}
+use Rattle.counting_theory.specs.Inside.TypeBytes.{typeCount, Fitting}
 use Rattle.counting_theory.proofs.Encoding.Header.{Fields, Front, length-encode, payload-count, header-front, header-read}
 
 -- what does not hang on the payload, which may not fit; q follows the type

@@ -6,8 +6,8 @@ use mathlib.Core.Option.{none, some}
 use Prim.Native.Nat.{ℕ, Ordering, Ordering·lt as lt, Ordering·eq as eq, Ordering·gt as gt}
 use native.Mathlib.Omega.{arith}
 use Rattle.counting_theory.specs.Payload.{Payload}
-use Rattle.counting_theory.specs.Order.{flip, IsOrder}
-use Rattle.counting_theory.specs.Trie.{nil, node, atEnd, lookup, SameMap, Before, Sorted}
+use Rattle.counting_theory.specs.Inside.TrieLaws.{flip, IsOrder, SameMap}
+use Rattle.counting_theory.specs.Trie.{nil, node, atEnd, lookup, Before, Sorted}
 use Rattle.counting_theory.specs.Label.{Label, compareLabel, Counting, CountingType}
 use Rattle.counting_theory.specs.Published.{Addend}
 use Rattle.counting_theory.proofs.Trie.Sorted.{before-trans}

@@ -6,7 +6,8 @@ use lib.Dec.{eqb}
 use borrow.Author.Tests.{eqb-true}
 use Rattle.value_table.specs.Value.{Head, recordKind, Values, none, value, keys, member, Distinct, Proper, ValidAt, Valid}
 use Rattle.counting_theory.specs.Payload.{Payload, one}
-use Rattle.counting_theory.specs.Trie.{nil, node, append, insert, add, profile, reduce}
+use Rattle.counting_theory.specs.Trie.{nil, node, insert, add, profile, reduce}
+use Rattle.counting_theory.specs.Inside.TrieLaws.{append}
 use Rattle.counting_theory.specs.Label.{Equivalence, Label, Counting, CountingType}
 use Rattle.counting_theory.specs.Raw.{insertKey, ascending, classOf, addend, raw, profileOf}
 use Rattle.counting_theory.specs.Encoding.{siblingKeys, AddendShape, Tagged}

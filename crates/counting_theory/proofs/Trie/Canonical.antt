@@ -4,8 +4,8 @@ use mathlib.Core.List.{List, [], _∷_}
 use mathlib.Core.Option.{Option, none, some}
 use Prim.Native.Nat.{ℕ, Ordering, Ordering·lt as lt, Ordering·eq as eq, Ordering·gt as gt}
 use native.Mathlib.Omega.{arith}
-use Rattle.counting_theory.specs.Order.{IsOrder}
-use Rattle.counting_theory.specs.Trie.{nil, node, TrieOps, TrieLaws, atEnd, whenEqual, Trie, _⊞_ as joinOption, lookupNode, lookup, SameMap, Before, Sorted}
+use Rattle.counting_theory.specs.Inside.TrieLaws.{IsOrder, TrieLaws, SameMap}
+use Rattle.counting_theory.specs.Trie.{nil, node, TrieOps, atEnd, whenEqual, Trie, _⊞_ as joinOption, lookupNode, lookup, Before, Sorted}
 use Rattle.counting_theory.proofs.Trie.Join.{⊞-none}
 use Rattle.counting_theory.proofs.Trie.Sorted.{flip-gt, before-trans}
 

@@ -3,7 +3,8 @@ use mathlib.Core.Path.{_≡_, refl, ap}
 use Prim.Native.Nat.{ℕ, _+_, _≤_, max, Ordering, Ordering·lt as lt, Ordering·eq as eq, Ordering·gt as gt}
 use native.Mathlib.Nat.{le-refl}
 use native.Mathlib.Omega.{arith}
-use Rattle.counting_theory.specs.Trie.{nil, node, TrieOps, TrieLaws, size, Trie, insertStep, insert, add, profile, Sorted, total, largestBelow, largestTotal, NoLarger}
+use Rattle.counting_theory.specs.Trie.{nil, node, TrieOps, size, Trie, insertStep, insert, add, profile, Sorted, total, largestBelow, largestTotal}
+use Rattle.counting_theory.specs.Inside.TrieLaws.{TrieLaws, NoLarger}
 use Rattle.counting_theory.proofs.Trie.Profile.{add-comm}
 
 largest-le : (w w′ x x′ y y′ z z′ : ℕ) → w ≤ w′ → x ≤ x′ → max x y ≤ max x′ y′ → z ≤ z′ → max (w + x) (max z y) ≤ max (w′ + x′) (max z′ y′)

@@ -1,7 +1,8 @@
 -- Optional payloads are a commutative monoid.
 use mathlib.Core.Path.{_≡_, refl, sym, _∙_, ap}
 use mathlib.Core.Option.{Option, none, some}
-use Rattle.counting_theory.specs.Trie.{TrieOps, TrieLaws, _⊞_ as joinOption}
+use Rattle.counting_theory.specs.Trie.{TrieOps, _⊞_ as joinOption}
+use Rattle.counting_theory.specs.Inside.TrieLaws.{TrieLaws}
 
 module _ {T : TrieOps} (W : TrieLaws T) where
   open TrieOps T using (Payload)

@@ -3,7 +3,8 @@ use mathlib.Core.Path.{_≡_, refl, sym, _∙_, ap}
 use mathlib.Core.List.{List, [], _∷_}
 use mathlib.Core.Option.{Option}
 use Prim.Native.Nat.{Ordering, Ordering·lt as lt, Ordering·eq as eq, Ordering·gt as gt}
-use Rattle.counting_theory.specs.Trie.{nil, node, TrieOps, TrieLaws, append, atEnd, whenEqual, Trie, _⊞_ as joinOption, lookupNode, lookup, insertStep, insert, add, reduceStep, reduceNode, reduce}
+use Rattle.counting_theory.specs.Trie.{nil, node, TrieOps, atEnd, whenEqual, Trie, _⊞_ as joinOption, lookupNode, lookup, insertStep, insert, add, reduceStep, reduceNode, reduce}
+use Rattle.counting_theory.specs.Inside.TrieLaws.{TrieLaws, append}
 use Rattle.counting_theory.proofs.Trie.Join.{⊞-none, ⊞-assoc, ⊞-left-comm}
 
 module _ {T : TrieOps} (W : TrieLaws T) where

@@ -1,7 +1,8 @@
 -- Equations between tries, by their maps: reduce is add, and order and grouping make no difference to a profile.
 use mathlib.Core.Path.{_≡_, refl, sym, _∙_, ap}
 use mathlib.Core.List.{List, [], _∷_, _++_, List·Permᴰ, List·Permᴰ·nil, List·Permᴰ·cons, List·Permᴰ·swap, List·Permᴰ·trans}
-use Rattle.counting_theory.specs.Trie.{Forest, nil, node, TrieOps, TrieLaws, append, concat, Trie, lookup, SameMap, add, profile, reduce, Sorted}
+use Rattle.counting_theory.specs.Trie.{Forest, nil, node, TrieOps, Trie, lookup, add, profile, reduce, Sorted}
+use Rattle.counting_theory.specs.Inside.TrieLaws.{TrieLaws, append, concat, SameMap}
 use Rattle.counting_theory.proofs.Trie.Join.{⊞-none, ⊞-comm, ⊞-assoc, ⊞-left-comm}
 use Rattle.counting_theory.proofs.Trie.Lookup.{lookup-add, lookup-append, lookup-reduce}
 use Rattle.counting_theory.proofs.Trie.Sorted.{sorted-add, sorted-profile, sorted-reduce}

@@ -2,7 +2,8 @@
 use mathlib.Core.Path.{_≡_, refl, ap}
 use Prim.Native.Nat.{_+_, _≤_, Ordering, Ordering·lt as lt, Ordering·eq as eq, Ordering·gt as gt}
 use native.Mathlib.Omega.{arith}
-use Rattle.counting_theory.specs.Trie.{nil, node, TrieOps, TrieLaws, size, Trie, reduceStep, reduceNode, reduce, total}
+use Rattle.counting_theory.specs.Trie.{nil, node, TrieOps, size, Trie, reduceStep, reduceNode, reduce, total}
+use Rattle.counting_theory.specs.Inside.TrieLaws.{TrieLaws}
 
 module _ (T : TrieOps) where
   open TrieOps T using (Label, Payload, compare)

@@ -1,8 +1,8 @@
 -- Adding to a sorted trie and merging two keep the order.
 use mathlib.Core.Path.{_≡_, refl, _∙_, ap}
 use Prim.Native.Nat.{Ordering, Ordering·lt as lt, Ordering·eq as eq, Ordering·gt as gt}
-use Rattle.counting_theory.specs.Order.{flip, IsOrder}
-use Rattle.counting_theory.specs.Trie.{nil, node, TrieOps, TrieLaws, Trie, insertStep, insert, add, profile, reduceStep, reduceNode, reduce, Before, Sorted}
+use Rattle.counting_theory.specs.Inside.TrieLaws.{flip, IsOrder, TrieLaws}
+use Rattle.counting_theory.specs.Trie.{nil, node, TrieOps, Trie, insertStep, insert, add, profile, reduceStep, reduceNode, reduce, Before, Sorted}
 
 module _ {T : TrieOps} (W : TrieLaws T) where
   open TrieOps T using (Label, Payload, compare)

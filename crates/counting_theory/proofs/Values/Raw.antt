@@ -7,7 +7,8 @@ use Prim.Native.Nat.{ℕ, compare, Ordering, Ordering·lt as lt, Ordering·eq as
 use lib.Dec.{eqb, isEq}
 use Rattle.value_table.specs.Value.{Values, none, value, recordKind}
 use Rattle.counting_theory.specs.Payload.{Payload, one, oneField}
-use Rattle.counting_theory.specs.Trie.{nil, node, append, atEnd, whenEqual, _⊞_ as joinOption, lookupNode, lookup}
+use Rattle.counting_theory.specs.Trie.{nil, node, atEnd, whenEqual, _⊞_ as joinOption, lookupNode, lookup}
+use Rattle.counting_theory.specs.Inside.TrieLaws.{append}
 use Rattle.counting_theory.specs.Label.{Equivalence, Label, fieldLabel, compareLabel, Counting, CountingType}
 use Rattle.counting_theory.specs.Raw.{classOf, raw}
 use Rattle.counting_theory.specs.Place.{Value, _⊞_, gathered, valuePayload, valuesOf, valuesWith, select, sameLabel, ofClass}

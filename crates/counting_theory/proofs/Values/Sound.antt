@@ -10,7 +10,8 @@ use lib.ListN.{length}
 use borrow.Author.Tests.{ne-eqb}
 use Rattle.value_table.specs.Value.{recordKind, arrayKind}
 use Rattle.counting_theory.specs.Payload.{Payload, oneField}
-use Rattle.counting_theory.specs.Trie.{nil, node, atEnd, lookup, SameMap, Sorted}
+use Rattle.counting_theory.specs.Trie.{nil, node, atEnd, lookup, Sorted}
+use Rattle.counting_theory.specs.Inside.TrieLaws.{SameMap}
 use Rattle.counting_theory.specs.Label.{Equivalence, Label, fieldLabel, Counting, CountingType}
 use Rattle.counting_theory.specs.Raw.{classOf, raw, profileOf}
 use Rattle.counting_theory.specs.Place.{Value, valuesOf, elementsOf, elements, under, sameLabel, select, ofClass, _⊞_, gathered, valuePayload, countOf}

@@ -4,7 +4,8 @@ use mathlib.Core.Bool.{false}
 use lib.Dec.{eqb}
 use Rattle.value_table.specs.Value.{recordKind, Values, none, value, ValidAt, Valid}
 use Rattle.counting_theory.specs.Payload.{one}
-use Rattle.counting_theory.specs.Trie.{node, append, profile, reduce}
+use Rattle.counting_theory.specs.Trie.{node, profile, reduce}
+use Rattle.counting_theory.specs.Inside.TrieLaws.{append}
 use Rattle.counting_theory.specs.Label.{Equivalence, Counting}
 use Rattle.counting_theory.specs.Raw.{classOf, raw, profileOf}
 use Rattle.counting_theory.specs.Ways.{joinValues}

@@ -1,7 +1,8 @@
 -- Collections of raw forests: two of them as one, and a part, whose profile is no larger.
 use mathlib.Core.Path.{_≡_, refl}
 use mathlib.Core.List.{List, _∷_, List·Permᴰ·swap}
-use Rattle.counting_theory.specs.Trie.{Forest, TrieOps, TrieLaws, append, concat, Trie, profile, NoLarger}
+use Rattle.counting_theory.specs.Trie.{Forest, TrieOps, Trie, profile}
+use Rattle.counting_theory.specs.Inside.TrieLaws.{TrieLaws, append, concat, NoLarger}
 use Rattle.counting_theory.proofs.Trie.Sorted.{sorted-profile}
 use Rattle.counting_theory.proofs.Trie.Profile.{append-assoc, reduce-add, profile-perm, profile-append-comm, reduce-profile}
 use Rattle.counting_theory.proofs.Trie.Growth.{add-grows}

@@ -8,7 +8,7 @@ use Rattle.value_table.specs.Value.{Head, Values, none, value, ValidAt, Valid}
 use Rattle.value_table.specs.Value as table
 use Rattle.value_table.specs.Judged.{messages}
 use Rattle.value_table.proofs.Acceptance.{unique}
-use Rattle.counting_theory.specs.Trie.{append, concat}
+use Rattle.counting_theory.specs.Inside.TrieLaws.{append, concat}
 use Rattle.counting_theory.specs.Label.{Equivalence, CountingType}
 use Rattle.counting_theory.specs.Raw.{raw, profileOf}
 use Rattle.counting_theory.specs.Ways.{Call, infer, inferDefault, merge, AllAllowed, joinValues, planMessages, messageBytes, occurrences, Accepted}

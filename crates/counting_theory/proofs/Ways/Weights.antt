@@ -7,7 +7,8 @@ use lib.Dec.{eqb}
 use Rattle.value_table.specs.Value.{Head, recordKind, Values, none, value}
 use Rattle.value_table.specs.Value as table
 use Rattle.counting_theory.specs.Payload.{one}
-use Rattle.counting_theory.specs.Trie.{nil, node, TrieOps, TrieLaws, Trie, insertStep, insert, add, total, largestBelow, largestTotal}
+use Rattle.counting_theory.specs.Trie.{nil, node, TrieOps, Trie, insertStep, insert, add, total, largestBelow, largestTotal}
+use Rattle.counting_theory.specs.Inside.TrieLaws.{TrieLaws}
 use Rattle.counting_theory.specs.Label.{Equivalence, fieldKind, Counting}
 use Rattle.counting_theory.specs.Raw.{raw, profileOf}
 use Rattle.counting_theory.proofs.Payload.{count-one}

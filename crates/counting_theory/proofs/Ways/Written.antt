@@ -9,7 +9,8 @@ use lib.Dec.{ltb}
 use lib.ListN.{length}
 use borrow.Author.Tests.{ltb-true, ltb-false}
 use Rattle.value_table.specs.Outcome.{accepted}
-use Rattle.counting_theory.specs.Trie.{size, NoLarger}
+use Rattle.counting_theory.specs.Trie.{size}
+use Rattle.counting_theory.specs.Inside.TrieLaws.{NoLarger}
 use Rattle.counting_theory.specs.Label.{Counting, CountingType}
 use Rattle.counting_theory.specs.Encoding.{typeSize, encode}
 use Rattle.counting_theory.specs.WellFormed.{withinLimit}

@@ -11,7 +11,8 @@ use Rattle.counting_theory.specs.Payload.{Payload}
 use Rattle.counting_theory.specs.Trie.{nil, node, size, total, largestBelow, largestTotal}
 use Rattle.counting_theory.specs.Label.{Equivalence, Label, fieldKind, weightOf, Counting, CountingType}
 use Rattle.counting_theory.specs.Place.{FieldTotals}
-use Rattle.counting_theory.specs.Encoding.{typeSize, Tagged, Fitting}
+use Rattle.counting_theory.specs.Encoding.{typeSize, Tagged}
+use Rattle.counting_theory.specs.Inside.TypeBytes.{Fitting}
 use Rattle.counting_theory.specs.WellFormed.{maxTotal, measured, Shallow, IsType}
 use Rattle.counting_theory.proofs.Payload.{numbers-fit}
 use Rattle.counting_theory.proofs.Label.{kind-eq, key-eq}

@@ -5,11 +5,12 @@ use mathlib.Core.List.{List, _++_, append-assoc}
 use Prim.Native.Nat.{ℕ, _+_, _*_, _≤_, _<_}
 use native.Mathlib.Omega.{arith}
 use lib.ListN.{length, drop}
-use Rattle.value_table.specs.Number.{Bytes}
+use Rattle.byte_records.specs.Number.{Bytes}
 use Rattle.counting_theory.specs.Payload.{Payload}
 use Rattle.counting_theory.specs.Trie.{nil, node, size}
 use Rattle.counting_theory.specs.Label.{Equivalence, Label, listed, labelOf, CountingType}
-use Rattle.counting_theory.specs.Encoding.{typeSize, typeKind, typeKey, typeSpan, typePayload, encode, siblingKeys, Tagged, Fitting}
+use Rattle.counting_theory.specs.Encoding.{typeSize, typeKind, typeKey, typeSpan, typePayload, encode, siblingKeys, Tagged}
+use Rattle.counting_theory.specs.Inside.TypeBytes.{Fitting}
 use Rattle.counting_theory.specs.WellFormed.{Shallow}
 use Rattle.counting_theory.proofs.Tagged.Parts.{holdsFields, Shape, listed-field, tagged-parts, parts-tagged}
 use Rattle.counting_theory.proofs.Encoding.Header.{typeKey-below, header-fits, header-written}

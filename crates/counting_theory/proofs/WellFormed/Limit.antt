@@ -6,7 +6,8 @@ use native.Mathlib.Decide.{decLe}
 use native.Mathlib.Omega.{arith}
 use lib.Dec.{ltb}
 use borrow.Author.Tests.{leb-true, le-leb, lt-leb, le-ltb, lt-ltb}
-use Rattle.counting_theory.specs.Trie.{largestTotal, NoLarger}
+use Rattle.counting_theory.specs.Trie.{largestTotal}
+use Rattle.counting_theory.specs.Inside.TrieLaws.{NoLarger}
 use Rattle.counting_theory.specs.Label.{Counting, CountingType}
 use Rattle.counting_theory.specs.WellFormed.{maxTotal, withinLimit}
 

@@ -3,9 +3,9 @@ use mathlib.Core.Path.{_∙_, ap}
 use native.Mathlib.Omega.{arith}
 use borrow.Author.Needs.{needs}
 use Rattle.counting_theory.specs.Answers.{zeros}
-use Rattle.counting_type.proofs.Fronts.{front-length, front-cleared}
-use Rattle.type_arena.proofs.Clear.{cleared-whole}
-use Rattle.counting_type.proofs.Exact.{exact-inferred}
+use Rattle.answers.proofs.Fronts.{front-length, front-cleared}
+use Rattle.byte_records.proofs.Clear.{cleared-whole}
+use Rattle.answers.proofs.Exact.{exact-inferred}
 use Rattle.counting_type.proofs.infer.Statement.{statement}
 use Rattle.counting_type.proofs.infer.Tie as tie
 

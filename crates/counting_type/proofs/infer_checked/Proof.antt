@@ -1,6 +1,6 @@
 -- `infer_checked` meets its contract.
 use borrow.Author.Needs.{needs}
-use Rattle.counting_type.proofs.Fronts.{inferred-room, inferred-stored}
+use Rattle.counting_type.proofs.InferredFront.{inferred-room, inferred-stored}
 use Rattle.inference.proofs.InPlace.Steps.{added-full, added-records}
 use Rattle.counting_type.proofs.infer_checked.Statement.{statement}
 use Rattle.counting_type.proofs.infer_checked.Tie as tie

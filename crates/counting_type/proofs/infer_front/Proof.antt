@@ -13,10 +13,10 @@ use Rattle.value_table.specs.Outcome.{outcomeOf}
 use Rattle.value_table.proofs.Tests.{or-parts}
 use Rattle.value_table.proofs.Acceptance.{accepts}
 use Rattle.counting_theory.specs.Answers.{inferred}
-use Rattle.counting_type.specs.declared.Refusal.the-variants.{Length, Equivalence, Table}
+use Rattle.answers.specs.declared.Refusal.the-variants.{Length, Equivalence, Table}
 use Rattle.counting_theory.specs.WellFormed.{badTypeLength}
-use Rattle.counting_type.proofs.Fronts.{front-refused, refused-from}
-use Rattle.counting_type.proofs.Equivalence.{known, unknown}
+use Rattle.answers.proofs.Fronts.{front-refused, refused-from}
+use Rattle.answers.proofs.Equivalence.{known, unknown}
 use Rattle.counting_theory.proofs.WellFormed.Whole.{type-length}
 use Rattle.counting_type.proofs.infer_front.Statement.{statement}
 use Rattle.counting_type.proofs.infer_front.Tie as tie

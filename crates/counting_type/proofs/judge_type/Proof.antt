@@ -2,7 +2,7 @@
 use mathlib.Core.Path.{sym, _∙_}
 use borrow.Author.Needs.{needs}
 use Rattle.counting_theory.specs.Answers.{judgedType}
-use Rattle.counting_type.proofs.Equivalence.{known, unknown}
+use Rattle.answers.proofs.Equivalence.{known, unknown}
 use Rattle.counting_type.proofs.judge_type.Statement.{statement}
 use Rattle.counting_type.proofs.judge_type.Tie as tie
 

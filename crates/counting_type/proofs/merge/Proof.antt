@@ -3,8 +3,8 @@ use mathlib.Core.Path.{refl}
 use mathlib.Core.List.{[]}
 use native.Mathlib.Omega.{arith}
 use borrow.Author.Needs.{needs}
-use Rattle.counting_type.proofs.Fronts.{front-length, front-cleared}
-use Rattle.counting_type.proofs.Exact.{exact-merged}
+use Rattle.answers.proofs.Fronts.{front-length, front-cleared}
+use Rattle.answers.proofs.Exact.{exact-merged}
 use Rattle.counting_type.proofs.merge.Statement.{statement}
 use Rattle.counting_type.proofs.merge.Tie as tie
 

@@ -2,7 +2,7 @@
 use mathlib.Core.Path.{sym, _∙_}
 use native.Mathlib.Omega.{arith}
 use borrow.Author.Needs.{needs}
-use Rattle.counting_type.proofs.Fronts.{front-room, front-bytes, front-within, front-total, sets-front}
+use Rattle.answers.proofs.Fronts.{front-room, front-bytes, front-within, front-total, sets-front}
 use Rattle.counting_type.proofs.merge_checked.Statement.{statement}
 use Rattle.counting_type.proofs.merge_checked.Tie as tie
 

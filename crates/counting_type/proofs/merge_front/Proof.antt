@@ -6,10 +6,10 @@ use lib.ListN.{length}
 use borrow.Author.Tests.{not-true, not-false}
 use borrow.Author.Needs.{needs}
 use Rattle.counting_theory.specs.Answers.{merged}
-use Rattle.counting_type.specs.declared.Refusal.the-variants.{Length, Equivalence, First, Second}
+use Rattle.answers.specs.declared.Refusal.the-variants.{Length, Equivalence, First, Second}
 use Rattle.counting_theory.specs.WellFormed.{badTypeLength}
-use Rattle.counting_type.proofs.Fronts.{front-refused}
-use Rattle.counting_type.proofs.Equivalence.{known, unknown}
+use Rattle.answers.proofs.Fronts.{front-refused}
+use Rattle.answers.proofs.Equivalence.{known, unknown}
 use Rattle.counting_theory.proofs.WellFormed.Whole.{well-formed-type}
 use Rattle.value_table.proofs.Tests.{or-parts}
 use Rattle.counting_type.proofs.merge_front.Statement.{statement}

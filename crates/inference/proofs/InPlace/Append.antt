@@ -5,11 +5,11 @@ use mathlib.Core.List.{_++_, append-assoc}
 use Prim.Native.Nat.{_+_, Ordering, Ordering·lt as lt, Ordering·eq as eq, Ordering·gt as gt}
 use native.Mathlib.Omega.{arith}
 use Rattle.counting_theory.specs.Payload.{Payload}
-use Rattle.counting_theory.specs.Order.{flip}
-use Rattle.counting_theory.specs.Trie.{nil, node, append, size, Before, Sorted}
+use Rattle.counting_theory.specs.Inside.TrieLaws.{flip, append}
+use Rattle.counting_theory.specs.Trie.{nil, node, size, Before, Sorted}
 use Rattle.counting_theory.specs.Label.{Equivalence, Label, compareLabel, Counting, CountingType}
 use Rattle.counting_theory.specs.Encoding.{encode}
-use Rattle.inference.specs.Inferring.{Siblings}
+use Rattle.inference.specs.Inside.Inferring.{Siblings}
 use Rattle.counting_theory.proofs.Trie.Sorted.{before-trans}
 use Rattle.counting_theory.proofs.Label.{label-order, counting-laws}
 use Rattle.counting_theory.proofs.Tagged.Parts.{tagged-parts}

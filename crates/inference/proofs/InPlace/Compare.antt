@@ -6,9 +6,9 @@ use native.Mathlib.Numerals.{add-one}
 use native.Mathlib.Omega.{arith}
 use lib.ListN.{drop, drop-of-length-le}
 use lib.Seq.{drop-cons}
-use Rattle.value_table.specs.Number.{numberAt}
-use Rattle.value_table.specs.Chain.{Chain, done, next}
-use Rattle.inference.specs.Inferring.{keysOf}
+use Rattle.byte_records.specs.Number.{numberAt}
+use Rattle.value_table.specs.Inside.Chain.{Chain, done, next}
+use Rattle.inference.specs.Inside.Inferring.{keysOf}
 use Rattle.inference.proofs.InPlace.Numbers.{length-numbers, numbers-at}
 
 -- the span of a key, and key i of w

@@ -17,9 +17,9 @@ use Rattle.counting_theory.specs.Trie.{nil, node, size, insert, add, profile}
 use Rattle.counting_theory.specs.Label.{Equivalence, byKind, byLabel, Label, listed, Counting, CountingType}
 use Rattle.counting_theory.specs.Raw.{insertKey, ascending, raw}
 use Rattle.counting_theory.specs.Encoding.{typeSize, siblingKeys}
-use Rattle.counting_theory.specs.Times.{times}
-use Rattle.type_arena.specs.Payload.{itemPayload}
-use Rattle.inference.specs.Inferring.{keysPerRecord, keysOf, ListedIn, LabelListed, wanted, labelFor, withItem, split, grown, Siblings, TableRun, PlacedAt, CountedWithin}
+use Rattle.counting_theory.specs.Inside.Times.{times}
+use Rattle.type_arena.specs.Inside.Payload.{itemPayload}
+use Rattle.inference.specs.Inside.Inferring.{keysPerRecord, keysOf, ListedIn, LabelListed, wanted, labelFor, withItem, split, grown, Siblings, TableRun, PlacedAt, CountedWithin}
 use Rattle.counting_theory.proofs.Label.{counting-laws}
 use Rattle.counting_theory.proofs.Trie.Growth.{add-grows, profile-grows}
 use Rattle.counting_theory.proofs.Tagged.Profile.{inferred}

@@ -10,8 +10,8 @@ use Rattle.counting_theory.specs.Trie.{nil, node, insertStep, insert, add, prof
 use Rattle.counting_theory.specs.Label.{Equivalence, Label, compareLabel, Counting, CountingType}
 use Rattle.counting_theory.specs.Raw.{classOf, addend, raw}
 use Rattle.counting_theory.specs.Encoding.{Tagged}
-use Rattle.counting_theory.specs.Times.{times}
-use Rattle.inference.specs.Inferring.{Keyed, Siblings}
+use Rattle.counting_theory.specs.Inside.Times.{times}
+use Rattle.inference.specs.Inside.Inferring.{Keyed, Siblings}
 use Rattle.counting_theory.proofs.Label.{counting-laws}
 use Rattle.counting_theory.proofs.Trie.Sorted.{sorted-add, sorted-profile}
 use Rattle.counting_theory.proofs.Trie.Profile.{add-comm, reduce-add}

@@ -9,7 +9,7 @@ use Rattle.counting_theory.specs.Payload.{Payload}
 use Rattle.counting_theory.specs.Trie.{nil, node, size}
 use Rattle.counting_theory.specs.Label.{Label, CountingType}
 use Rattle.counting_theory.specs.Encoding.{typeSize, encode}
-use Rattle.inference.specs.Inferring.{Keyed}
+use Rattle.inference.specs.Inside.Inferring.{Keyed}
 use Rattle.counting_theory.proofs.Encoding.Header.{length-encode}
 use Rattle.type_arena.proofs.Nodes.{HeadsFit, NodeIn}
 use Rattle.type_arena.proofs.Nodes as arena

@@ -11,10 +11,10 @@ use Rattle.counting_theory.specs.Payload.{Payload, join}
 use Rattle.counting_theory.specs.Trie.{node, size}
 use Rattle.counting_theory.specs.Label.{Equivalence, Label, CountingType}
 use Rattle.counting_theory.specs.Encoding.{typeSize, typePayload, header, encode}
-use Rattle.type_arena.specs.Arena.{headerOf}
-use Rattle.type_arena.specs.Payload.{payloadOffset, payloadBytes}
+use Rattle.type_arena.specs.Inside.Arena.{headerOf}
+use Rattle.type_arena.specs.Inside.Payload.{payloadOffset, payloadBytes}
 use Rattle.type_arena.proofs.PayloadBytes.{payload-joined}
-use Rattle.inference.specs.Inferring.{Holds, Split, grown, Counted}
+use Rattle.inference.specs.Inside.Inferring.{Holds, Split, grown, Counted}
 use Rattle.counting_theory.proofs.Encoding.Header.{length-encode}
 use Rattle.inference.proofs.InPlace.Part.{tail-part, tail-put}
 use Rattle.inference.proofs.InPlace.Append.{encode-append, size-append}

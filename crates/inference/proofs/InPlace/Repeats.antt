@@ -9,14 +9,14 @@ use native.Mathlib.Decide.{decLt}
 use lib.ListN.{length, take, drop, getD, length-append, length-drop, take-append-drop}
 use lib.Seq.{take-add, drop-drop, take-at, drop-at}
 use Rattle.value_table.specs.Value.{Head, valueFormat, recordSize, maxLength, recordAt, header, Values, none, value, size, encode, Proper, ValidAt}
-use Rattle.value_table.proofs.Format.{length-record, record-same}
+use Rattle.byte_records.proofs.Format.{length-record, record-same}
 use Rattle.value_table.proofs.Run.{value-fits}
 use Rattle.value_table.proofs.Header.{length-encode}
 use Rattle.counting_theory.specs.Trie.{add, Sorted}
 use Rattle.counting_theory.specs.Label.{Equivalence, Counting, CountingType}
 use Rattle.counting_theory.specs.Raw.{raw}
-use Rattle.counting_theory.specs.Times.{times}
-use Rattle.inference.specs.Inferring.{EqualRecords}
+use Rattle.counting_theory.specs.Inside.Times.{times}
+use Rattle.inference.specs.Inside.Inferring.{EqualRecords}
 use Rattle.counting_theory.proofs.Label.{counting-laws}
 use Rattle.counting_theory.proofs.Trie.Sorted.{sorted-add}
 use Rattle.counting_theory.proofs.Times.{add-times}

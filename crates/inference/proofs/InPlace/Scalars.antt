@@ -14,15 +14,16 @@ use Rattle.value_table.specs.Value.{recordSize, maxLength, recordKind, lastScal
 use Rattle.value_table.specs.Value as table
 use Rattle.inference.specs.declared.inferring.Item.{Item}
 use Rattle.inference.specs.declared.placing.Put.the-variants.{At}
-use Rattle.type_arena.specs.Payload.{itemPayload}
-use Rattle.counting_theory.specs.Trie.{nil, node, append, size, insert, add}
+use Rattle.type_arena.specs.Inside.Payload.{itemPayload}
+use Rattle.counting_theory.specs.Trie.{nil, node, size, insert, add}
+use Rattle.counting_theory.specs.Inside.TrieLaws.{append}
 use Rattle.counting_theory.specs.Label.{Equivalence, Label, fieldKind, compareLabel, Counting, CountingType}
 use Rattle.counting_theory.specs.Raw.{ascending, raw}
 use Rattle.counting_theory.specs.Encoding.{typeSize, typeKind, typeKey, typeSpan, encode}
-use Rattle.type_arena.specs.Arena.{under, labelAt, InTable}
-use Rattle.counting_theory.specs.Times.{times}
-use Rattle.inference.specs.Inferring.{numbersOf, StandsAt, Holds, Starts, split, grown, Counted, Grown, AddedAt, labelFor, ItemAt, EqualRecords, resumed}
-use Rattle.inference.specs.ScalarFields.{Ran, plain, fieldStart, withScalar}
+use Rattle.type_arena.specs.Inside.Arena.{under, labelAt, InTable}
+use Rattle.counting_theory.specs.Inside.Times.{times}
+use Rattle.inference.specs.Inside.Inferring.{numbersOf, StandsAt, Holds, Starts, split, grown, Counted, Grown, AddedAt, labelFor, ItemAt, EqualRecords, resumed}
+use Rattle.inference.specs.Inside.ScalarFields.{Ran, plain, fieldStart, withScalar}
 use Rattle.counting_theory.proofs.Label.{kind-eq, key-eq}
 use Rattle.counting_theory.proofs.LabelOrder.{kind-less, kind-more, key-more, no-record}
 use Rattle.counting_theory.proofs.Tagged.Parts.{listed-field, Shape, tagged-parts}

@@ -11,11 +11,12 @@ use lib.ListN.{length, drop}
 use borrow.Author.Tests.{lt-ltb, le-ltb, ltb-true}
 use Rattle.value_table.specs.Value.{maxLength}
 use Rattle.inference.specs.declared.search.Found.the-variants.{Here, Missing}
-use Rattle.counting_theory.specs.Trie.{nil, node, append, size}
+use Rattle.counting_theory.specs.Trie.{nil, node, size}
+use Rattle.counting_theory.specs.Inside.TrieLaws.{append}
 use Rattle.counting_theory.specs.Label.{Equivalence, Label, compareLabel, CountingType}
 use Rattle.counting_theory.specs.Encoding.{typeSize, typeSpan, encode}
-use Rattle.type_arena.specs.Arena.{labelAt, Labelled}
-use Rattle.inference.specs.Inferring.{spotHere, spot, Siblings, Holds, Starts, resumed}
+use Rattle.type_arena.specs.Inside.Arena.{labelAt, Labelled}
+use Rattle.inference.specs.Inside.Inferring.{spotHere, spot, Siblings, Holds, Starts, resumed}
 use Rattle.counting_theory.proofs.Trie.Profile.{append-assoc as forest-assoc}
 use Rattle.counting_theory.proofs.Encoding.Header.{length-encode}
 use Rattle.inference.proofs.InPlace.Part.{tail-drop}

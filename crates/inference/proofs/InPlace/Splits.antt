@@ -8,9 +8,10 @@ use lib.Dec.{eqb}
 use Rattle.value_table.specs.Value.{recordKind}
 use Rattle.inference.specs.declared.search.Found.the-variants.{Here, Missing}
 use Rattle.counting_theory.specs.Payload.{Payload}
-use Rattle.counting_theory.specs.Trie.{nil, node, append, size, insertStep, insert}
+use Rattle.counting_theory.specs.Trie.{nil, node, size, insertStep, insert}
+use Rattle.counting_theory.specs.Inside.TrieLaws.{append}
 use Rattle.counting_theory.specs.Label.{Equivalence, Label, compareLabel, Counting, CountingType}
-use Rattle.inference.specs.Inferring.{spotHere, spot, Siblings, Split, splitHere, split, grown}
+use Rattle.inference.specs.Inside.Inferring.{spotHere, spot, Siblings, Split, splitHere, split, grown}
 use Rattle.counting_theory.proofs.Label.{kind-eq, label-order}
 use Rattle.counting_theory.proofs.Tagged.Parts.{holdsFields, Shape, tagged-parts}
 use Rattle.inference.proofs.InPlace.Append.{siblings-next}

@@ -8,20 +8,20 @@ use lib.Dec.{eqb}
 use lib.ListN.{length, take, drop, length-append, length-take, length-drop}
 use lib.Seq.{sets}
 use borrow.Rule.Slice.PartMut.{putMid}
-use Rattle.value_table.specs.Number.{bytesOf}
+use Rattle.byte_records.specs.Number.{bytesOf}
 use Rattle.value_table.specs.Value.{maxLength, recordKind, Values}
 use Rattle.inference.specs.declared.inferring.Inferred.{Inferred}
 use Rattle.inference.specs.declared.inferring.Inferred.the-variants.{Records, Full}
-use Rattle.value_table.proofs.Format.{field-set, field-read, sets-behind}
+use Rattle.byte_records.proofs.Format.{field-set, field-read, sets-behind}
 use Rattle.counting_theory.specs.Payload.{Payload}
 use Rattle.counting_theory.specs.Trie.{size, insert, add}
 use Rattle.counting_theory.specs.Label.{Equivalence, Label, Counting, CountingType}
 use Rattle.counting_theory.specs.Raw.{raw}
 use Rattle.counting_theory.specs.Encoding.{typeFormat, typeSize, typeSpan, recordNumbers, header, encode}
-use Rattle.counting_theory.specs.Times.{times}
-use Rattle.type_arena.specs.Arena.{spanOffset}
-use Rattle.type_arena.proofs.Sets.{length-header}
-use Rattle.inference.specs.Inferring.{TableRun, Siblings, Holds, Starts, Split, split, grown, Counted, Grown, Added}
+use Rattle.counting_theory.specs.Inside.Times.{times}
+use Rattle.type_arena.specs.Inside.Arena.{spanOffset}
+use Rattle.type_arena.proofs.RecordBytes.{length-header}
+use Rattle.inference.specs.Inside.Inferring.{TableRun, Siblings, Holds, Starts, Split, split, grown, Counted, Grown, Added}
 use Rattle.counting_theory.proofs.Encoding.Header.{length-encode}
 use Rattle.inference.proofs.InPlace.Runs.{none-left}
 use Rattle.inference.proofs.InPlace.Part.{tail-drop, tail-part, tail-put}

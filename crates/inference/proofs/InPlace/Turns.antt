@@ -14,16 +14,17 @@ use Rattle.inference.specs.declared.inferring.Item.{Item}
 use Rattle.inference.specs.declared.placing.Put.{Put}
 use Rattle.inference.specs.declared.placing.Put.the-variants.{At, NoRoom}
 use Rattle.counting_theory.specs.Payload.{one, oneField, copies}
-use Rattle.counting_theory.specs.Trie.{nil, node, append, size, add}
+use Rattle.counting_theory.specs.Trie.{nil, node, size, add}
+use Rattle.counting_theory.specs.Inside.TrieLaws.{append}
 use Rattle.counting_theory.specs.Label.{Equivalence, fieldKind, Counting, CountingType}
 use Rattle.counting_theory.specs.Raw.{ascending, classOf, raw}
 use Rattle.counting_theory.specs.Encoding.{typeSize}
 use Rattle.counting_theory.specs.Encoding as bytes
-use Rattle.type_arena.specs.Arena.{InTable}
-use Rattle.counting_theory.specs.Times.{times}
-use Rattle.type_arena.specs.Payload.{itemPayload}
-use Rattle.inference.specs.Inferring.{TableRun, Siblings, Holds, Starts, split, Grown, AddedAt, labelFor, withItem, Weighed, ItemAt, EqualRecords, resumed}
-use Rattle.inference.specs.ScalarFields.{Ran}
+use Rattle.type_arena.specs.Inside.Arena.{InTable}
+use Rattle.counting_theory.specs.Inside.Times.{times}
+use Rattle.type_arena.specs.Inside.Payload.{itemPayload}
+use Rattle.inference.specs.Inside.Inferring.{TableRun, Siblings, Holds, Starts, split, Grown, AddedAt, labelFor, withItem, Weighed, ItemAt, EqualRecords, resumed}
+use Rattle.inference.specs.Inside.ScalarFields.{Ran}
 use Rattle.counting_theory.proofs.Label.{counting-laws}
 use Rattle.counting_theory.proofs.Trie.Growth.{add-grows}
 use Rattle.counting_theory.proofs.Tagged.Parts.{listed-field}

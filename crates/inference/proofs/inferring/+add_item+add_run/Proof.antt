@@ -14,11 +14,11 @@ use Rattle.counting_theory.specs.Trie.{size, add}
 use Rattle.counting_theory.specs.Label.{Label, Counting, CountingType}
 use Rattle.counting_theory.specs.Raw.{raw}
 use Rattle.counting_theory.specs.Encoding.{typeSize, encode}
-use Rattle.type_arena.specs.Arena.{under}
-use Rattle.type_arena.specs.Payload.{itemPayload}
-use Rattle.counting_theory.specs.Times.{times}
-use Rattle.inference.specs.Inferring.{grown as grownTo, TableRun, Holds, split, Counted, Grown, labelFor, withItem, Weighed, AddedAt}
-use Rattle.inference.specs.ScalarFields.{Ran}
+use Rattle.type_arena.specs.Inside.Arena.{under}
+use Rattle.type_arena.specs.Inside.Payload.{itemPayload}
+use Rattle.counting_theory.specs.Inside.Times.{times}
+use Rattle.inference.specs.Inside.Inferring.{grown as grownTo, TableRun, Holds, split, Counted, Grown, labelFor, withItem, Weighed, AddedAt}
+use Rattle.inference.specs.Inside.ScalarFields.{Ran}
 use Rattle.inference.proofs.InPlace.Steps.{Task, step-length, step-within, step-span, step-empty, nothing-added, step-holds, step-full, step-grown, added-full, added-records, grown-length}
 use Rattle.inference.proofs.InPlace.Turns.{ran-start, ran-holds, ran-end, ran-first, below, below-run, turn-full, turn-room, turn-added, turn-order, turn-measure, turn-few, turn-weighed}
 use Rattle.inference.proofs.InPlace.Runs.{whole-records}

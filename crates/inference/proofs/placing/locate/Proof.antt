@@ -7,8 +7,8 @@ use lib.ListN.{length}
 use borrow.Author.Tests.{eq-eqb}
 use borrow.Author.Needs.{needs}
 use Rattle.inference.specs.declared.key_list.Listed.the-variants.{Keys}
-use Rattle.inference.specs.Inferring.{TableRun, LabelListed}
-use Rattle.type_arena.specs.Arena.{under}
+use Rattle.inference.specs.Inside.Inferring.{TableRun, LabelListed}
+use Rattle.type_arena.specs.Inside.Arena.{under}
 use Rattle.inference.proofs.InPlace.Items.{label-is, located, too-many}
 use Rattle.value_table.specs.Value.{recordKind, Values, keys}
 use Rattle.inference.proofs.placing.locate.Statement.{statement}

@@ -6,9 +6,9 @@ use Prim.Native.Nat.{ℕ, _+_, _*_, _≤_}
 use native.Mathlib.Omega.{arith}
 use lib.ListN.{length, length-take, length-drop}
 use borrow.Author.Needs.{needs}
-use Rattle.inference.specs.Inferring.{wanted, Holds, Starts, StandsAt, split}
+use Rattle.inference.specs.Inside.Inferring.{wanted, Holds, Starts, StandsAt, split}
 use Rattle.counting_theory.specs.Encoding.{typeSize}
-use Rattle.type_arena.specs.Arena.{under}
+use Rattle.type_arena.specs.Inside.Arena.{under}
 use Rattle.counting_theory.specs.Label.{Label, CountingType}
 use Rattle.inference.proofs.InPlace.Placing.{holds-length, here-within, here-counted, missing-within, missing-full, missing-counted}
 use Rattle.inference.proofs.InPlace.Splits.{MissingAt, here-at, missing-at}

@@ -3,7 +3,7 @@ use Prim.Native.Nat.{_-_}
 use native.Mathlib.Omega.{arith}
 use borrow.Author.Needs.{needs}
 use borrow.Author.Tests.{not-false}
-use Rattle.inference.specs.Inferring.{EqualRecords}
+use Rattle.inference.specs.Inside.Inferring.{EqualRecords}
 use Rattle.inference.proofs.InPlace.Repeats.{equal-none, equal-next}
 use Rattle.inference.proofs.repeats.equal_records.Statement.{statement}
 use Rattle.inference.proofs.repeats.equal_records.Tie as tie

@@ -6,9 +6,9 @@ use Prim.Native.Nat.{ℕ}
 use native.Mathlib.Omega.{arith}
 use borrow.Author.Needs.{needs}
 use Rattle.counting_theory.specs.Label.{fieldKind, CountingType}
-use Rattle.type_arena.specs.Arena.{under}
-use Rattle.inference.specs.Inferring.{Holds, Starts, StandsAt}
-use Rattle.inference.specs.ScalarFields.{plain}
+use Rattle.type_arena.specs.Inside.Arena.{under}
+use Rattle.inference.specs.Inside.Inferring.{Holds, Starts, StandsAt}
+use Rattle.inference.specs.Inside.ScalarFields.{plain}
 use Rattle.inference.proofs.InPlace.Scalars.{field-here, field-starts}
 use Rattle.inference.proofs.scalar_fields.count_field.Statement.{statement}
 use Rattle.inference.proofs.scalar_fields.count_field.Tie as tie

@@ -11,9 +11,9 @@ use Rattle.counting_theory.specs.Encoding.{typeSize}
 use Rattle.counting_theory.specs.Label.{Equivalence, CountingType}
 use Rattle.inference.specs.declared.scalar_fields.Sought.{Sought}
 use Rattle.inference.specs.declared.scalar_fields.Sought.the-variants.{Field}
-use Rattle.type_arena.specs.Arena.{under, InTable}
-use Rattle.inference.specs.Inferring.{resumed}
-use Rattle.inference.specs.ScalarFields.{Ran, FieldCounted}
+use Rattle.type_arena.specs.Inside.Arena.{under, InTable}
+use Rattle.inference.specs.Inside.Inferring.{resumed}
+use Rattle.inference.specs.Inside.ScalarFields.{Ran, FieldCounted}
 use Rattle.inference.proofs.InPlace.Turns.{ran-holds}
 use Rattle.inference.proofs.InPlace.Scalars.{scalar-room, scalar-turn, ran-from}
 use Rattle.inference.proofs.scalar_fields.count_fields.Statement.{statement}

@@ -9,10 +9,10 @@ use borrow.Author.Needs.{needs}
 use Rattle.counting_theory.specs.Label.{fieldKind, CountingType}
 use Rattle.counting_theory.specs.Encoding.{typeSize, typeSpan, encode}
 use Rattle.value_table.specs.Value.{none, value}
-use Rattle.type_arena.specs.Arena.{under}
-use Rattle.type_arena.specs.Payload.{itemPayload}
-use Rattle.inference.specs.Inferring.{grown, Holds, StandsAt, split, Counted}
-use Rattle.inference.specs.ScalarFields.{plain}
+use Rattle.type_arena.specs.Inside.Arena.{under}
+use Rattle.type_arena.specs.Inside.Payload.{itemPayload}
+use Rattle.inference.specs.Inside.Inferring.{grown, Holds, StandsAt, split, Counted}
+use Rattle.inference.specs.Inside.ScalarFields.{plain}
 use Rattle.inference.proofs.InPlace.Placing.{holds-length, here-within, here-counted}
 use Rattle.inference.proofs.InPlace.Splits.{here-at}
 use Rattle.inference.proofs.InPlace.Scalars.{begun-first, field-here, field-bound, union-holds, counted-union, scalar-counted}

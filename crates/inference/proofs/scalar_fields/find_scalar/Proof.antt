@@ -5,9 +5,9 @@ use mathlib.Core.Path.{refl}
 use Prim.Native.Nat.{ℕ, _-_}
 use native.Mathlib.Omega.{arith}
 use Rattle.counting_theory.specs.Label.{CountingType}
-use Rattle.type_arena.specs.Arena.{under}
-use Rattle.inference.specs.Inferring.{Holds}
-use Rattle.inference.specs.ScalarFields.{plain}
+use Rattle.type_arena.specs.Inside.Arena.{under}
+use Rattle.inference.specs.Inside.Inferring.{Holds}
+use Rattle.inference.specs.Inside.ScalarFields.{plain}
 use Rattle.inference.proofs.InPlace.Seeking.{Stop, stop, seen-end, starts-next}
 use Rattle.inference.proofs.InPlace.Scalars.{Begun, begun-first, union-key, plain-equal, plain-kind-less, plain-kind-greater}
 use Rattle.inference.proofs.scalar_fields.find_scalar.Statement.{statement}

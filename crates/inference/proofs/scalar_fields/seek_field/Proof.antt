@@ -4,9 +4,9 @@ use mathlib.Core.Bool.{Bool, true, false}
 use Prim.Native.Nat.{ℕ, _-_}
 use native.Mathlib.Omega.{arith}
 use Rattle.counting_theory.specs.Label.{fieldKind, CountingType}
-use Rattle.type_arena.specs.Arena.{under}
-use Rattle.inference.specs.Inferring.{Holds, Starts}
-use Rattle.inference.specs.ScalarFields.{plain}
+use Rattle.type_arena.specs.Inside.Arena.{under}
+use Rattle.inference.specs.Inside.Inferring.{Holds, Starts}
+use Rattle.inference.specs.Inside.ScalarFields.{plain}
 use Rattle.inference.proofs.InPlace.Seeking.{Stop, stop, starts-next}
 use Rattle.inference.proofs.InPlace.Scalars.{Begun, begun-start, table-at, field-kind, plain-equal, plain-key-greater}
 use Rattle.inference.proofs.scalar_fields.seek_field.Statement.{statement}

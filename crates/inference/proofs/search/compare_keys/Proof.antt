@@ -5,9 +5,9 @@ use borrow.Author.Needs.{needs}
 use Rattle.value_table.proofs.Chain.{chain-le}
 use Rattle.counting_theory.specs.Encoding.{typeKey, typeSpan}
 use Rattle.counting_theory.proofs.KeyOrder.{Comparing, comparing-start, both-end, first-ends, second-ends, left-sibling, right-sibling, heads-less, heads-more, heads-same}
-use Rattle.type_arena.specs.Arena.{keysIn}
+use Rattle.type_arena.specs.Inside.Arena.{keysIn}
 use Rattle.type_arena.proofs.Fields.{inside-chain}
-use Rattle.inference.specs.Inferring.{keysOf}
+use Rattle.inference.specs.Inside.Inferring.{keysOf}
 use Rattle.inference.proofs.InPlace.Compare.{oneKey, keyIn, keys-chain}
 use Rattle.inference.proofs.search.compare_keys.Statement.{statement}
 use Rattle.inference.proofs.search.compare_keys.Tie as tie

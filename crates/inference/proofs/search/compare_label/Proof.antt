@@ -5,8 +5,8 @@ use borrow.Author.Tests.{not-true, not-false}
 use borrow.Author.Needs.{needs}
 use Rattle.counting_theory.specs.Label.{Label}
 use Rattle.counting_theory.proofs.LabelOrder.{kind-less, kind-more, key-less, key-more, under-kind, no-record, by-lists}
-use Rattle.type_arena.specs.Arena.{under, labelAt}
-use Rattle.inference.specs.Inferring.{wanted}
+use Rattle.type_arena.specs.Inside.Arena.{under, labelAt}
+use Rattle.inference.specs.Inside.Inferring.{wanted}
 use Rattle.inference.proofs.search.compare_label.Statement.{statement}
 use Rattle.inference.proofs.search.compare_label.Tie as tie
 

@@ -6,9 +6,9 @@ use Prim.Native.Nat.{ℕ, _+_, _-_}
 use native.Mathlib.Omega.{arith}
 use borrow.Author.Tests.{not-true, not-false}
 use borrow.Author.Needs.{needs}
-use Rattle.inference.specs.Inferring.{wanted, Holds, Starts}
-use Rattle.type_arena.specs.Arena.{under}
-use Rattle.type_arena.specs.LabelOrder.{orderingOf}
+use Rattle.inference.specs.Inside.Inferring.{wanted, Holds, Starts}
+use Rattle.type_arena.specs.Inside.Arena.{under}
+use Rattle.type_arena.specs.Inside.LabelOrder.{orderingOf}
 use Rattle.counting_theory.specs.Label.{Label, CountingType}
 use Rattle.inference.proofs.InPlace.Seeking.{Seen, Stop, seen-start, seen-resumed, stop, seen-end}
 use Rattle.inference.proofs.search.search.Statement.{statement}

@@ -3,7 +3,7 @@ use borrow.Author.Needs.{needs}
 use native.Mathlib.Omega.{arith}
 use mathlib.Core.Path.{_≡_, sym, _∙_}
 use Prim.Native.Nat.{_-_, _≤_, max}
-use Rattle.report.specs.Walk.{largestFrom}
+use Rattle.report.specs.Inside.Walk.{largestFrom}
 use Rattle.report.proofs.Largest.{largest-next, largest-done}
 use Rattle.report.proofs.walk.largest_count.Statement.{statement}
 use Rattle.report.proofs.walk.largest_count.Tie as tie

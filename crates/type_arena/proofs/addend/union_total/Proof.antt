@@ -4,7 +4,7 @@ use mathlib.Core.Bool.{false}
 use native.Mathlib.Omega.{arith}
 use lib.ListN.{length}
 use Rattle.counting_theory.specs.Label.{Equivalence}
-use Rattle.type_arena.specs.Addend.{Coded}
+use Rattle.type_arena.specs.Inside.Addend.{Coded}
 use Rattle.type_arena.proofs.FirstAddend.{headed}
 use Rattle.type_arena.proofs.UnionTotal.{Adding, adding-start, adding-first, adding-next, adding-done}
 use Rattle.type_arena.proofs.addend.union_total.Statement.{statement}

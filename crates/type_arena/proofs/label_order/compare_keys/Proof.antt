@@ -4,7 +4,7 @@ use native.Mathlib.Omega.{arith}
 use Rattle.value_table.proofs.Chain.{chain-le}
 use Rattle.counting_theory.specs.Encoding.{typeKey, typeSpan}
 use Rattle.counting_theory.proofs.KeyOrder.{Comparing, comparing-start, both-end, first-ends, second-ends, left-sibling, right-sibling, heads-less, heads-more, heads-same}
-use Rattle.type_arena.specs.Arena.{keysIn}
+use Rattle.type_arena.specs.Inside.Arena.{keysIn}
 use Rattle.type_arena.proofs.Fields.{inside-chain}
 use Rattle.type_arena.proofs.label_order.compare_keys.Statement.{statement}
 use Rattle.type_arena.proofs.label_order.compare_keys.Tie as tie

@@ -5,7 +5,7 @@ use borrow.Author.Needs.{needs}
 use borrow.Author.Tests.{not-true, not-false}
 use Rattle.counting_theory.specs.Label.{Label}
 use Rattle.counting_theory.proofs.LabelOrder.{kind-less, kind-more, key-less, key-more, under-kind, no-record, by-lists}
-use Rattle.type_arena.specs.Arena.{under, labelAt}
+use Rattle.type_arena.specs.Inside.Arena.{under, labelAt}
 use Rattle.type_arena.proofs.label_order.compare_labels.Statement.{statement}
 use Rattle.type_arena.proofs.label_order.compare_labels.Tie as tie
 

@@ -1,5 +1,5 @@
 -- `given` meets its contract.
-use Rattle.type_arena.specs.Payload.{payloadOf}
+use Rattle.type_arena.specs.Inside.Payload.{payloadOf}
 use Rattle.type_arena.proofs.PayloadBytes.{item-is}
 use Rattle.type_arena.proofs.payload.given.Statement.{statement}
 use Rattle.type_arena.proofs.payload.given.Tie as tie

@@ -1,5 +1,5 @@
 -- `join` meets its contract.
-use Rattle.type_arena.specs.Payload.{payloadOf}
+use Rattle.type_arena.specs.Inside.Payload.{payloadOf}
 use Rattle.type_arena.proofs.PayloadBytes.{wrapped-join}
 use borrow.Author.Needs.{needs}
 use Rattle.type_arena.proofs.payload.join.Statement.{statement}

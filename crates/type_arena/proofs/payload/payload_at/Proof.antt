@@ -1,8 +1,8 @@
 -- `payload_at` meets its contract.
-use Rattle.value_table.specs.Format.{fieldAt, fieldsFrom}
+use Rattle.byte_records.specs.Format.{fieldAt, fieldsFrom}
 use Rattle.counting_theory.specs.Payload.{ofNumbers}
 use Rattle.counting_theory.specs.Encoding.{typePayload}
-use Rattle.type_arena.specs.Payload.{payloadOf}
+use Rattle.type_arena.specs.Inside.Payload.{payloadOf}
 use borrow.Author.Needs.{needs}
 use Rattle.type_arena.proofs.payload.payload_at.Statement.{statement}
 use Rattle.type_arena.proofs.payload.payload_at.Tie as tie

@@ -1,8 +1,8 @@
 -- `store_payload` meets its contract.
 use mathlib.Core.List.{append-nil}
-use Rattle.value_table.specs.Format.{recordBytes}
+use Rattle.byte_records.specs.Format.{recordBytes}
 use Rattle.counting_theory.specs.Payload.{numbers}
-use Rattle.type_arena.specs.Payload.{payloadOf, payloadBytes}
+use Rattle.type_arena.specs.Inside.Payload.{payloadOf, payloadBytes}
 use borrow.Author.Needs.{needs}
 use Rattle.type_arena.proofs.payload.store_payload.Statement.{statement}
 use Rattle.type_arena.proofs.payload.store_payload.Tie as tie

@@ -1,7 +1,7 @@
 -- `insert_record` meets its contract.
 use native.Mathlib.Omega.{arith}
 use borrow.Author.Needs.{needs}
-use Rattle.type_arena.proofs.Sets.{sets-first}
+use Rattle.type_arena.proofs.RecordBytes.{sets-first}
 use Rattle.type_arena.proofs.record_store.insert_record.Statement.{statement}
 use Rattle.type_arena.proofs.record_store.insert_record.Tie as tie
 

@@ -4,9 +4,10 @@ use mathlib.Core.List.{List, []}
 use Prim.Native.Nat.{ℕ}
 use lib.ListN.{replicate}
 use Rattle.counting_theory.specs.Encoding.{typeSize}
-use Rattle.type_arena.specs.Arena.{headerOf}
-use Rattle.type_arena.specs.Payload.{payloadOf}
-use Rattle.type_arena.proofs.Sets.{length-header, sets-aside}
+use Rattle.type_arena.specs.Inside.Arena.{headerOf}
+use Rattle.type_arena.specs.Inside.Payload.{payloadOf}
+use Rattle.byte_records.proofs.Sets.{sets-aside}
+use Rattle.type_arena.proofs.RecordBytes.{length-header}
 use borrow.Author.Needs.{needs}
 use Rattle.type_arena.proofs.record_store.put_record.Statement.{statement}
 use Rattle.type_arena.proofs.record_store.put_record.Tie as tie

@@ -1,7 +1,7 @@
 -- `store_record` meets its contract.
 use native.Mathlib.Omega.{arith}
-use Rattle.type_arena.proofs.Sets.{sets-record}
-use Rattle.type_arena.specs.Payload.{payloadOf}
+use Rattle.type_arena.proofs.RecordBytes.{sets-record}
+use Rattle.type_arena.specs.Inside.Payload.{payloadOf}
 use borrow.Author.Needs.{needs}
 use Rattle.type_arena.proofs.record_store.store_record.Statement.{statement}
 use Rattle.type_arena.proofs.record_store.store_record.Tie as tie

@@ -1,7 +1,7 @@
 -- `count_at` meets its contract.
 use borrow.Author.Needs.{needs}
-use Rattle.value_table.specs.Format.{fieldAt}
-use Rattle.counting_theory.specs.Encoding.{typeCount}
+use Rattle.byte_records.specs.Format.{fieldAt}
+use Rattle.counting_theory.specs.Inside.TypeBytes.{typeCount}
 use Rattle.type_arena.proofs.type_record.count_at.Statement.{statement}
 use Rattle.type_arena.proofs.type_record.count_at.Tie as tie
 

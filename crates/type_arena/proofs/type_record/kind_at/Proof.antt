@@ -1,8 +1,8 @@
 -- `kind_at` meets its contract.
 use native.Mathlib.Nat.{add-zero}
 use borrow.Author.Needs.{needs}
-use Rattle.value_table.specs.Format.{fieldAt}
-use Rattle.value_table.proofs.Number.{numberAt-one}
+use Rattle.byte_records.specs.Format.{fieldAt}
+use Rattle.byte_records.proofs.Number.{numberAt-one}
 use Rattle.counting_theory.specs.Encoding.{typeKind}
 use Rattle.type_arena.proofs.type_record.kind_at.Statement.{statement}
 use Rattle.type_arena.proofs.type_record.kind_at.Tie as tie

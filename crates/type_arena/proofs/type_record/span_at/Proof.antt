@@ -1,6 +1,6 @@
 -- `span_at` meets its contract.
 use borrow.Author.Needs.{needs}
-use Rattle.value_table.specs.Format.{fieldAt}
+use Rattle.byte_records.specs.Format.{fieldAt}
 use Rattle.counting_theory.specs.Encoding.{typeSpan}
 use Rattle.type_arena.proofs.type_record.span_at.Statement.{statement}
 use Rattle.type_arena.proofs.type_record.span_at.Tie as tie

@@ -1,7 +1,7 @@
 -- `zero_at` meets its contract.
 use borrow.Author.Needs.{needs}
-use Rattle.value_table.specs.Format.{fieldAt}
-use Rattle.value_table.proofs.Number.{numberAt-one}
+use Rattle.byte_records.specs.Format.{fieldAt}
+use Rattle.byte_records.proofs.Number.{numberAt-one}
 use Rattle.counting_theory.specs.Encoding.{typeZero}
 use Rattle.type_arena.proofs.type_record.zero_at.Statement.{statement}
 use Rattle.type_arena.proofs.type_record.zero_at.Tie as tie

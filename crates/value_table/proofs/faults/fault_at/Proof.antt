@@ -7,7 +7,7 @@ use Prim.Native.Nat.{ℕ}
 use borrow.Author.Needs.{needs}
 use borrow.Author.Tests.{lt-ltb, le-ltb, not-false}
 use Rattle.value_table.specs.Judged.{fault, badKind, badSpan, badKey, repeated, tooDeep}
-use Rattle.value_table.specs.Siblings.{Before}
+use Rattle.value_table.specs.Inside.Siblings.{Before}
 use Rattle.value_table.proofs.Siblings.{first-field}
 use Rattle.value_table.proofs.faults.fault_at.Statement.{statement}
 use Rattle.value_table.proofs.faults.fault_at.Tie as tie

@@ -3,9 +3,9 @@ use Prim.Native.Nat.{_*_}
 use native.Mathlib.Nat.{add-zero}
 use native.Mathlib.Omega.{arith}
 use borrow.Author.Needs.{needs}
-use Rattle.value_table.specs.Format.{fieldAt}
+use Rattle.byte_records.specs.Format.{fieldAt}
 use Rattle.value_table.specs.Value.{recordSize, kindAt, zeroAt}
-use Rattle.value_table.proofs.Number.{numberAt-add}
+use Rattle.byte_records.proofs.Number.{numberAt-add}
 use Rattle.value_table.proofs.record.head_at.Statement.{statement}
 use Rattle.value_table.proofs.record.head_at.Tie as tie
 

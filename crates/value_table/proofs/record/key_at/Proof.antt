@@ -1,6 +1,6 @@
 -- `key_at` meets its contract.
 use borrow.Author.Needs.{needs}
-use Rattle.value_table.specs.Format.{fieldAt}
+use Rattle.byte_records.specs.Format.{fieldAt}
 use Rattle.value_table.specs.Value.{keyAt}
 use Rattle.value_table.proofs.record.key_at.Statement.{statement}
 use Rattle.value_table.proofs.record.key_at.Tie as tie

@@ -5,7 +5,7 @@ use native.Mathlib.Omega.{arith}
 use borrow.Author.Needs.{needs}
 use borrow.Author.Tests.{eqb-true}
 use Rattle.value_table.specs.Value.{recordSize}
-use Rattle.value_table.proofs.Format.{part-same}
+use Rattle.byte_records.proofs.Format.{part-same}
 use Rattle.value_table.proofs.record.same_record.Statement.{statement}
 use Rattle.value_table.proofs.record.same_record.Tie as tie
 

@@ -1,8 +1,8 @@
 -- `zero_at` meets its contract.
 use borrow.Author.Needs.{needs}
-use Rattle.value_table.specs.Format.{fieldAt}
+use Rattle.byte_records.specs.Format.{fieldAt}
 use Rattle.value_table.specs.Value.{zeroAt}
-use Rattle.value_table.proofs.Number.{numberAt-one}
+use Rattle.byte_records.proofs.Number.{numberAt-one}
 use Rattle.value_table.proofs.record.zero_at.Statement.{statement}
 use Rattle.value_table.proofs.record.zero_at.Tie as tie
 

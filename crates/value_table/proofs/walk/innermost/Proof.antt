@@ -5,7 +5,7 @@ use Prim.Native.Nat.{ℕ, zero, suc, _-_}
 use native.Mathlib.Omega.{arith}
 use lib.ListN.{getD}
 use borrow.Author.Needs.{needs}
-use Rattle.value_table.specs.Siblings.{innermostOf}
+use Rattle.value_table.specs.Inside.Siblings.{innermostOf}
 use Rattle.value_table.proofs.walk.innermost.Statement.{statement}
 use Rattle.value_table.proofs.walk.innermost.Tie as tie
 

@@ -4,10 +4,9 @@ use Prim.Native.Nat.{_+_, _*_, _-_, _≤_, _<_}
 use native.Mathlib.Omega.{arith}
 use lib.ListN.{set}
 use borrow.Author.Needs.{needs}
-use Rattle.value_table.specs.Outcome.{numberOfFault}
+use Rattle.value_table.specs.Inside.Siblings.{numberOfFault, FaultIs, innermostOf, Latest}
 use Rattle.value_table.specs.Value.{maxDepth, records}
-use Rattle.value_table.specs.Number.{Bytes}
-use Rattle.value_table.specs.Siblings.{FaultIs, innermostOf, Latest}
+use Rattle.byte_records.specs.Number.{Bytes}
 use Rattle.value_table.proofs.Latest.{latest-start, latest-next}
 use Rattle.value_table.proofs.Turns.{Walking, walking-start, walking-done, walking-close, walking-parent, walking-inside, walking-refused, walking-room, walking-skip, walking-enter, refusal-positive, messages-few}
 use Rattle.value_table.proofs.walk.walk_table.Statement.{statement}

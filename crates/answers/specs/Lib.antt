@@ -1,0 +1,2 @@
+-- What a call answers, by document 01's numbers.
+pub mod Outcomes

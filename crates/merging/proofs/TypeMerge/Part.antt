@@ -1,0 +1,121 @@
+-- The first addend or field of a run of a well-formed type: its count, what stands inside it and what follows are within the limits.
+use mathlib.Core.Path.{_≡_, refl, ap}
+use mathlib.Core.Bool.{Bool, true, false, cond, not, _&&_}
+use mathlib.Core.List.{List}
+use Prim.Native.Nat.{ℕ, _+_, _*_, _-_, _≤_, _<_}
+use native.Mathlib.Nat.{zero-add, le-refl}
+use native.Mathlib.Omega.{arith}
+use lib.Dec.{eqb}
+use lib.ListN.{length}
+use borrow.Author.Tests.{eq-eqb}
+use Rattle.value_table.specs.Value.{maxLength, maxDepth, recordKind}
+use Rattle.merging.specs.declared.level.Level.{Level}
+use Rattle.counting_theory.specs.Trie.{nil, node, total, largestBelow, largestTotal}
+use Rattle.counting_theory.specs.Label.{Equivalence, Label, fieldKind, Counting, CountingType}
+use Rattle.counting_theory.specs.Encoding.{typePayload, typeKind, typeOf, Tagged}
+use Rattle.counting_theory.specs.WellFormed.{maxTotal, withinLimit, depthInside, Shallow, IsType}
+use Rattle.type_arena.specs.Inside.Arena.{under, labelAt}
+use Rattle.type_arena.specs.Inside.Addend.{body, rest, Coded, Union}
+use Rattle.merging.specs.Inside.Merging.{depthOf, Part, insideOf, exceeds}
+use Rattle.counting_theory.proofs.Label.{kind-eq}
+use Rattle.counting_theory.proofs.Tagged.Parts.{holdsFields}
+use Rattle.counting_theory.proofs.WellFormed.Nodes.{Placed, depthUnder, shallow-parts}
+use Rattle.counting_theory.proofs.Encoding.Header.{length-encode}
+use Rattle.counting_theory.proofs.WellFormed.Limit.{limit-totals, totals-limit}
+use Rattle.type_arena.proofs.FirstAddend.{Addend, addend, coded-type, type-coded}
+
+-- an addend has a level left
+level-left : (field : Bool) (left : ℕ) (l : Label) → Placed field (maxDepth + 1 - (left + cond field 1 0)) l → cond field 0 1 ≤ left
+level-left true left l h = omega arith
+level-left false left l h = omega arith
+
+shallow-inside : (field : Bool) (left : ℕ) (l : Label) (c : CountingType) → left ≤ maxDepth → cond field 0 1 ≤ left →
+    Shallow (holdsFields field l) (depthUnder field l (maxDepth + 1 - (left + cond field 1 0))) c →
+    Shallow (not field && eqb (l .kind) recordKind) (maxDepth + 1 - (left - cond field 0 1 + cond (not field && eqb (l .kind) recordKind) 1 0)) c
+shallow-inside true left l c low some h =
+    let e : maxDepth + 1 - (left + 1) + 1 ≡ maxDepth + 1 - (left - 0 + 0) = omega arith in
+    rw e at h
+shallow-inside false left l c low some h = go (eqb (l .kind) recordKind) h
+  where
+    go : (t : Bool) → Shallow t (depthInside t (maxDepth + 1 - (left + 0))) c → Shallow t (maxDepth + 1 - (left - 1 + cond t 1 0)) c
+    go true h = let e : maxDepth + 1 - (left + 0) ≡ maxDepth + 1 - (left - 1 + 1) = omega arith in rw e at h
+    go false h = let e : maxDepth + 1 - (left + 0) + 1 ≡ maxDepth + 1 - (left - 1 + 0) = omega arith in rw e at h
+
+pub record Head (level : Level) (x : List ℕ) : Type 0 where
+  pub first : Addend (under (level .label)) (level .field) x
+  pub level-left : cond (level .field) 0 1 ≤ level .left
+  pub in-body : Part (insideOf level (typeKind x 0)) (body x)
+  pub in-rest : Part level (rest x)
+  pub light : exceeds (typeOf (under (level .label)) (body x)) ≡ false
+
+pub head : {level : Level} {x : List ℕ} → Part level x → 0 < length x → Head level x
+unfolding labelAt largestTotal largestBelow total exceeds
+head {level} {x} p h =
+    let e : Equivalence = under (level .label) in
+    let l : Label = labelAt e x 0 in
+    let c : CountingType = typeOf e (body x) in
+    let s : CountingType = typeOf e (rest x) in
+    let a = addend (p .coded) h in
+    let shallow : Shallow (level .field) (depthOf level) (node l (typePayload x 0) c s) = rw (a .is-type) at (p .shallow) in
+    let q = shallow-parts (level .field) (depthOf level) l (typePayload x 0) c s shallow in
+    let limit : largestTotal Counting (node l (typePayload x 0) c s) ≤ maxTotal = rw (a .is-type) at (limit-totals (typeOf e x) (p .limit)) in
+    let some = level-left (level .field) (level .left) l (q .0) in
+    let within : withinLimit c ≡ true = totals-limit c (omega (arith, limit)) in
+    record {
+      first = a;
+      level-left = some;
+      in-body =
+          record {
+            coded = a .in-body;
+            shallow = shallow-inside (level .field) (level .left) l c (p .left-low) some (q .1);
+            left-low = omega (arith, p .left-low);
+            limit = within;
+          };
+      in-rest = record { coded = a .in-rest; shallow = q .2; left-low = p .left-low; limit = totals-limit s (omega (arith, limit)) };
+      light = rw within refl;
+    }
+
+-- a whole type is a union at depth 1, and short
+pub type-part : (label : Bool) (x : List ℕ) → IsType (under label) x (typeOf (under label) x) → Part (record { left = maxDepth; field = false; label = label }) x
+type-part label x t =
+    record {
+      coded = type-coded t;
+      shallow = t .shallow;
+      left-low = le-refl maxDepth;
+      limit = t .limit;
+    }
+
+pub type-short : {e : Equivalence} {x : List ℕ} → IsType e x (typeOf e x) → length x ≤ maxLength
+type-short {e} {x} t = omega (arith, t .room, ap length (t .bytes), length-encode (typeOf e x))
+
+-- a number that falls from a run to what stands inside it
+abbrev pub rank : Level → ℕ
+rank level = 2 * level .left + cond (level .field) 1 0
+
+pub rank-inside : {level : Level} {x : List ℕ} → Head level x → rank (insideOf level (typeKind x 0)) < rank level
+rank-inside {level} {x} h = go (level .field) (eqb (typeKind x 0) recordKind) (h .level-left)
+  where
+    go : (field fields : Bool) → cond field 0 1 ≤ level .left → 2 * (level .left - cond field 0 1) + cond (not field && fields) 1 0 < 2 * level .left + cond field 1 0
+    go true fields i = omega arith
+    go false true i = omega arith
+    go false false i = omega arith
+
+pub total-low : {level : Level} {x : List ℕ} → Part level x → total Counting (typeOf (under (level .label)) x) ≤ maxTotal
+unfolding largestTotal
+total-low {level} {x} p = omega (arith, limit-totals (typeOf (under (level .label)) x) (p .limit))
+
+-- fields weigh nothing; a run of addends is a union
+pub total-fields : {e : Equivalence} {x : List ℕ} → Coded e true x → total Counting (typeOf e x) ≡ 0
+unfolding total
+total-fields {e} k = rw (coded-type k) (go (k .trie) (k .tagged))
+  where
+    go : (f : CountingType) → Tagged e true f → total Counting f ≡ 0
+    go nil t = refl
+    go (node l a c s) t = rw (eq-eqb (l .kind) fieldKind (kind-eq (t .0)), zero-add) (go s (t .2))
+
+pub part-union : {level : Level} {x : List ℕ} → level .field ≡ false → Part level x → Union x
+part-union {level} f p = record { equivalence = under (level .label); coded = rw f at (p .coded); limit = total-low p }
+
+pub part-total : {level : Level} {x : List ℕ} {n : ℕ} → level .field ≡ false → Part level x → ((e : Equivalence) → Coded e false x → n ≡ total Counting (typeOf e x)) →
+    n ≡ total Counting (typeOf (under (level .label)) x)
+part-total {level} f p h = h (under (level .label)) (rw f at (p .coded))

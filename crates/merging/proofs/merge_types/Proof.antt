@@ -1,0 +1,24 @@
+-- `merge_types` meets its contract.
+use Rattle.merging.specs.Inside.Merging.{both, mergedBytes, exceeds}
+use Rattle.merging.proofs.TypeMerge.Part.{type-part, type-short}
+use borrow.Author.Needs.{needs}
+use native.Mathlib.Omega.{arith}
+use Rattle.merging.proofs.merge_types.Statement.{statement}
+use Rattle.merging.proofs.merge_types.Tie as tie
+
+merge-union-requires : tie.Need-merge-union-requires
+merge-union-requires c κs =
+    let s = c .before .before .before .before in
+    let p = s .pre .0 in
+    let q = s .pre .1 in
+    ((type-part (s .args .label) _ p, type-part (s .args .label) _ q), omega (arith, type-short p, type-short q))
+
+same-length : tie.Need-same-length
+same-length c = search needs
+
+returns : tie.Need-returns
+unfolding both mergedBytes exceeds
+returns c = let m = c .before .before .merge-union .ensures in (m .bytes, (m .counted, m .seen))
+
+pub merge-types-spec : {M : Type 1} → statement M
+merge-types-spec = tie.close (tie.spec merge-union-requires same-length returns)

@@ -1,0 +1,175 @@
+// Merges two well-formed types in one pass over both: union by union, and inside addends that have one label.
+mod level;
+
+use byte_records::store::put_bytes;
+use level::Level;
+use level::inside;
+use type_arena::addend::body_of;
+use type_arena::addend::front_of;
+use type_arena::addend::rest_of;
+use type_arena::addend::union_total;
+use type_arena::label_order::Order;
+use type_arena::label_order::compare_labels;
+use type_arena::payload::join;
+use type_arena::payload::payload_at;
+use type_arena::record_store::put_record;
+use type_arena::type_record;
+use type_arena::type_record::key_at;
+use type_arena::type_record::kind_at;
+use value_table::record;
+ghost use mathlib.Core.Path.{_≡_};
+ghost use mathlib.Core.Bool.{not, _||_};
+ghost use Prim.Native.Nat.{_+_, _^_, _<_};
+ghost use lib.Dec.{ltb};
+ghost use lib.ListN.{length};
+ghost use lib.Seq.{sets};
+ghost use Rattle.counting_theory.specs.Trie.{reduce, total};
+ghost use Rattle.counting_theory.specs.Label.{Counting};
+ghost use Rattle.counting_theory.specs.Encoding.{typeKind, encode, typeOf};
+ghost use Rattle.counting_theory.specs.WellFormed.{maxTotal, withinLimit, IsType};
+ghost use Rattle.type_arena.specs.Inside.Arena.{under};
+ghost use Rattle.type_arena.specs.Inside.Addend.{Headed};
+ghost use Rattle.merging.specs.Inside.Merging.{Part, Kept, Ran, Stored, Joined};
+
+// How many bytes a merge has, and whether a union in it totals above the limit.
+pub struct Merged {
+    pub bytes: usize,
+    pub over: bool,
+}
+
+// The disjunction of two flags.
+fn either(a: bool, b: bool) -> bool
+    ensures { λ r. ⌜ r ≡ (a || b) ⌝ }
+{
+    if a {
+        return true;
+    }
+    b
+}
+
+// Whether the merge of two unions totals above the limit; fields have no total.
+fn total_over(a: &[u8], b: &[u8], level: Level) -> bool
+    requires { ⌜ Part level (now a) × Part level (now b) ⌝ }
+    ensures { λ r. ⌜ r ≡ ltb maxTotal (total Counting (typeOf (under (level .label)) (now (a .entry))) + total Counting (typeOf (under (level .label)) (now (b .entry)))) ⌝ }
+{
+    if level.field {
+        return false;
+    }
+    type_record::MAX_TOTAL < union_total(a) + union_total(b)
+}
+
+// Stores src from `at` on, and moves `at` past it.
+fn append(src: &[u8], out: &mut [u8], at: &mut usize)
+    requires { ⌜ now at + length (now src) < 2 ^ 64 ⌝ }
+    ensures { λ _. ⌜ (now (out .exit) ≡ sets (now (out .entry)) (now (at .entry)) (now (src .entry))) × (now (at .exit) ≡ now (at .entry) + length (now (src .entry))) ⌝ }
+{
+    put_bytes(src, out, *at);
+    *at = *at + src.len();
+}
+
+// Stores the first addend of x as it is, and returns what follows it.
+fn keep<'a>(x: &'a [u8], out: &mut [u8], at: &mut usize) -> &'a [u8]
+    requires { ⌜ Headed (now x) × (now at + length (now x) < 2 ^ 64) ⌝ }
+    ensures { λ r. ⌜ Kept (now (x .entry)) (now (out .entry)) (now (at .entry)) (now r) (now (out .exit)) (now (at .exit)) ⌝ }
+{
+    append(front_of(x), out, at);
+    rest_of(x)
+}
+
+// Merges two unions, or two runs of fields, until the second has run out, and returns what is left of the first.
+fn merge_run<'a>(
+    first: &'a [u8],
+    second: &[u8],
+    out: &mut [u8],
+    at: &mut usize,
+    over: &mut bool,
+    level: Level,
+) -> &'a [u8]
+    requires { ⌜ Part level (now first) × Part level (now second) ⌝ }
+    requires { ⌜ now at + length (now first) + length (now second) < 2 ^ 64 ⌝ }
+    ensures { λ r. ⌜ Ran (under (level .label)) (now (first .entry)) (now (second .entry)) (now (out .entry)) (now (at .entry)) (now (over .entry)) (now r) (now (out .exit)) (now (at .exit)) (now (over .exit)) ⌝ }
+{
+    let mut x = first;
+    let mut y = second;
+    while y.len() > 0 {
+        if x.len() == 0 {
+            append(y, out, at);
+            return x;
+        }
+        match compare_labels(x, 0, y, 0, level.label) {
+            Order::Less => {
+                let r = keep(x, out, at);
+                x = r;
+            }
+            Order::More => {
+                let r = keep(y, out, at);
+                y = r;
+            }
+            Order::Same => {
+                merge_addend(x, y, out, at, over, level);
+                let u = rest_of(x);
+                let v = rest_of(y);
+                x = u;
+                y = v;
+            }
+        }
+    }
+    x
+}
+
+// Merges the first addends or fields of x and y, which have one label.
+fn merge_addend(x: &[u8], y: &[u8], out: &mut [u8], at: &mut usize, over: &mut bool, level: Level)
+    requires { ⌜ Part level (now x) × (0 < length (now x)) ⌝ }
+    requires { ⌜ Part level (now y) × (0 < length (now y)) × (typeKind (now x) 0 ≡ typeKind (now y) 0) ⌝ }
+    requires { ⌜ now at + length (now x) + length (now y) < 2 ^ 64 ⌝ }
+    ensures { λ _. ⌜ Joined (under (level .label)) (now (x .entry)) (now (y .entry)) (now (out .entry)) (now (at .entry)) (now (over .entry))
+        (now (out .exit)) (now (at .exit)) (now (over .exit)) ⌝ }
+{
+    let kind = kind_at(x, 0);
+    let inner = inside(level, kind);
+    let s = merge_union(body_of(x), body_of(y), out, *at + type_record::SIZE, inner);
+    let span = s.bytes / type_record::SIZE + 1;
+    let joined = join(payload_at(x, 0), payload_at(y, 0));
+    put_record(out, *at, kind, key_at(x, 0), span, joined);
+    *at = *at + type_record::SIZE + s.bytes;
+    *over = either(*over, s.over);
+}
+
+// Merges two unions, or two runs of fields, into out from `at` on.
+fn merge_union(a: &[u8], b: &[u8], out: &mut [u8], at: usize, level: Level) -> Merged
+    requires { ⌜ Part level (now a) × Part level (now b) ⌝ }
+    requires { ⌜ at + length (now a) + length (now b) < 2 ^ 64 ⌝ }
+    ensures { λ r. ⌜ Stored (under (level .label)) (now (a .entry)) (now (b .entry)) (now (out .entry)) at (now (out .exit)) (r .bytes) (r .over) ⌝ }
+{
+    if b.len() == 0 {
+        put_bytes(a, out, at);
+        return Merged {
+            bytes: a.len(),
+            over: false,
+        };
+    }
+    let mut end = at;
+    let mut over = total_over(a, b, level);
+    let tail = merge_run(a, b, out, &mut end, &mut over, level);
+    put_bytes(tail, out, end);
+    Merged {
+        bytes: end + tail.len() - at,
+        over,
+    }
+}
+
+// Merges two well-formed types into the arena as far as there is room.
+pub fn merge_types(first: &[u8], second: &[u8], label: bool, arena: &mut [u8]) -> Merged
+    requires { ⌜ IsType (under label) (now first) (typeOf (under label) (now first)) ⌝ }
+    requires { ⌜ IsType (under label) (now second) (typeOf (under label) (now second)) ⌝ }
+    ensures { λ r. ⌜ now (arena .exit) ≡ sets (now (arena .entry)) 0 (encode (reduce Counting (typeOf (under label) (now (first .entry))) (typeOf (under label) (now (second .entry))))) ⌝ }
+    ensures { λ r. ⌜ r .bytes ≡ length (encode (reduce Counting (typeOf (under label) (now (first .entry))) (typeOf (under label) (now (second .entry))))) ⌝ }
+    ensures { λ r. ⌜ r .over ≡ not (withinLimit (reduce Counting (typeOf (under label) (now (first .entry))) (typeOf (under label) (now (second .entry))))) ⌝ }
+{
+    let level = Level {
+        left: record::MAX_DEPTH,
+        field: false,
+        label,
+    };
+    merge_union(first, second, arena, 0, level)
+}

@@ -1,0 +1,5 @@
+-- What contracts inside the crate and its proofs cite, and no public promise.
+pub mod Arena
+pub mod Addend
+pub mod LabelOrder
+pub mod Payload

@@ -1,0 +1,39 @@
+-- The first addend or field of a run of type records, on its bytes; and which bytes are a run.
+use mathlib.Core.Path.{_≡_}
+use mathlib.Core.Bool.{Bool, false}
+use mathlib.Core.List.{List}
+use Prim.Native.Nat.{ℕ, _*_, _-_, _≤_}
+use lib.ListN.{length, take, drop}
+use Rattle.counting_theory.specs.Trie.{total}
+use Rattle.counting_theory.specs.Label.{Equivalence, Counting, CountingType}
+use Rattle.counting_theory.specs.Encoding.{typeSize, typeSpan, encode, typeOf, Tagged}
+use Rattle.counting_theory.specs.Inside.TypeBytes.{Fitting}
+use Rattle.counting_theory.specs.WellFormed.{maxTotal}
+
+-- The first addend or field of a run x with what stands inside it, what stands inside it, and what follows it.
+unfoldable pub front : List ℕ → List ℕ
+front x = take (typeSize * typeSpan x 0) x
+
+unfoldable pub body : List ℕ → List ℕ
+body x = take (typeSize * typeSpan x 0 - typeSize) (drop typeSize x)
+
+unfoldable pub rest : List ℕ → List ℕ
+rest x = drop (typeSize * typeSpan x 0) x
+
+-- x has a whole first addend or field
+pub record Headed (x : List ℕ) : Type 0 where
+  pub some : 1 ≤ typeSpan x 0
+  pub whole : typeSize * typeSpan x 0 ≤ length x
+
+-- x is the bytes of a union, or (field ≡ true) of a run of fields
+pub record Coded (e : Equivalence) (field : Bool) (x : List ℕ) : Type 0 where
+  pub trie : CountingType
+  pub bytes : x ≡ encode trie
+  pub tagged : Tagged e field trie
+  pub fitting : Fitting trie
+
+-- x is the bytes of a union whose total keeps the limit
+pub record Union (x : List ℕ) : Type 0 where
+  pub equivalence : Equivalence
+  pub coded : Coded equivalence false x
+  pub limit : total Counting (typeOf equivalence x) ≤ maxTotal

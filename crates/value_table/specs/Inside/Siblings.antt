@@ -1,0 +1,59 @@
+-- The earlier siblings of a record, as the code finds them: from the first one on by spans.
+use mathlib.Core.Path.{_≡_}
+use mathlib.Core.Bool.{Bool, true, false, cond}
+use mathlib.Core.List.{List}
+use Prim.Native.Nat.{ℕ, zero, suc, _+_, _%_, _≤_, _<_}
+use lib.Dec.{eqb}
+use lib.ListN.{length, getD}
+use Rattle.value_table.specs.Value.{keyAt, spanAt, recordKind}
+use Rattle.value_table.specs.Judged.{fault}
+use Rattle.value_table.specs.Inside.Chain.{Chain}
+use Rattle.value_table.specs.declared.faults.Fault.{Fault}
+use Rattle.value_table.specs.declared.faults.Fault.the-variants.{Nothing, Found}
+use Rattle.value_table.specs.Outcome.{numberOfRefusal}
+
+-- `first` is the first field of a record that has had these keys before record i, or 0 outside records
+pub data Before (b : List ℕ) (i first : ℕ) : Bool → List ℕ → Type 0 where
+  field : {ks : List ℕ} → 1 ≤ first → Chain (spanAt b) (keyAt b) i first ks → Before b i first true ks
+  other : {ks : List ℕ} → first ≡ 0 → Before b i first false ks
+
+pub record Siblings (b : List ℕ) (i first : ℕ) : Type 0 where
+  pub keys : List ℕ
+  pub chain : Chain (spanAt b) (keyAt b) i first keys
+
+pub record Parent (b : List ℕ) (i first : ℕ) : Type 0 where
+  pub isField : Bool
+  pub keys : List ℕ
+  pub before : Before b i first isField keys
+
+-- how many buckets the keys are spread over, by their remainders
+abbrev pub keyBuckets : ℕ
+keyBuckets = 64
+
+-- each bucket has the latest of its records before i, or a number above them
+pub record Latest (b : List ℕ) (i : ℕ) (latest : List ℕ) : Type 0 where
+  pub buckets : length latest ≡ keyBuckets
+  pub upto : (q : ℕ) → q < i → q ≤ getD latest (keyAt b q % keyBuckets) 0
+
+-- x is the fault of record i at this depth, whose parent ends at `end`
+abbrev pub FaultIs : List ℕ → ℕ → ℕ → ℕ → ℕ → ℕ → Type 0
+FaultIs b i end first depth x = (isField : Bool) (ks : List ℕ) → Before b i first isField ks → x ≡ fault b i end isField ks depth
+
+-- what the innermost of some levels holds, or what stands outside them
+abbrev pub innermostOf : List ℕ → ℕ → ℕ → ℕ
+innermostOf levels zero outside = outside
+innermostOf levels (suc depth) outside = getD levels depth 0
+
+-- the first field of a value of this kind at record i, or 0 where it is no record
+abbrev pub firstOf : ℕ → ℕ → ℕ
+firstOf kind i = cond (eqb kind recordKind) (i + 1) 0
+
+-- a record inside no open value begins a message
+abbrev pub messagesAt : ℕ → ℕ
+messagesAt zero = 1
+messagesAt (suc depth) = 0
+
+-- what is wrong with one record, 0 for nothing
+abbrev pub numberOfFault : Fault → ℕ
+numberOfFault Nothing = 0
+numberOfFault (Found why) = numberOfRefusal why
