@@ -4,10 +4,10 @@ use mathlib.Core.Option.{none, some}
 use Prim.Native.Nat.{ℕ, zero, suc, _≤_, _<_}
 use native.Mathlib.Omega.{arith}
 use lib.Dec.{eqb}
-use Rattle.type_arena.specs.Inside.Arena.{under}
+use Rattle.type_arena.specs.Inside.Arena.{byFlag}
 use Rattle.counting_theory.specs.Answers.{equivalenceOf}
 
-pub known : (n : ℕ) → n ≤ 1 → equivalenceOf n ≡ some (under (eqb n 1))
+pub known : (n : ℕ) → n ≤ 1 → equivalenceOf n ≡ some (byFlag (eqb n 1))
 known zero h = refl
 known (suc zero) h = refl
 known (suc (suc n)) h = absurd (omega arith)

@@ -7,8 +7,8 @@ use native.Mathlib.Omega.{arith}
 use lib.ListN.{length, take, length-take}
 use lib.Seq.{sets, sets-eq, take-at}
 use borrow.Author.Tests.{lt-ltb, le-ltb, not-true, not-false}
-use Rattle.value_table.specs.declared.Refusal as faulty
-use Rattle.value_table.specs.declared.Refusal.the-variants as faults
+use Rattle.value_table.specs.declared.TableRefusal as faulty
+use Rattle.value_table.specs.declared.TableRefusal.the-variants as faults
 use Rattle.value_table.specs.Outcome.{accepted, refused}
 use Rattle.value_table.specs.Outcome as table
 use Rattle.answers.specs.declared.Answered.{Answered}
@@ -20,16 +20,17 @@ use Rattle.counting_theory.specs.Label.{Equivalence, CountingType}
 use Rattle.counting_theory.specs.Encoding.{typeSize, encode}
 use Rattle.counting_theory.specs.WellFormed.{withinLimit}
 use Rattle.counting_theory.specs.Answers.{Written, turnedDown, zeros, leaves, stored, inferredFrom, mergedTypes}
-use Rattle.answers.specs.Outcomes.{numberOfRefusal, outcomeOf, leftBy, Front}
+use Rattle.answers.specs.Outcomes.{numberOfRefusal, outcomeOf, leftBy}
+use Rattle.answers.specs.Inside.Front.{WrittenInFront}
 use Rattle.counting_theory.proofs.Encoding.Header.{length-encode}
 use Rattle.byte_records.proofs.Clear.{clearedFrom}
 use Rattle.answers.proofs.Exact.{Exact, cleared-arena}
 
-pub front-refused : {w : Written} (why : Refusal) (place : ℕ) (arena : List ℕ) → w ≡ turnedDown (numberOfRefusal why) place → Front w (Refused why place) arena
+pub front-refused : {w : Written} (why : Refusal) (place : ℕ) (arena : List ℕ) → w ≡ turnedDown (numberOfRefusal why) place → WrittenInFront w (Refused why place) arena
 front-refused why place arena e = rw e (record { outcome = refl; bytes = refl })
 
 -- a table that is refused is refused to the inference as well
-pub refused-from : (why : faulty.Refusal) (place : ℕ) (e : Equivalence) (b : List ℕ) (n : ℕ) →
+pub refused-from : (why : faulty.TableRefusal) (place : ℕ) (e : Equivalence) (b : List ℕ) (n : ℕ) →
     inferredFrom (refused (table.numberOfRefusal why) place) e b n ≡ turnedDown (table.numberOfRefusal why) place
 refused-from faults.Length place e b n = refl
 refused-from faults.Kind place e b n = refl
@@ -39,28 +40,28 @@ refused-from faults.Repeat place e b n = refl
 refused-from faults.Depth place e b n = refl
 
 module _ (f : CountingType) (n : ℕ) where
-  pub front-room : (arena : List ℕ) → n < length (encode f) → Front (stored n f) (Refused Room 0) arena
+  pub front-room : (arena : List ℕ) → n < length (encode f) → WrittenInFront (stored n f) (Refused Room 0) arena
   front-room arena h = front-refused Room 0 arena (rw (lt-ltb n (typeSize * size f) (omega (arith, length-encode f))) refl)
 
   -- a whole type stands in the front of an arena that has room for it
-  pub front-stored : (records : ℕ) (arena : List ℕ) → records ≡ size f → length (encode f) ≤ n → take (length (encode f)) arena ≡ encode f → Front (stored n f) (Accepted records) arena
+  pub front-stored : (records : ℕ) (arena : List ℕ) → records ≡ size f → length (encode f) ≤ n → take (length (encode f)) arena ≡ encode f → WrittenInFront (stored n f) (Accepted records) arena
   front-stored records arena k h e = rw (le-ltb n (typeSize * size f) (omega (arith, length-encode f))) (record { outcome = ap accepted k; bytes = e })
 
-  pub front-bytes : (arena : List ℕ) → length (encode f) ≤ n → take (length (encode f)) arena ≡ encode f → Front (stored n f) (Accepted (length (encode f) / typeSize)) arena
+  pub front-bytes : (arena : List ℕ) → length (encode f) ≤ n → take (length (encode f)) arena ≡ encode f → WrittenInFront (stored n f) (Accepted (length (encode f) / typeSize)) arena
   front-bytes arena = front-stored (length (encode f) / typeSize) arena (omega (arith, length-encode f))
 
   module _ (within : not (withinLimit f) ≡ false) (answered : Answered) (arena : List ℕ) where
     -- within the limit only room is asked
-    pub front-within : Front (stored n f) answered arena → Front (mergedTypes f n) answered arena
+    pub front-within : WrittenInFront (stored n f) answered arena → WrittenInFront (mergedTypes f n) answered arena
     front-within h = rw (not-false (withinLimit f) within) h
 
-  pub front-total : (arena : List ℕ) → not (withinLimit f) ≡ true → Front (mergedTypes f n) (Refused Total 0) arena
+  pub front-total : (arena : List ℕ) → not (withinLimit f) ≡ true → WrittenInFront (mergedTypes f n) (Refused Total 0) arena
   front-total arena h = front-refused Total 0 arena (rw (not-true (withinLimit f) h) refl)
 
 pub sets-front : (arena bytes : List ℕ) → length bytes ≤ length arena → take (length bytes) (sets arena 0 bytes) ≡ bytes
 sets-front arena bytes h = rw (sets-eq bytes arena 0 (omega arith)) (take-at bytes _ (length bytes) refl)
 
-module _ {w : Written} {answered : Answered} {arena : List ℕ} (exact : Exact w) (h : Front w answered arena) where
+module _ {w : Written} {answered : Answered} {arena : List ℕ} (exact : Exact w) (h : WrittenInFront w answered arena) where
   pub front-length : typeSize * outcomeOf answered .count ≤ length arena
   front-length =
       let e : length (take (length (w .bytes)) arena) ≡ length (w .bytes) = ap length (h .bytes) in

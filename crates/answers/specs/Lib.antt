@@ -1,2 +1,3 @@
 -- What a call answers, by document 01's numbers.
 pub mod Outcomes
+pub mod Inside

@@ -1,11 +1,9 @@
 -- Document 01's number and values for each case of the upper library's answers.
-use mathlib.Core.Path.{_≡_}
 use mathlib.Core.List.{List}
 use Prim.Native.Nat.{ℕ}
-use lib.ListN.{length, take}
 use Rattle.value_table.specs.Outcome.{Outcome, accepted, refused}
 use Rattle.value_table.specs.Outcome as table
-use Rattle.counting_theory.specs.Answers.{Written, Left}
+use Rattle.counting_theory.specs.Answers.{Left}
 use Rattle.answers.specs.declared.Answered.{Answered}
 use Rattle.answers.specs.declared.Answered.the-variants.{Accepted, Refused}
 use Rattle.answers.specs.declared.Refusal.{Refusal}
@@ -28,8 +26,3 @@ outcomeOf (Refused why place) = refused (numberOfRefusal why) place
 -- what a call leaves: its answer, the arena and the working buffer
 abbrev pub leftBy : Answered → List ℕ → List ℕ → Left
 leftBy answered arena work = record { outcome = outcomeOf answered; arena = arena; work = work }
-
--- the answer is that of w, and the arena begins with the bytes of w
-pub record Front (w : Written) (answered : Answered) (arena : List ℕ) : Type 0 where
-  pub outcome : outcomeOf answered ≡ w .outcome
-  pub bytes : take (length (w .bytes)) arena ≡ w .bytes

@@ -12,7 +12,7 @@ ghost use Rattle.answers.specs.Outcomes.{numberOfRefusal, outcomeOf};
 pub enum Refusal {
     Length,
     Equivalence,
-    Table(value_table::Refusal),
+    Table(value_table::TableRefusal),
     First,
     Second,
     Total,

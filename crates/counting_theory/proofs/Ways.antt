@@ -2,7 +2,7 @@
 pub mod Weights
 pub mod Parts
 pub mod Join
-pub mod Whole
+pub mod AllMessages
 pub mod Pull
 pub mod Calls
 pub mod Written

@@ -9,6 +9,6 @@ pub mod Closed
 pub mod Rules
 pub mod Fitting
 pub mod Record
-pub mod Holds
+pub mod RecordsHold
 pub mod LaidOut
-pub mod Whole
+pub mod AcceptsExactly

@@ -20,9 +20,9 @@ equivalenceOf zero = some byKind
 equivalenceOf (suc zero) = some byLabel
 equivalenceOf (suc (suc n)) = none
 
-abbrev pub numberOf : Equivalence → ℕ
-numberOf byKind = 0
-numberOf byLabel = 1
+abbrev pub equivalenceNumber : Equivalence → ℕ
+equivalenceNumber byKind = 0
+equivalenceNumber byLabel = 1
 
 abbrev pub houseDefault : Equivalence
 houseDefault = byKind
@@ -77,7 +77,7 @@ inferred table equivalence arena work =
 
 -- Call 3
 abbrev pub inferredDefault : List ℕ → ℕ → ℕ → Written
-inferredDefault table arena work = inferred table (numberOf houseDefault) arena work
+inferredDefault table arena work = inferred table (equivalenceNumber houseDefault) arena work
 
 -- Call 5: 1, 2, 8, 9, 10, 11.
 abbrev pub mergedTypes : CountingType → ℕ → Written

@@ -33,12 +33,12 @@ elementsOf v = cond (eqb (v .head .kind) arrayKind) (valuesOf (v .content)) []
 unfoldable pub elements : List Value → List Value
 elements M = flatMap elementsOf M
 
--- M/k: the values that the records of M have under key k
+-- M/k: the values that the records of M have fieldValues key k
 abbrev pub fieldOf : ℕ → Value → List Value
 fieldOf k v = cond (eqb (v .head .kind) recordKind) (valuesWith k (v .content)) []
 
-unfoldable pub under : ℕ → List Value → List Value
-under k M = flatMap (fieldOf k) M
+unfoldable pub fieldValues : ℕ → List Value → List Value
+fieldValues k M = flatMap (fieldOf k) M
 
 unfoldable pub select : (Value → Bool) → List Value → List Value
 select test [] = []
@@ -65,7 +65,7 @@ pub data Reached : Type 0 where
 -- field record.
 unfoldable pub follow : Equivalence → Reached → Label → Reached
 follow eq (values M) l = cond (sameLabel l (fieldLabel (l .key))) (field (l .key) M) (values (ofClass eq l (elements M)))
-follow eq (field k M) l = values (ofClass eq l (under k M))
+follow eq (field k M) l = values (ofClass eq l (fieldValues k M))
 
 -- what some values give together, each as `give` says; none where there is no value
 infixr 66 _⊞_
@@ -110,7 +110,7 @@ abbrev pub FieldTotals : CountingType → Type 0
 FieldTotals nil = Unit {0}
 FieldTotals (node l a c s) = (l .kind ≡ fieldKind → a .count ≡ total Counting c) × FieldTotals c × FieldTotals s
 
--- under label, two records have one class exactly if they have the same keys
+-- fieldValues label, two records have one class exactly if they have the same keys
 abbrev pub LabelsApart : Type 0
 LabelsApart = (c d : Values) → Distinct (keys c) → Distinct (keys d) →
     (classOf byLabel recordKind c ≡ classOf byLabel recordKind d) ↔ ((k : ℕ) → member k (keys c) ≡ member k (keys d))

@@ -91,10 +91,10 @@ pub data Every {A : Type 0} (P : A → Type 0) : List A → Type 0 where
   done : Every P []
   _&_ : {x : A} {xs : List A} → P x → Every P xs → Every P (x ∷ xs)
 
-abbrev pub Holds : Trial → Type 0
-Holds (trial call equivalences arenas number place count type) =
+abbrev pub TrialHolds : Trial → Type 0
+TrialHolds (trial call equivalences arenas number place count type) =
     Every (λ e. Every (λ n. writtenBy call e n ≡ expected number place count type) arenas) equivalences
 
 -- the one claim, over the whole table
 abbrev pub TrialsHold : Type 0
-TrialsHold = Every Holds trials
+TrialsHold = Every TrialHolds trials

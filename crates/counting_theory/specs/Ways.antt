@@ -18,7 +18,7 @@ use Rattle.counting_theory.specs.Raw.{profileOf}
 use Rattle.counting_theory.specs.Place.{valuesOf, payloadAt}
 use Rattle.counting_theory.specs.Encoding.{typeSize, encode}
 use Rattle.counting_theory.specs.WellFormed.{withinLimit, badTypeLength}
-use Rattle.counting_theory.specs.Answers.{numberOf, houseDefault, Written, Left, leaves, zeros, inferred, inferredDefault, merged}
+use Rattle.counting_theory.specs.Answers.{equivalenceNumber, houseDefault, Written, Left, leaves, zeros, inferred, inferredDefault, merged}
 
 -- One call of a plan, with the buffers lent to it as they are beforehand: call 2, call 3, or call 5 on the i-th type at hand, as the
 -- first, and the j-th of the others, as the second.
@@ -44,7 +44,7 @@ goOn w l rest = elim (w .outcome .number) [ zero ↦ l ∷ rest (w .bytes) | suc
 unfoldable pub run : Equivalence → List Call → List (List ℕ) → List Left
 run e [] hand = []
 run e (infer source arena work ∷ calls) hand =
-    let w = inferred source (numberOf e) (length arena) (length work) in goOn w (leaves w arena work) (λ b. run e calls (b ∷ hand))
+    let w = inferred source (equivalenceNumber e) (length arena) (length work) in goOn w (leaves w arena work) (λ b. run e calls (b ∷ hand))
 run e (inferDefault source arena work ∷ calls) hand =
     let w = inferredDefault source (length arena) (length work) in goOn w (leaves w arena work) (λ b. run e calls (b ∷ hand))
 run e (merge i j arena ∷ calls) hand =
@@ -52,7 +52,7 @@ run e (merge i j arena ∷ calls) hand =
       | none ↦ []
       | some first ↦ elim (pull j (first .1)) [
         | none ↦ []
-        | some second ↦ let w = merged (first .0) (second .0) (numberOf e) (length arena) in goOn w (leaves w arena []) (λ b. run e calls (b ∷ second .1))
+        | some second ↦ let w = merged (first .0) (second .0) (equivalenceNumber e) (length arena) in goOn w (leaves w arena []) (λ b. run e calls (b ∷ second .1))
       ]
     ]
 
@@ -121,15 +121,15 @@ abbrev pub Final : ℕ → CountingType → Left → Type 0
 Final n t l = (l .outcome ≡ accepted (size t)) × (l .arena ≡ encode t ++ zeros (n - length (encode t)))
 
 -- a refused call: 10 only where the profile passes the limit, 11 only where it has too many records; the arena is zero
-abbrev pub Refusal : ℕ → CountingType → Left → Type 0
-Refusal n t l =
+abbrev pub RefusedCall : ℕ → CountingType → Left → Type 0
+RefusedCall n t l =
     (((l .outcome ≡ refused 10 0) × (withinLimit t ≡ false)) ⊎ ((l .outcome ≡ refused 11 0) × (n < typeSize * size t)))
     × (l .arena ≡ zeros n)
 
 -- every call but the last is accepted, and so is the last, or else it is refused, as the profile of all the messages says
 abbrev pub Ends : ℕ → CountingType → List Left → Type 0
 Ends n t [] = ⊥
-Ends n t (l ∷ []) = (WithinLimits n t × Final n t l) ⊎ ((¬ WithinLimits n t) × Refusal n t l)
+Ends n t (l ∷ []) = (WithinLimits n t × Final n t l) ⊎ ((¬ WithinLimits n t) × RefusedCall n t l)
 Ends n t (l ∷ (m ∷ ls)) = (l .outcome .number ≡ 0) × Ends n t (m ∷ ls)
 
 abbrev pub WorkZero : List Left → Type 0

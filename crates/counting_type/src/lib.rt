@@ -26,9 +26,10 @@ ghost use Rattle.counting_theory.specs.Raw.{profileOf};
 ghost use Rattle.counting_theory.specs.Encoding.{typeOf};
 ghost use Rattle.counting_theory.specs.WellFormed.{badTypeLength, IsType};
 ghost use Rattle.counting_theory.specs.Answers.{judgedType, leaves, stored, inferred, inferredDefault, merged, mergedTypes};
-ghost use Rattle.type_arena.specs.Inside.Arena.{under};
+ghost use Rattle.type_arena.specs.Inside.Arena.{byFlag};
 ghost use Rattle.inference.specs.Inside.Inferring.{AcceptedTable};
-ghost use Rattle.answers.specs.Outcomes.{outcomeOf, leftBy, Front};
+ghost use Rattle.answers.specs.Outcomes.{outcomeOf, leftBy};
+ghost use Rattle.answers.specs.Inside.Front.{WrittenInFront};
 
 // The equivalence of call 3: kind.
 const HOUSE_DEFAULT: u64 = 0;
@@ -49,7 +50,7 @@ fn bad_buffers(table: usize, arena: usize, work: usize) -> bool
 // The type of an accepted table's messages, in the front of the arena.
 fn infer_checked(table: &[u8], label: bool, arena: &mut [u8], work: &mut [u8]) -> Answered
     requires { ⌜ AcceptedTable (now table) × (length (now arena) ≤ maxLength) × (length (now arena) ≤ length (now work)) ⌝ }
-    ensures { λ r. ⌜ Front (stored (length (now (arena .entry))) (profileOf (under label) (messages (now (table .entry))))) r (now (arena .exit)) ⌝ }
+    ensures { λ r. ⌜ WrittenInFront (stored (length (now (arena .entry))) (profileOf (byFlag label) (messages (now (table .entry))))) r (now (arena .exit)) ⌝ }
 {
     match add_messages(arena, table, label, work) {
         Inferred::Records(n) => Answered::Accepted(n),
@@ -59,7 +60,8 @@ fn infer_checked(table: &[u8], label: bool, arena: &mut [u8], work: &mut [u8]) -
 
 // The same for any inputs.
 fn infer_front(table: &[u8], equivalence: u64, arena: &mut [u8], work: &mut [u8]) -> Answered
-    ensures { λ r. ⌜ Front (inferred (now (table .entry)) equivalence (length (now (arena .entry))) (length (now (work .entry)))) r (now (arena .exit)) ⌝ }
+    ensures { λ r. ⌜ WrittenInFront (inferred (now (table .entry)) equivalence (length (now (arena .entry))) (length (now (work .entry)))) r
+        (now (arena .exit)) ⌝ }
 {
     if bad_buffers(table.len(), arena.len(), work.len()) {
         return Answered::Refused(Refusal::Length, 0);
@@ -75,7 +77,9 @@ fn infer_front(table: &[u8], equivalence: u64, arena: &mut [u8], work: &mut [u8]
 
 // Call 2: infers the type of a table's messages under an equivalence into the arena, with a working buffer of the same length.
 pub fn infer(table: &[u8], equivalence: u64, arena: &mut [u8], work: &mut [u8]) -> Answered
-    ensures { λ r. ⌜ leftBy r (now (arena .exit)) (now (work .exit)) ≡ leaves (inferred (now (table .entry)) equivalence (length (now (arena .entry))) (length (now (work .entry)))) (now (arena .entry)) (now (work .entry)) ⌝ }
+    ensures { λ r. ⌜ leftBy r (now (arena .exit)) (now (work .exit))
+        ≡ leaves (inferred (now (table .entry)) equivalence (length (now (arena .entry))) (length (now (work .entry)))) (now (arena .entry))
+        (now (work .entry)) ⌝ }
 {
     let answered = infer_front(table, equivalence, arena, work);
     clear_from(arena, bytes_written(answered));
@@ -85,7 +89,8 @@ pub fn infer(table: &[u8], equivalence: u64, arena: &mut [u8], work: &mut [u8]) 
 
 // Call 3: the same under the house default.
 pub fn infer_default(table: &[u8], arena: &mut [u8], work: &mut [u8]) -> Answered
-    ensures { λ r. ⌜ leftBy r (now (arena .exit)) (now (work .exit)) ≡ leaves (inferredDefault (now (table .entry)) (length (now (arena .entry))) (length (now (work .entry)))) (now (arena .entry)) (now (work .entry)) ⌝ }
+    ensures { λ r. ⌜ leftBy r (now (arena .exit)) (now (work .exit))
+        ≡ leaves (inferredDefault (now (table .entry)) (length (now (arena .entry))) (length (now (work .entry)))) (now (arena .entry)) (now (work .entry)) ⌝ }
 {
     infer(table, HOUSE_DEFAULT, arena, work)
 }
@@ -121,9 +126,11 @@ fn bad_lengths(first: usize, second: usize, arena: usize) -> bool
 
 // The merge of two well-formed types, in the front of the arena.
 fn merge_checked(first: &[u8], second: &[u8], label: bool, arena: &mut [u8]) -> Answered
-    requires { ⌜ IsType (under label) (now first) (typeOf (under label) (now first)) ⌝ }
-    requires { ⌜ IsType (under label) (now second) (typeOf (under label) (now second)) ⌝ }
-    ensures { λ r. ⌜ Front (mergedTypes (reduce Counting (typeOf (under label) (now (first .entry))) (typeOf (under label) (now (second .entry)))) (length (now (arena .entry)))) r (now (arena .exit)) ⌝ }
+    requires { ⌜ IsType (byFlag label) (now first) (typeOf (byFlag label) (now first)) ⌝ }
+    requires { ⌜ IsType (byFlag label) (now second) (typeOf (byFlag label) (now second)) ⌝ }
+    ensures { λ r. ⌜ WrittenInFront
+        (mergedTypes (reduce Counting (typeOf (byFlag label) (now (first .entry))) (typeOf (byFlag label) (now (second .entry))))
+        (length (now (arena .entry)))) r (now (arena .exit)) ⌝ }
 {
     let merged = merge_types(first, second, label, arena);
     let n = merged.bytes;
@@ -138,7 +145,7 @@ fn merge_checked(first: &[u8], second: &[u8], label: bool, arena: &mut [u8]) -> 
 
 // The same for any inputs.
 fn merge_front(first: &[u8], second: &[u8], equivalence: u64, arena: &mut [u8]) -> Answered
-    ensures { λ r. ⌜ Front (merged (now (first .entry)) (now (second .entry)) equivalence (length (now (arena .entry)))) r (now (arena .exit)) ⌝ }
+    ensures { λ r. ⌜ WrittenInFront (merged (now (first .entry)) (now (second .entry)) equivalence (length (now (arena .entry)))) r (now (arena .exit)) ⌝ }
 {
     if bad_lengths(first.len(), second.len(), arena.len()) {
         return Answered::Refused(Refusal::Length, 0);
@@ -158,7 +165,8 @@ fn merge_front(first: &[u8], second: &[u8], equivalence: u64, arena: &mut [u8]) 
 
 // Call 5: merges a first and a second type under an equivalence into the arena. Both may be the same bytes.
 pub fn merge(first: &[u8], second: &[u8], equivalence: u64, arena: &mut [u8]) -> Answered
-    ensures { λ r. ⌜ leftBy r (now (arena .exit)) [] ≡ leaves (merged (now (first .entry)) (now (second .entry)) equivalence (length (now (arena .entry)))) (now (arena .entry)) [] ⌝ }
+    ensures { λ r. ⌜ leftBy r (now (arena .exit)) []
+        ≡ leaves (merged (now (first .entry)) (now (second .entry)) equivalence (length (now (arena .entry)))) (now (arena .entry)) [] ⌝ }
 {
     let answered = merge_front(first, second, equivalence, arena);
     clear_from(arena, bytes_written(answered));

@@ -24,7 +24,9 @@ pub extern "C" fn ct_infer(
     arena: &mut [u8],
     work: &mut [u8],
 ) -> Answer
-    ensures { λ r. ⌜ answerLeft r (now (arena .exit)) (now (work .exit)) ≡ leaves (inferred (now (table .entry)) equivalence (length (now (arena .entry))) (length (now (work .entry)))) (now (arena .entry)) (now (work .entry)) ⌝ }
+    ensures { λ r. ⌜ answerLeft r (now (arena .exit)) (now (work .exit))
+        ≡ leaves (inferred (now (table .entry)) equivalence (length (now (arena .entry))) (length (now (work .entry)))) (now (arena .entry))
+        (now (work .entry)) ⌝ }
 {
     answers::answer_of(counting_type::infer(table, equivalence, arena, work))
 }
@@ -32,7 +34,8 @@ pub extern "C" fn ct_infer(
 // Call 3: infers under the house default.
 #[no_mangle]
 pub extern "C" fn ct_infer_default(table: &[u8], arena: &mut [u8], work: &mut [u8]) -> Answer
-    ensures { λ r. ⌜ answerLeft r (now (arena .exit)) (now (work .exit)) ≡ leaves (inferredDefault (now (table .entry)) (length (now (arena .entry))) (length (now (work .entry)))) (now (arena .entry)) (now (work .entry)) ⌝ }
+    ensures { λ r. ⌜ answerLeft r (now (arena .exit)) (now (work .exit))
+        ≡ leaves (inferredDefault (now (table .entry)) (length (now (arena .entry))) (length (now (work .entry)))) (now (arena .entry)) (now (work .entry)) ⌝ }
 {
     answers::answer_of(counting_type::infer_default(table, arena, work))
 }
@@ -53,7 +56,8 @@ pub extern "C" fn ct_merge(
     equivalence: u64,
     arena: &mut [u8],
 ) -> Answer
-    ensures { λ r. ⌜ answerLeft r (now (arena .exit)) [] ≡ leaves (merged (now (first .entry)) (now (second .entry)) equivalence (length (now (arena .entry)))) (now (arena .entry)) [] ⌝ }
+    ensures { λ r. ⌜ answerLeft r (now (arena .exit)) []
+        ≡ leaves (merged (now (first .entry)) (now (second .entry)) equivalence (length (now (arena .entry)))) (now (arena .entry)) [] ⌝ }
 {
     answers::answer_of(counting_type::merge(first, second, equivalence, arena))
 }

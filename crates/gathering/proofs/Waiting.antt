@@ -2,6 +2,6 @@
 pub mod Slots
 pub mod SlotBytes
 pub mod Messages
-pub mod Turns
+pub mod GatherLoop
 pub mod Added
 pub mod Settled

@@ -23,8 +23,8 @@ ghost use Rattle.counting_theory.specs.Trie.{add};
 ghost use Rattle.counting_theory.specs.Label.{Counting, CountingType};
 ghost use Rattle.counting_theory.specs.Raw.{profileOf};
 ghost use Rattle.counting_theory.specs.Encoding.{typeSize};
-ghost use Rattle.type_arena.specs.Inside.Arena.{under};
-ghost use Rattle.inference.specs.Inside.Inferring.{AcceptedTable, Holds, HeldRun, Added};
+ghost use Rattle.type_arena.specs.Inside.Arena.{byFlag};
+ghost use Rattle.inference.specs.Inside.Inferring.{AcceptedTable, ArenaHolds, HeldRun, Added};
 ghost use Rattle.gathering.specs.Inside.Gathering.{slotsOf, slotRaw, SameMessage, Slot, Roomy, Gathering, GatheredTo};
 
 // How many records of a message are hashed.
@@ -84,10 +84,10 @@ fn add_waiting(
     label: bool,
     work: &mut [u8],
 ) -> Inferred
-    requires { ⌜ HeldRun (under label) false (now a) m 0 × Slot (now t) (records (now t)) slot × (length (now t) ≤ maxLength) ×
+    requires { ⌜ HeldRun (byFlag label) false (now a) m 0 × Slot (now t) (records (now t)) slot × (length (now t) ≤ maxLength) ×
         (length (now a) ≤ length (now work)) ⌝ }
-    ensures { λ r. ⌜ ((f : CountingType) (free : List ℕ) → Holds (under label) false (now (a .entry)) m 0 f [] free →
-        Added (add Counting (slotRaw (under label) (now (t .entry)) slot) f) [] 0 r (now (a .exit))) ×
+    ensures { λ r. ⌜ ((f : CountingType) (free : List ℕ) → ArenaHolds (byFlag label) false (now (a .entry)) m 0 f [] free →
+        Added (add Counting (slotRaw (byFlag label) (now (t .entry)) slot) f) [] 0 r (now (a .exit))) ×
         ((n : ℕ) → slotsOf n (now (work .exit)) ≡ slotsOf n (now (work .entry))) ⌝ }
 {
     if slot < ONE {
@@ -119,9 +119,9 @@ fn take_message(
     label: bool,
     work: &mut [u8],
 ) -> Inferred
-    requires { ⌜ Gathering (under label) (now t) (now a) m i (slotsOf slots (now work)) × (recordSize * i < length (now t)) ×
+    requires { ⌜ Gathering (byFlag label) (now t) (now a) m i (slotsOf slots (now work)) × (recordSize * i < length (now t)) ×
         (length (now t) ≤ maxLength) × Roomy slots (now a) (now work) ⌝ }
-    ensures { λ r. ⌜ GatheredTo (under label) (now (t .entry)) (i + spanAt (now (t .entry)) i) r (now (a .exit)) (slotsOf slots (now (work .exit))) ⌝ }
+    ensures { λ r. ⌜ GatheredTo (byFlag label) (now (t .entry)) (i + spanAt (now (t .entry)) i) r (now (a .exit)) (slotsOf slots (now (work .exit))) ⌝ }
 {
     let k = slot_of(t, i, i + first_records(span_at(t, i)), slots);
     let slot = read_slot(work, k);
@@ -136,7 +136,7 @@ fn take_message(
 // Takes all messages of a table into slots.
 fn gather(a: &mut [u8], t: &[u8], slots: usize, label: bool, work: &mut [u8]) -> Inferred
     requires { ⌜ AcceptedTable (now t) × (length (now a) ≤ maxLength) × Roomy slots (now a) (now work) × (slotsOf slots (now work) ≡ replicate slots 0) ⌝ }
-    ensures { λ r. ⌜ GatheredTo (under label) (now (t .entry)) (records (now (t .entry))) r (now (a .exit)) (slotsOf slots (now (work .exit))) ⌝ }
+    ensures { λ r. ⌜ GatheredTo (byFlag label) (now (t .entry)) (records (now (t .entry))) r (now (a .exit)) (slotsOf slots (now (work .exit))) ⌝ }
 {
     let end = t.len() / record::SIZE;
     let mut m = 0;
@@ -153,9 +153,9 @@ fn gather(a: &mut [u8], t: &[u8], slots: usize, label: bool, work: &mut [u8]) ->
 
 // Adds what waits in all slots.
 fn settle(a: &mut [u8], m: usize, t: &[u8], slots: usize, label: bool, work: &mut [u8]) -> Inferred
-    requires { ⌜ AcceptedTable (now t) × Gathering (under label) (now t) (now a) m (records (now t)) (slotsOf slots (now work)) ×
+    requires { ⌜ AcceptedTable (now t) × Gathering (byFlag label) (now t) (now a) m (records (now t)) (slotsOf slots (now work)) ×
         Roomy slots (now a) (now work) ⌝ }
-    ensures { λ r. ⌜ Added (profileOf (under label) (messages (now (t .entry)))) [] 0 r (now (a .exit)) ⌝ }
+    ensures { λ r. ⌜ Added (profileOf (byFlag label) (messages (now (t .entry)))) [] 0 r (now (a .exit)) ⌝ }
 {
     let mut n = m;
     let mut k = 0;
@@ -182,7 +182,7 @@ fn slots_for(arena: usize, table: usize) -> usize
 // Adds the messages of an accepted table to an empty arena. Without slots they are added one by one.
 pub fn add_messages(a: &mut [u8], t: &[u8], label: bool, work: &mut [u8]) -> Inferred
     requires { ⌜ AcceptedTable (now t) × (length (now a) ≤ maxLength) × (length (now a) ≤ length (now work)) ⌝ }
-    ensures { λ r. ⌜ Added (profileOf (under label) (messages (now (t .entry)))) [] 0 r (now (a .exit)) ⌝ }
+    ensures { λ r. ⌜ Added (profileOf (byFlag label) (messages (now (t .entry)))) [] 0 r (now (a .exit)) ⌝ }
 {
     let slots = slots_for(a.len(), t.len());
     if slots == 0 {

@@ -13,8 +13,8 @@ pub mod Splits
 pub mod Placing
 pub mod Material
 pub mod Items
-pub mod Steps
+pub mod AddItem
 pub mod Repeats
-pub mod Turns
+pub mod RunLoop
 pub mod Scalars
-pub mod Whole
+pub mod TableRun

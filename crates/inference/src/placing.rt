@@ -16,9 +16,9 @@ ghost use lib.ListN.{length};
 ghost use Rattle.value_table.specs.Value.{recordKind, Values};
 ghost use Rattle.counting_theory.specs.Trie.{size};
 ghost use Rattle.counting_theory.specs.Label.{CountingType};
-ghost use Rattle.type_arena.specs.Inside.Arena.{under};
+ghost use Rattle.type_arena.specs.Inside.Arena.{byFlag};
 ghost use Rattle.type_arena.specs.Inside.Payload.{payloadOf, itemPayload};
-ghost use Rattle.inference.specs.Inside.Inferring.{keysPerRecord, TableRun, SomeRun, wanted, Holds, Starts, HeldFrom, split, CountedWithin, PlacedAt, labelFor, withItem};
+ghost use Rattle.inference.specs.Inside.Inferring.{keySize, keysPerRecord, TableRun, SomeRun, wanted, ArenaHolds, Starts, HeldFrom, split, CountedWithin, PlacedAt, labelFor, withItem};
 
 // The record where a label stands, and the number of records of its siblings; or that there is no room.
 pub enum Put {
@@ -39,9 +39,9 @@ fn place(
     keys: usize,
     label: bool,
 ) -> Put
-    requires { ⌜ HeldFrom (under label) (now a) n rest from × (2 * keys ≤ length (now work)) ⌝ }
-    ensures { λ r. ⌜ ((field : Bool) (f : CountingType) (q free : List ℕ) → Holds (under label) field (now (a .entry)) n rest f q free → Starts from f →
-        PlacedAt (wanted (under label) kind key keys (now (work .entry))) (payloadOf more) f q rest r (now (a .exit))) ⌝ }
+    requires { ⌜ HeldFrom (byFlag label) (now a) n rest from × (keySize * keys ≤ length (now work)) ⌝ }
+    ensures { λ r. ⌜ ((field : Bool) (f : CountingType) (q free : List ℕ) → ArenaHolds (byFlag label) field (now (a .entry)) n rest f q free → Starts from f →
+        PlacedAt (wanted (byFlag label) kind key keys (now (work .entry))) (payloadOf more) f q rest r (now (a .exit))) ⌝ }
 {
     match search(a, from, n, kind, key, work, keys, label) {
         Found::Here(p) => {
@@ -73,12 +73,12 @@ pub fn locate(
     label: bool,
     work: &mut [u8],
 ) -> Put
-    requires { ⌜ HeldFrom (under label) (now a) n rest from × SomeRun (eqb kind recordKind) (now t) ×
+    requires { ⌜ HeldFrom (byFlag label) (now a) n rest from × SomeRun (eqb kind recordKind) (now t) ×
         (length (now a) ≤ keysPerRecord * length (now work)) × (1 ≤ weight) ⌝ }
     ensures { λ r. ⌜ ((field : Bool) (f : CountingType) (q free : List ℕ) (vs : Values) →
-        Holds (under label) field (now (a .entry)) n rest f q free → Starts from f → TableRun (eqb kind recordKind) (now (t .entry)) vs →
-        CountedWithin (size (withItem (under label) kind key weight vs f) + rest) (split (labelFor (under label) kind key vs) f)
-        (labelFor (under label) kind key vs) (itemPayload weight kind vs) q r (now (a .exit))) ⌝ }
+        ArenaHolds (byFlag label) field (now (a .entry)) n rest f q free → Starts from f → TableRun (eqb kind recordKind) (now (t .entry)) vs →
+        CountedWithin (size (withItem (byFlag label) kind key weight vs f) + rest) (split (labelFor (byFlag label) kind key vs) f)
+        (labelFor (byFlag label) kind key vs) (itemPayload weight kind vs) q r (now (a .exit))) ⌝ }
 {
     match list_label(t, kind, label, work) {
         Listed::TooMany => Put::NoRoom,

@@ -16,9 +16,9 @@ ghost use lib.ListN.{length};
 ghost use Rattle.value_table.specs.Value.{lastScalar, Values};
 ghost use Rattle.counting_theory.specs.Label.{fieldKind, CountingType};
 ghost use Rattle.counting_theory.specs.Encoding.{typeSize};
-ghost use Rattle.type_arena.specs.Inside.Arena.{under, InTable};
-ghost use Rattle.inference.specs.Inside.Inferring.{Holds, Starts, StandsAt, spot};
-ghost use Rattle.inference.specs.Inside.ScalarFields.{Ran, SomeRan, plain, SomeFrom, SomeField, fieldStart, SoughtIn, withScalar, ScalarCounted, FieldCounted};
+ghost use Rattle.type_arena.specs.Inside.Arena.{byFlag, RecordIn};
+ghost use Rattle.inference.specs.Inside.Inferring.{ArenaHolds, Starts, StandsAt, spot};
+ghost use Rattle.inference.specs.Inside.ScalarFields.{AddedSoFar, SomeAddedSoFar, plain, SomeFrom, SomeField, fieldStart, SoughtIn, withScalar, ScalarCounted, FieldCounted};
 
 // Where a field stands; or a field from which a search for it may begin.
 pub enum Sought {
@@ -34,7 +34,7 @@ pub struct Progress {
 
 // Where a search for a key may begin: at `from`, if no larger key stands there.
 fn field_start(b: &[u8], from: usize, n: usize, key: usize) -> usize
-    requires { ⌜ (from < n → InTable (now b) from) ⌝ }
+    requires { ⌜ (from < n → RecordIn (now b) from) ⌝ }
     ensures { λ r. ⌜ r ≡ fieldStart (now (b .entry)) from n key ⌝ }
 {
     if n <= from {
@@ -50,7 +50,7 @@ fn field_start(b: &[u8], from: usize, n: usize, key: usize) -> usize
 fn seek_field(b: &[u8], from: usize, n: usize, key: usize) -> Sought
     requires { ⌜ SomeFrom true (now b) n from ⌝ }
     ensures { λ r. ⌜ ((label : Bool) (rest : ℕ) (f : CountingType) (q free : List ℕ) →
-        Holds (under label) true (now (b .entry)) n rest f q free → Starts from f → SoughtIn (plain (under label) fieldKind key) f r) ⌝ }
+        ArenaHolds (byFlag label) true (now (b .entry)) n rest f q free → Starts from f → SoughtIn (plain (byFlag label) fieldKind key) f r) ⌝ }
 {
     let mut at = field_start(b, from, n, key);
     let mut before = at;
@@ -72,7 +72,7 @@ fn seek_field(b: &[u8], from: usize, n: usize, key: usize) -> Sought
 fn find_field(b: &[u8], from: usize, n: usize, key: usize) -> Sought
     requires { ⌜ SomeFrom true (now b) n from ⌝ }
     ensures { λ r. ⌜ ((label : Bool) (rest : ℕ) (f : CountingType) (q free : List ℕ) →
-        Holds (under label) true (now (b .entry)) n rest f q free → Starts from f → SoughtIn (plain (under label) fieldKind key) f r) ⌝ }
+        ArenaHolds (byFlag label) true (now (b .entry)) n rest f q free → Starts from f → SoughtIn (plain (byFlag label) fieldKind key) f r) ⌝ }
 {
     if from < n {
         if key == key_at(b, from) {
@@ -85,8 +85,8 @@ fn find_field(b: &[u8], from: usize, n: usize, key: usize) -> Sought
 // Where a scalar stands, or would, among n records of a union.
 fn find_scalar(b: &[u8], n: usize, kind: u8) -> Found
     requires { ⌜ SomeFrom false (now b) n 0 × (kind ≤ lastScalar) ⌝ }
-    ensures { λ r. ⌜ ((label : Bool) (rest : ℕ) (f : CountingType) (q free : List ℕ) → Holds (under label) false (now (b .entry)) n rest f q free →
-        r ≡ spot (plain (under label) kind 0) 0 f) ⌝ }
+    ensures { λ r. ⌜ ((label : Bool) (rest : ℕ) (f : CountingType) (q free : List ℕ) → ArenaHolds (byFlag label) false (now (b .entry)) n rest f q free →
+        r ≡ spot (plain (byFlag label) kind 0) 0 f) ⌝ }
 {
     let mut at = 0;
     while at < n {
@@ -105,9 +105,9 @@ fn find_scalar(b: &[u8], n: usize, kind: u8) -> Found
 // Counts a scalar in the field at record p, if its union has it.
 fn count_scalar(a: &mut [u8], p: usize, kind: u8, weight: usize) -> bool
     requires { ⌜ SomeField (now a) p × (kind ≤ lastScalar) ⌝ }
-    ensures { λ r. ⌜ ((label : Bool) (n rest key : ℕ) (f : CountingType) (q free : List ℕ) → Holds (under label) true (now (a .entry)) n rest f q free →
-        StandsAt (plain (under label) fieldKind key) f p →
-        ScalarCounted (withScalar (under label) key kind weight f) q n (now (a .entry)) r (now (a .exit))) ⌝ }
+    ensures { λ r. ⌜ ((label : Bool) (n rest key : ℕ) (f : CountingType) (q free : List ℕ) → ArenaHolds (byFlag label) true (now (a .entry)) n rest f q free →
+        StandsAt (plain (byFlag label) fieldKind key) f p →
+        ScalarCounted (withScalar (byFlag label) key kind weight f) q n (now (a .entry)) r (now (a .exit))) ⌝ }
 {
     let inner = type_record::SIZE * p + type_record::SIZE;
     let held = span_at(a, p) - 1;
@@ -123,8 +123,8 @@ fn count_scalar(a: &mut [u8], p: usize, kind: u8, weight: usize) -> bool
 fn count_field(a: &mut [u8], from: usize, n: usize, kind: u8, key: usize, weight: usize) -> Sought
     requires { ⌜ SomeFrom true (now a) n from × (kind ≤ lastScalar) ⌝ }
     ensures { λ r. ⌜ ((label : Bool) (rest : ℕ) (f : CountingType) (q free : List ℕ) →
-        Holds (under label) true (now (a .entry)) n rest f q free → Starts from f →
-        FieldCounted (under label) key kind weight f q n (now (a .entry)) r (now (a .exit))) ⌝ }
+        ArenaHolds (byFlag label) true (now (a .entry)) n rest f q free → Starts from f →
+        FieldCounted (byFlag label) key kind weight f q n (now (a .entry)) r (now (a .exit))) ⌝ }
 {
     match find_field(a, from, n, key) {
         Sought::Behind(p) => Sought::Behind(p),
@@ -139,10 +139,10 @@ fn count_field(a: &mut [u8], from: usize, n: usize, kind: u8, key: usize, weight
 
 // Counts the fields of a run from record i on, `weight` times, up to the first that does not stand there with its scalar.
 fn count_fields(a: &mut [u8], from: usize, n: usize, t: &[u8], i: usize, weight: usize) -> Progress
-    requires { ⌜ SomeRan true weight (now a) (now t) n i from ⌝ }
+    requires { ⌜ SomeAddedSoFar true weight (now a) (now t) n i from ⌝ }
     ensures { λ r. ⌜ (i ≤ r .next) × ((label : Bool) (vs : Values) (f : CountingType) (q : List ℕ) (rest : ℕ) → length q ≡ typeSize * rest →
-        Ran (under label) true weight vs f q (now (a .entry)) (now (t .entry)) n i from →
-        Ran (under label) true weight vs f q (now (a .exit)) (now (t .entry)) n (r .next) (r .from)) ⌝ }
+        AddedSoFar (byFlag label) true weight vs f q (now (a .entry)) (now (t .entry)) n i from →
+        AddedSoFar (byFlag label) true weight vs f q (now (a .exit)) (now (t .entry)) n (r .next) (r .from)) ⌝ }
 {
     let end = t.len() / record::SIZE;
     let mut next = i;
@@ -184,10 +184,10 @@ pub fn count_standing(
     weight: usize,
     field: bool,
 ) -> Progress
-    requires { ⌜ SomeRan field weight (now a) (now t) n i from ⌝ }
+    requires { ⌜ SomeAddedSoFar field weight (now a) (now t) n i from ⌝ }
     ensures { λ r. ⌜ (i ≤ r .next) × ((label : Bool) (vs : Values) (f : CountingType) (q : List ℕ) (rest : ℕ) → length q ≡ typeSize * rest →
-        Ran (under label) field weight vs f q (now (a .entry)) (now (t .entry)) n i from →
-        Ran (under label) field weight vs f q (now (a .exit)) (now (t .entry)) n (r .next) (r .from)) ⌝ }
+        AddedSoFar (byFlag label) field weight vs f q (now (a .entry)) (now (t .entry)) n i from →
+        AddedSoFar (byFlag label) field weight vs f q (now (a .exit)) (now (t .entry)) n (r .next) (r .from)) ⌝ }
 {
     if !field {
         return Progress {

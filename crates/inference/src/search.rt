@@ -1,4 +1,5 @@
 // The search for a label among siblings in an arena. The key list of the label stands in the working buffer.
+use crate::key_list::KEY_SIZE;
 use byte_records::little_endian::number16;
 use type_arena::label_order::Order;
 use type_arena::type_record::key_at;
@@ -12,9 +13,9 @@ ghost use Prim.Native.Nat.{ℕ, _*_, _≤_};
 ghost use lib.Dec.{ltb};
 ghost use lib.ListN.{length};
 ghost use Rattle.counting_theory.specs.Label.{compareKeys, compareLabel, CountingType};
-ghost use Rattle.type_arena.specs.Inside.Arena.{under, keysIn, labelAt, InTable, FieldsInside, Labelled};
+ghost use Rattle.type_arena.specs.Inside.Arena.{byFlag, keysIn, labelAt, RecordIn, FieldsInside, Labelled};
 ghost use Rattle.type_arena.specs.Inside.LabelOrder.{orderingOf};
-ghost use Rattle.inference.specs.Inside.Inferring.{keysOf, wanted, spot, Holds, Starts, resumed, Shown};
+ghost use Rattle.inference.specs.Inside.Inferring.{keySize, keysOf, wanted, spot, ArenaHolds, Starts, resumed, Shown};
 
 // Where a label stands among siblings, or would.
 pub enum Found {
@@ -24,7 +25,7 @@ pub enum Found {
 
 // The first n keys of the working buffer against the key list of the record at p: the first key that differs settles it.
 fn compare_keys(b: &[u8], p: usize, work: &[u8], n: usize) -> Order
-    requires { ⌜ FieldsInside (now b) p × (2 * n ≤ length (now work)) ⌝ }
+    requires { ⌜ FieldsInside (now b) p × (keySize * n ≤ length (now work)) ⌝ }
     ensures { λ r. ⌜ orderingOf r ≡ compareKeys (keysOf n (now (work .entry))) (keysIn (now (b .entry)) p) ⌝ }
 {
     let end = p + span_at(b, p);
@@ -40,7 +41,7 @@ fn compare_keys(b: &[u8], p: usize, work: &[u8], n: usize) -> Order
         if j == end {
             break Order::More;
         }
-        let k = number16(work, 2 * i);
+        let k = number16(work, KEY_SIZE * i);
         let m = key_at(b, j);
         if k < m {
             break Order::Less;
@@ -64,8 +65,8 @@ fn compare_label(
     n: usize,
     label: bool,
 ) -> Order
-    requires { ⌜ Labelled (now b) p × (2 * n ≤ length (now work)) ⌝ }
-    ensures { λ r. ⌜ orderingOf r ≡ compareLabel (wanted (under label) kind key n (now (work .entry))) (labelAt (under label) (now (b .entry)) p) ⌝ }
+    requires { ⌜ Labelled (now b) p × (keySize * n ≤ length (now work)) ⌝ }
+    ensures { λ r. ⌜ orderingOf r ≡ compareLabel (wanted (byFlag label) kind key n (now (work .entry))) (labelAt (byFlag label) (now (b .entry)) p) ⌝ }
 {
     let other_kind = kind_at(b, p);
     if kind < other_kind {
@@ -100,7 +101,7 @@ fn search_start(from: usize, n: usize) -> usize
 // Where the search for the next label may begin, after one was found at record p of n records of siblings: there, or behind it among
 // fields, since their keys differ, if a sibling is there.
 pub fn resume_at(b: &[u8], p: usize, n: usize, field: bool) -> usize
-    requires { ⌜ InTable (now b) p ⌝ }
+    requires { ⌜ RecordIn (now b) p ⌝ }
     ensures { λ r. ⌜ r ≡ resumed field (now (b .entry)) p n ⌝ }
 {
     if !field {
@@ -122,9 +123,10 @@ pub fn search(
     keys: usize,
     label: bool,
 ) -> Found
-    requires { ⌜ Shown (under label) (now b) n from × (2 * keys ≤ length (now work)) ⌝ }
-    ensures { λ r. ⌜ ((field : Bool) (rest : ℕ) (f : CountingType) (q free : List ℕ) → Holds (under label) field (now (b .entry)) n rest f q free → Starts from f →
-        r ≡ spot (wanted (under label) kind key keys (now (work .entry))) 0 f) ⌝ }
+    requires { ⌜ Shown (byFlag label) (now b) n from × (keySize * keys ≤ length (now work)) ⌝ }
+    ensures { λ r. ⌜ ((field : Bool) (rest : ℕ) (f : CountingType) (q free : List ℕ) → ArenaHolds (byFlag label) field (now (b .entry)) n rest f q free →
+        Starts from f →
+        r ≡ spot (wanted (byFlag label) kind key keys (now (work .entry))) 0 f) ⌝ }
 {
     let mut at = search_start(from, n);
     let mut resumed = 0 < at;

@@ -1,4 +1,4 @@
 -- The merge on bytes.
 pub mod Part
-pub mod Steps
-pub mod Turns
+pub mod OneAddend
+pub mod MergeLoop

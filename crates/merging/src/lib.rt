@@ -27,9 +27,9 @@ ghost use Rattle.counting_theory.specs.Trie.{reduce, total};
 ghost use Rattle.counting_theory.specs.Label.{Counting};
 ghost use Rattle.counting_theory.specs.Encoding.{typeKind, encode, typeOf};
 ghost use Rattle.counting_theory.specs.WellFormed.{maxTotal, withinLimit, IsType};
-ghost use Rattle.type_arena.specs.Inside.Arena.{under};
+ghost use Rattle.type_arena.specs.Inside.Arena.{byFlag};
 ghost use Rattle.type_arena.specs.Inside.Addend.{Headed};
-ghost use Rattle.merging.specs.Inside.Merging.{Part, Kept, Ran, Stored, Joined};
+ghost use Rattle.merging.specs.Inside.Merging.{Part, Kept, MergedSoFar, MergeStored, Joined};
 
 // How many bytes a merge has, and whether a union in it totals above the limit.
 pub struct Merged {
@@ -50,7 +50,8 @@ fn either(a: bool, b: bool) -> bool
 // Whether the merge of two unions totals above the limit; fields have no total.
 fn total_over(a: &[u8], b: &[u8], level: Level) -> bool
     requires { ⌜ Part level (now a) × Part level (now b) ⌝ }
-    ensures { λ r. ⌜ r ≡ ltb maxTotal (total Counting (typeOf (under (level .label)) (now (a .entry))) + total Counting (typeOf (under (level .label)) (now (b .entry)))) ⌝ }
+    ensures { λ r. ⌜ r
+        ≡ ltb maxTotal (total Counting (typeOf (byFlag (level .label)) (now (a .entry))) + total Counting (typeOf (byFlag (level .label)) (now (b .entry)))) ⌝ }
 {
     if level.field {
         return false;
@@ -61,7 +62,8 @@ fn total_over(a: &[u8], b: &[u8], level: Level) -> bool
 // Stores src from `at` on, and moves `at` past it.
 fn append(src: &[u8], out: &mut [u8], at: &mut usize)
     requires { ⌜ now at + length (now src) < 2 ^ 64 ⌝ }
-    ensures { λ _. ⌜ (now (out .exit) ≡ sets (now (out .entry)) (now (at .entry)) (now (src .entry))) × (now (at .exit) ≡ now (at .entry) + length (now (src .entry))) ⌝ }
+    ensures { λ _. ⌜ (now (out .exit) ≡ sets (now (out .entry)) (now (at .entry)) (now (src .entry)))
+        × (now (at .exit) ≡ now (at .entry) + length (now (src .entry))) ⌝ }
 {
     put_bytes(src, out, *at);
     *at = *at + src.len();
@@ -87,7 +89,8 @@ fn merge_run<'a>(
 ) -> &'a [u8]
     requires { ⌜ Part level (now first) × Part level (now second) ⌝ }
     requires { ⌜ now at + length (now first) + length (now second) < 2 ^ 64 ⌝ }
-    ensures { λ r. ⌜ Ran (under (level .label)) (now (first .entry)) (now (second .entry)) (now (out .entry)) (now (at .entry)) (now (over .entry)) (now r) (now (out .exit)) (now (at .exit)) (now (over .exit)) ⌝ }
+    ensures { λ r. ⌜ MergedSoFar (byFlag (level .label)) (now (first .entry)) (now (second .entry)) (now (out .entry)) (now (at .entry)) (now (over .entry))
+        (now r) (now (out .exit)) (now (at .exit)) (now (over .exit)) ⌝ }
 {
     let mut x = first;
     let mut y = second;
@@ -122,7 +125,7 @@ fn merge_addend(x: &[u8], y: &[u8], out: &mut [u8], at: &mut usize, over: &mut b
     requires { ⌜ Part level (now x) × (0 < length (now x)) ⌝ }
     requires { ⌜ Part level (now y) × (0 < length (now y)) × (typeKind (now x) 0 ≡ typeKind (now y) 0) ⌝ }
     requires { ⌜ now at + length (now x) + length (now y) < 2 ^ 64 ⌝ }
-    ensures { λ _. ⌜ Joined (under (level .label)) (now (x .entry)) (now (y .entry)) (now (out .entry)) (now (at .entry)) (now (over .entry))
+    ensures { λ _. ⌜ Joined (byFlag (level .label)) (now (x .entry)) (now (y .entry)) (now (out .entry)) (now (at .entry)) (now (over .entry))
         (now (out .exit)) (now (at .exit)) (now (over .exit)) ⌝ }
 {
     let kind = kind_at(x, 0);
@@ -139,7 +142,7 @@ fn merge_addend(x: &[u8], y: &[u8], out: &mut [u8], at: &mut usize, over: &mut b
 fn merge_union(a: &[u8], b: &[u8], out: &mut [u8], at: usize, level: Level) -> Merged
     requires { ⌜ Part level (now a) × Part level (now b) ⌝ }
     requires { ⌜ at + length (now a) + length (now b) < 2 ^ 64 ⌝ }
-    ensures { λ r. ⌜ Stored (under (level .label)) (now (a .entry)) (now (b .entry)) (now (out .entry)) at (now (out .exit)) (r .bytes) (r .over) ⌝ }
+    ensures { λ r. ⌜ MergeStored (byFlag (level .label)) (now (a .entry)) (now (b .entry)) (now (out .entry)) at (now (out .exit)) (r .bytes) (r .over) ⌝ }
 {
     if b.len() == 0 {
         put_bytes(a, out, at);
@@ -160,11 +163,13 @@ fn merge_union(a: &[u8], b: &[u8], out: &mut [u8], at: usize, level: Level) -> M
 
 // Merges two well-formed types into the arena as far as there is room.
 pub fn merge_types(first: &[u8], second: &[u8], label: bool, arena: &mut [u8]) -> Merged
-    requires { ⌜ IsType (under label) (now first) (typeOf (under label) (now first)) ⌝ }
-    requires { ⌜ IsType (under label) (now second) (typeOf (under label) (now second)) ⌝ }
-    ensures { λ r. ⌜ now (arena .exit) ≡ sets (now (arena .entry)) 0 (encode (reduce Counting (typeOf (under label) (now (first .entry))) (typeOf (under label) (now (second .entry))))) ⌝ }
-    ensures { λ r. ⌜ r .bytes ≡ length (encode (reduce Counting (typeOf (under label) (now (first .entry))) (typeOf (under label) (now (second .entry))))) ⌝ }
-    ensures { λ r. ⌜ r .over ≡ not (withinLimit (reduce Counting (typeOf (under label) (now (first .entry))) (typeOf (under label) (now (second .entry))))) ⌝ }
+    requires { ⌜ IsType (byFlag label) (now first) (typeOf (byFlag label) (now first)) ⌝ }
+    requires { ⌜ IsType (byFlag label) (now second) (typeOf (byFlag label) (now second)) ⌝ }
+    ensures { λ r. ⌜ now (arena .exit)
+        ≡ sets (now (arena .entry)) 0 (encode (reduce Counting (typeOf (byFlag label) (now (first .entry))) (typeOf (byFlag label) (now (second .entry))))) ⌝ }
+    ensures { λ r. ⌜ r .bytes ≡ length (encode (reduce Counting (typeOf (byFlag label) (now (first .entry))) (typeOf (byFlag label) (now (second .entry))))) ⌝ }
+    ensures { λ r. ⌜ r .over
+        ≡ not (withinLimit (reduce Counting (typeOf (byFlag label) (now (first .entry))) (typeOf (byFlag label) (now (second .entry))))) ⌝ }
 {
     let level = Level {
         left: record::MAX_DEPTH,

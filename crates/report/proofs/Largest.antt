@@ -9,7 +9,7 @@ use Rattle.counting_theory.specs.Label.{Equivalence, CountingType}
 use Rattle.counting_theory.specs.Encoding.{typeSpan}
 use Rattle.counting_theory.specs.Inside.TypeBytes.{typeCount}
 use Rattle.counting_theory.specs.WellFormed.{maxTotal}
-use Rattle.counting_theory.proofs.WellFormed.Holds.{Holds, holds-first}
+use Rattle.counting_theory.proofs.WellFormed.RecordsHold.{RecordsHold, holds-first}
 use Rattle.report.specs.Report.{largestCount}
 use Rattle.report.specs.Inside.Walk.{largestFrom, Shares}
 
@@ -26,7 +26,7 @@ max-assoc : (x y z : ℕ) → max (max x y) z ≡ max x (max y z)
 max-assoc x y z = omega arith
 
 -- the records of f, and k more
-largest-run : (e : Equivalence) (b : List ℕ) (i end : ℕ) (field : Bool) (depth : ℕ) (f : CountingType) (k : ℕ) → Holds e b i end field depth f →
+largest-run : (e : Equivalence) (b : List ℕ) (i end : ℕ) (field : Bool) (depth : ℕ) (f : CountingType) (k : ℕ) → RecordsHold e b i end field depth f →
     largestFrom b (size f + k) i ≡ max (largestCount f) (largestFrom b k end)
 unfolding largestFrom largestCount size
 largest-run e b i end field depth nil k h =
@@ -39,7 +39,7 @@ largest-run e b i end field depth (node l a c s) k h =
     rw (o, x .is-node .count-is, largest-run e b (i + 1) (i + typeSpan b i) _ _ c (size s + k) (x .in-children), largest-run e b (i + typeSpan b i) end field depth s k (x .in-next))
     (rw (max-assoc, max-assoc) refl)
 
-pub largest-held : {e : Equivalence} {b : List ℕ} {end : ℕ} {field : Bool} {depth : ℕ} {f : CountingType} → Holds e b 0 end field depth f → largestFrom b end 0 ≡ largestCount f
+pub largest-held : {e : Equivalence} {b : List ℕ} {end : ℕ} {field : Bool} {depth : ℕ} {f : CountingType} → RecordsHold e b 0 end field depth f → largestFrom b end 0 ≡ largestCount f
 unfolding largestFrom
 largest-held {e} {b} {end} {field} {depth} {f} h =
     let o : end ≡ size f + 0 = omega (arith, h .ends) in ap (λ (n : ℕ). largestFrom b n 0) o ∙ largest-run e b 0 end field depth f 0 h ∙ omega arith

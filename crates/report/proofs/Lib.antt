@@ -6,6 +6,6 @@ pub mod Lines
 pub mod Runs
 pub mod Largest
 pub mod Walking
-pub mod Whole
+pub mod TypeRun
 pub mod Program
 pub mod Example

@@ -10,7 +10,8 @@ use lib.ListN.{length, take, drop, getD, List·getD-eq-default}
 use borrow.Author.Tests.{leb-true}
 use Rattle.counting_theory.proofs.WellFormed.Tests.{three-parts}
 use Rattle.report.specs.Decimal.{text}
-use Rattle.report.specs.Line.{words, wordLimit, kindWord, share}
+use Rattle.report.specs.Line.{words, kindWord, share}
+use Rattle.report.specs.Inside.Room.{wordLimit}
 use Rattle.report.proofs.Table.{at, same, same-true}
 
 -- the words as the code has them, each from a multiple of the most bytes on, and their lengths

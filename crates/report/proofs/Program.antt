@@ -12,7 +12,7 @@ use borrow.Author.Tests.{ltb-false}
 use Rattle.byte_records.specs.Number.{Bytes}
 use Rattle.value_table.specs.Value.{maxLength}
 use Rattle.value_table.specs.declared.Answer.{Answer}
-use Rattle.value_table.specs.declared.Refusal.the-variants as faults
+use Rattle.value_table.specs.declared.TableRefusal.the-variants as faults
 use Rattle.value_table.specs.Outcome.{accepted, outcomeOfAnswer}
 use Rattle.value_table.specs.Judged.{badLength, judged, messages}
 use Rattle.value_table.specs.Acceptance as table
@@ -25,14 +25,14 @@ use Rattle.counting_theory.specs.Label.{Equivalence, CountingType}
 use Rattle.counting_theory.specs.Raw.{profileOf}
 use Rattle.counting_theory.specs.Encoding.{typeSize, encode, typeOf}
 use Rattle.counting_theory.specs.WellFormed.{badTypeLength, IsType}
-use Rattle.counting_theory.specs.Answers.{numberOf, houseDefault, Written, turnedDown, arenaWith, stored, inferredUnder, inferred, inferredDefault}
+use Rattle.counting_theory.specs.Answers.{equivalenceNumber, houseDefault, Written, turnedDown, arenaWith, stored, inferredUnder, inferred, inferredDefault}
 use Rattle.answers.specs.declared.Answered.{Answered}
 use Rattle.answers.specs.declared.Answered.the-variants.{Accepted, Refused}
 use Rattle.answers.specs.declared.Refusal.the-variants as refusals
 use Rattle.answers.specs.Outcomes.{outcomeOf}
 use Rattle.answers.proofs.Exact.{exact-inferred}
 use Rattle.counting_theory.proofs.WellFormed.Closed.{profile-type}
-use Rattle.counting_theory.proofs.WellFormed.Whole.{type-unique}
+use Rattle.counting_theory.proofs.WellFormed.AcceptsExactly.{type-unique}
 use Rattle.counting_theory.proofs.Ways.Weights.{largest-values}
 use Rattle.report.specs.Line.{refusalLine}
 use Rattle.report.specs.Report.{report, programEquivalence, textOf, profiled, printed}
@@ -96,7 +96,7 @@ told b n m arena answer l k whole outcome left =
     let w = profiled b in
     let o : outcomeOfAnswer answer ≡ w .outcome = rw (← l, ← k) at outcome in
     let a : arena ≡ arenaWith maxLength w = rw (← l, ← k) at left in
-    let e : length (w .bytes) ≡ typeSize * answer .count = exact-inferred b (numberOf houseDefault) maxLength maxLength ∙ ap (λ x. typeSize * x .count) (sym o) in
+    let e : length (w .bytes) ≡ typeSize * answer .count = exact-inferred b (equivalenceNumber houseDefault) maxLength maxLength ∙ ap (λ x. typeSize * x .count) (sym o) in
     record {
       outcome = o;
       bytes = ap (take (typeSize * answer .count)) a ∙ take-at (w .bytes) _ (typeSize * answer .count) e;

@@ -17,14 +17,14 @@ use Rattle.counting_theory.specs.WellFormed.{depthInside}
 use Rattle.counting_theory.proofs.Label.{kind-eq}
 use Rattle.counting_theory.proofs.Tagged.Parts.{holdsFields, Shape, tagged-parts}
 use Rattle.counting_theory.proofs.Encoding.Header.{length-encode}
-use Rattle.counting_theory.proofs.WellFormed.Holds.{Holds, holds-first}
+use Rattle.counting_theory.proofs.WellFormed.RecordsHold.{RecordsHold, holds-first}
 use Rattle.type_arena.specs.Inside.Addend.{Coded}
 use Rattle.type_arena.proofs.FirstAddend.{coded-type}
 use Rattle.report.specs.Report.{wholeInside, linesOf}
-use Rattle.report.specs.Inside.Walk.{bytesIn, typeIn, lineAt, depthIn, wholeIn, Shares, Inside, Run, Printable}
+use Rattle.report.specs.Inside.Walk.{bytesIn, typeIn, lineAt, depthIn, wholeIn, Shares, Inside, PrintedRun, Printable}
 
 -- the bytes of the records that hold a type are that type's
-pub coded-in : {e : Equivalence} {b : List ℕ} {i end : ℕ} {field : Bool} {depth : ℕ} {f : CountingType} → Holds e b i end field depth f → Coded e field (bytesIn b i end)
+pub coded-in : {e : Equivalence} {b : List ℕ} {i end : ℕ} {field : Bool} {depth : ℕ} {f : CountingType} → RecordsHold e b i end field depth f → Coded e field (bytesIn b i end)
 coded-in {b = b} {i} {end} {f = f} h =
     let n : length (encode f) ≡ typeSize * end - typeSize * i = omega (arith, length-encode f, h .ends) in
     record {
@@ -35,7 +35,7 @@ coded-in {b = b} {i} {end} {f = f} h =
     }
 
 -- the type that records hold is the one read from them
-pub typed : {e : Equivalence} {b : List ℕ} {i end : ℕ} {field : Bool} {depth : ℕ} {f : CountingType} → Holds e b i end field depth f → f ≡ typeIn e b i end
+pub typed : {e : Equivalence} {b : List ℕ} {i end : ℕ} {field : Bool} {depth : ℕ} {f : CountingType} → RecordsHold e b i end field depth f → f ≡ typeIn e b i end
 unfolding coded-in
 typed h = sym (coded-type (coded-in h))
 
@@ -52,23 +52,23 @@ pub record First (e : Equivalence) (b : List ℕ) (p end depth whole : ℕ) : Ty
       ≡ lineAt b p depth whole width
       ++ (linesOf width (depthIn b p depth) (wholeIn e b p) (typeIn e b (p + 1) (p + typeSpan b p)) ++ linesOf width depth whole (typeIn e b (p + typeSpan b p) end))
   pub within : Inside e b p (p + typeSpan b p)
-  pub inside : Run e b (p + 1) (p + typeSpan b p) (depthIn b p depth) (wholeIn e b p)
-  pub next : Run e b (p + typeSpan b p) end depth whole
+  pub inside : PrintedRun e b (p + 1) (p + typeSpan b p) (depthIn b p depth) (wholeIn e b p)
+  pub next : PrintedRun e b (p + typeSpan b p) end depth whole
 
 depth-below : (t : Bool) (depth : ℕ) → depthInside t depth ≤ depth + 1
 depth-below true depth = omega arith
 depth-below false depth = omega arith
 
-module _ {e : Equivalence} {b : List ℕ} {p end depth whole : ℕ} (r : Run e b p end depth whole) where
+module _ {e : Equivalence} {b : List ℕ} {p end depth whole : ℕ} (r : PrintedRun e b p end depth whole) where
   pub run-done : (width : ℕ) → end ≤ p → linesOf width depth whole (typeIn e b p end) ≡ []
   unfolding size linesOf
   run-done width h = go (typeIn e b p end) (r .holds)
     where
-      go : (f : CountingType) → Holds e b p end (r .field) depth f → linesOf width depth whole f ≡ []
+      go : (f : CountingType) → RecordsHold e b p end (r .field) depth f → linesOf width depth whole f ≡ []
       go nil i = refl
       go (node l a c s) i = absurd (omega (arith, i .ends))
 
-  first-node : (l : Label) (a : Payload) (c s : CountingType) → typeIn e b p end ≡ node l a c s → Holds e b p end (r .field) depth (node l a c s) →
+  first-node : (l : Label) (a : Payload) (c s : CountingType) → typeIn e b p end ≡ node l a c s → RecordsHold e b p end (r .field) depth (node l a c s) →
       Shares whole (node l a c s) → First e b p end depth whole
   unfolding linesOf
   first-node l a c s q h sh =
@@ -79,7 +79,7 @@ module _ {e : Equivalence} {b : List ℕ} {p end depth whole : ℕ} (r : Run e b
       let es = typed (x .in-next) in
       let fits : p + typeSpan b p ≤ end = omega (arith, x .in-next .ends) in
       let low : 1 ≤ typeSpan b p = omega (arith, n .span-is) in
-      let inner : Holds e b (p + 1) (p + typeSpan b p) (holdsFields (r .field) l) (depthInside (holdsFields (r .field) l) depth) (typeIn e b (p + 1) (p + typeSpan b p)) =
+      let inner : RecordsHold e b (p + 1) (p + typeSpan b p) (holdsFields (r .field) l) (depthInside (holdsFields (r .field) l) depth) (typeIn e b (p + 1) (p + typeSpan b p)) =
       rw (← ec) (x .in-children) in
       let d : depthIn b p depth ≡ depthInside (holdsFields (r .field) l) depth = rw (n .kind-is, z) refl in
       let w : wholeIn e b p ≡ wholeInside l (a .count) c = rw (n .kind-is, n .count-is, ← ec) refl in
@@ -123,6 +123,6 @@ module _ {e : Equivalence} {b : List ℕ} {p end depth whole : ℕ} (r : Run e b
   unfolding size
   run-first h = go (typeIn e b p end) refl (r .holds) (r .shares)
     where
-      go : (f : CountingType) → typeIn e b p end ≡ f → Holds e b p end (r .field) depth f → Shares whole f → First e b p end depth whole
+      go : (f : CountingType) → typeIn e b p end ≡ f → RecordsHold e b p end (r .field) depth f → Shares whole f → First e b p end depth whole
       go nil q i sh = absurd (omega (arith, i .ends))
       go (node l a c s) q i sh = first-node l a c s q i sh

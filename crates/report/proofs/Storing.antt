@@ -7,7 +7,8 @@ use native.Mathlib.Omega.{arith}
 use lib.ListN.{length, take, drop, replicate, set, length-set, length-append}
 use lib.Seq.{sets, length-sets, sets-eq, take-at, drop-at}
 use Rattle.byte_records.proofs.Sets.{sets-append}
-use Rattle.report.specs.Decimal.{Stored, Front}
+use Rattle.report.specs.Decimal.{TextInFront}
+use Rattle.report.specs.Inside.Room.{TextStored}
 
 -- a part of a run of one byte
 pub take-replicate : (n m byte : ℕ) → n ≤ m → take n (replicate m byte) ≡ replicate n byte
@@ -30,10 +31,10 @@ module _ {s : List ℕ} {p : ℕ} {xs s′ : List ℕ} {q : ℕ} where
       let i : Storing s p xs s′ q (y ∷ ys) = rw e at h in
       record { bytes = rw (add-one q) (i .bytes); behind = omega (arith, i .behind); same = length-set s′ q y ∙ h .same }
 
-  pub storing-none : {ys : List ℕ} → ys ≡ [] → Storing s p xs s′ q ys → Stored s p xs s′ q
+  pub storing-none : {ys : List ℕ} → ys ≡ [] → Storing s p xs s′ q ys → TextStored s p xs s′ q
   storing-none e h = record { bytes = rw e at (h .bytes); behind = omega (arith, h .behind, ap length e) }
 
-  pub storing-past : {ys zs ws s″ : List ℕ} {r : ℕ} → ws ≡ ys ++ zs → Storing s p xs s′ q ws → Stored s′ q ys s″ r → Storing s p xs s″ r zs
+  pub storing-past : {ys zs ws s″ : List ℕ} {r : ℕ} → ws ≡ ys ++ zs → Storing s p xs s′ q ws → TextStored s′ q ys s″ r → Storing s p xs s″ r zs
   storing-past {ys} {zs} e h i =
       let j : Storing s p xs s′ q (ys ++ zs) = rw e at h in
       record {
@@ -42,7 +43,7 @@ module _ {s : List ℕ} {p : ℕ} {xs s′ : List ℕ} {q : ℕ} where
         same = rw (i .bytes) (length-sets s′ q ys ∙ h .same);
       }
 
-pub stored-then : {s : List ℕ} {p : ℕ} {xs s₁ : List ℕ} {q : ℕ} {ys s₂ : List ℕ} {r : ℕ} → Stored s p xs s₁ q → Stored s₁ q ys s₂ r → Stored s p (xs ++ ys) s₂ r
+pub stored-then : {s : List ℕ} {p : ℕ} {xs s₁ : List ℕ} {q : ℕ} {ys s₂ : List ℕ} {r : ℕ} → TextStored s p xs s₁ q → TextStored s₁ q ys s₂ r → TextStored s p (xs ++ ys) s₂ r
 stored-then {s} {p} {xs} {s₁} {q} {ys} {s₂} {r} h i =
     record {
       bytes = i .bytes ∙ rw (h .bytes, h .behind) (sym (sets-append xs ys s p));
@@ -50,7 +51,7 @@ stored-then {s} {p} {xs} {s₁} {q} {ys} {s₂} {r} h i =
     }
 
 -- what was stored at the start of a buffer that has room for it
-pub stored-front : {s xs s′ : List ℕ} {n : ℕ} → Stored s 0 xs s′ n → n ≤ length s → Front s xs s′ n
+pub stored-front : {s xs s′ : List ℕ} {n : ℕ} → TextStored s 0 xs s′ n → n ≤ length s → TextInFront s xs s′ n
 stored-front {s} {xs} {s′} {n} h i =
     let e : 0 + length xs ≡ n = sym (h .behind) in
     let k : length xs ≡ n = omega arith in

@@ -7,15 +7,10 @@ use Prim.Native.Char.{code}
 use Prim.Native.String.{String, [] as empty, _∷_ as _then_}
 use lib.Dec.{ltb}
 use lib.ListN.{length, take, drop, replicate}
-use lib.Seq.{sets}
 
 abbrev pub text : String → List ℕ
 text empty = []
 text (c then s) = code c ∷ text s
-
--- the most digits of a number that is printed, which is at most the limit of a total
-abbrev pub maxDigits : ℕ
-maxDigits = 16
 
 -- how often n can be divided by ten until nothing is left, and at least once; k bounds the divisions
 unfoldable pub divisions : ℕ → ℕ → ℕ
@@ -38,14 +33,9 @@ decimal n = digits (digitCount n) n
 abbrev pub padded : ℕ → ℕ → List ℕ
 padded width n = replicate (width - digitCount n) 32 ++ decimal n
 
--- A buffer s, afterwards s′, in which xs were stored from position p on; `end` is the position behind them.
-pub record Stored (s : List ℕ) (p : ℕ) (xs : List ℕ) (s′ : List ℕ) (end : ℕ) : Type 0 where
-  pub bytes : s′ ≡ sets s p xs
-  pub behind : end ≡ p + length xs
-
 -- A buffer s, afterwards s′, that holds xs in its first n bytes and is unchanged behind them. The last two parts are what a caller
 -- that hands on the first n bytes has to know.
-pub record Front (s xs s′ : List ℕ) (n : ℕ) : Type 0 where
+pub record TextInFront (s xs s′ : List ℕ) (n : ℕ) : Type 0 where
   pub front : take n s′ ≡ xs
   pub rest : drop n s′ ≡ drop n s
   pub within : n ≤ length s′

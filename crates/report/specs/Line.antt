@@ -2,15 +2,11 @@
 use mathlib.Core.List.{List, [], _∷_, _++_}
 use Prim.Native.Nat.{ℕ, _+_, _*_, _/_}
 use lib.ListN.{getD}
-use Rattle.report.specs.Decimal.{text, maxDigits, decimal, padded}
+use Rattle.report.specs.Decimal.{text, decimal, padded}
 
 -- words for kinds 1 to 7; no other kind has one
 abbrev pub words : List (List ℕ)
 words = [] ∷ text "null" ∷ text "bool" ∷ text "num" ∷ text "str" ∷ text "rec" ∷ text "arr" ∷ text "field" ∷ []
-
--- the most bytes of a word
-abbrev pub wordLimit : ℕ
-wordLimit = 5
 
 unfoldable pub kindWord : ℕ → List ℕ
 kindWord kind = getD words kind []
@@ -24,13 +20,5 @@ unfoldable pub lineOf : (depth kind key width count share : ℕ) → List ℕ
 lineOf depth kind key width count share =
     decimal depth ++ text " " ++ kindWord kind ++ text " " ++ decimal key ++ text " " ++ padded width count ++ text " " ++ decimal share ++ text "\n"
 
--- at most this many bytes: four numbers, a word, four spaces and the line feed
-abbrev pub lineLimit : ℕ
-lineLimit = 4 * maxDigits + wordLimit + 5
-
 unfoldable pub refusalLine : (number place : ℕ) → List ℕ
 refusalLine number place = text "refused " ++ decimal number ++ text " " ++ decimal place ++ text "\n"
-
--- at most this many bytes: a word of 7 letters, two numbers, two spaces and the line feed
-abbrev pub refusalLimit : ℕ
-refusalLimit = 7 + 2 * maxDigits + 3

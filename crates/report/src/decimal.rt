@@ -5,7 +5,8 @@ ghost use mathlib.Core.List.{[], _∷_};
 ghost use Prim.Native.Nat.{_+_, _-_, _^_, _≤_, _<_};
 ghost use lib.ListN.{length, replicate};
 ghost use Rattle.counting_theory.specs.WellFormed.{maxTotal};
-ghost use Rattle.report.specs.Decimal.{maxDigits, digitCount, digits, decimal, padded, Stored};
+ghost use Rattle.report.specs.Decimal.{digitCount, digits, decimal, padded};
+ghost use Rattle.report.specs.Inside.Room.{maxDigits, TextStored};
 
 // The most digits of a number that is printed.
 pub const MAX_DIGITS: usize = 16;
@@ -53,7 +54,7 @@ pub fn digit_count(n: usize) -> usize
 
 pub fn put_byte(out: &mut [u8], at: usize, byte: u8) -> usize
     requires { ⌜ at < length (now out) ⌝ }
-    ensures { λ r. ⌜ Stored (now (out .entry)) at (byte ∷ []) (now (out .exit)) r ⌝ }
+    ensures { λ r. ⌜ TextStored (now (out .entry)) at (byte ∷ []) (now (out .exit)) r ⌝ }
 {
     out[at] = byte;
     at + 1
@@ -61,7 +62,7 @@ pub fn put_byte(out: &mut [u8], at: usize, byte: u8) -> usize
 
 pub fn put_text(out: &mut [u8], at: usize, text: &[u8]) -> usize
     requires { ⌜ at + length (now text) ≤ length (now out) ⌝ }
-    ensures { λ r. ⌜ Stored (now (out .entry)) at (now (text .entry)) (now (out .exit)) r ⌝ }
+    ensures { λ r. ⌜ TextStored (now (out .entry)) at (now (text .entry)) (now (out .exit)) r ⌝ }
 {
     put_bytes(text, out, at);
     at + text.len()
@@ -69,7 +70,7 @@ pub fn put_text(out: &mut [u8], at: usize, text: &[u8]) -> usize
 
 fn put_spaces(out: &mut [u8], at: usize, count: usize) -> usize
     requires { ⌜ (at + count ≤ length (now out)) × (count ≤ maxDigits) ⌝ }
-    ensures { λ r. ⌜ Stored (now (out .entry)) at (replicate count 32) (now (out .exit)) r ⌝ }
+    ensures { λ r. ⌜ TextStored (now (out .entry)) at (replicate count 32) (now (out .exit)) r ⌝ }
 {
     let spaces: &[u8] = b"                ";
     put_text(out, at, &spaces[..count])
@@ -78,7 +79,7 @@ fn put_spaces(out: &mut [u8], at: usize, count: usize) -> usize
 // The last `count` digits of n.
 fn put_digits(out: &mut [u8], at: usize, n: usize, count: usize) -> usize
     requires { ⌜ (at + count ≤ length (now out)) × (count ≤ maxDigits) ⌝ }
-    ensures { λ r. ⌜ Stored (now (out .entry)) at (digits count n) (now (out .exit)) r ⌝ }
+    ensures { λ r. ⌜ TextStored (now (out .entry)) at (digits count n) (now (out .exit)) r ⌝ }
 {
     let mut p = at;
     let mut d = count;
@@ -92,7 +93,7 @@ fn put_digits(out: &mut [u8], at: usize, n: usize, count: usize) -> usize
 
 pub fn put_number(out: &mut [u8], at: usize, n: usize) -> usize
     requires { ⌜ (at + maxDigits ≤ length (now out)) × (n ≤ maxTotal) ⌝ }
-    ensures { λ r. ⌜ Stored (now (out .entry)) at (decimal n) (now (out .exit)) r × (r ≤ at + maxDigits) ⌝ }
+    ensures { λ r. ⌜ TextStored (now (out .entry)) at (decimal n) (now (out .exit)) r × (r ≤ at + maxDigits) ⌝ }
 {
     put_digits(out, at, n, digit_count(n))
 }
@@ -106,7 +107,7 @@ fn padding(width: usize, digits: usize) -> usize
 // Padded on the left with spaces to `width` bytes.
 pub fn put_padded(out: &mut [u8], at: usize, width: usize, n: usize) -> usize
     requires { ⌜ (at + maxDigits ≤ length (now out)) × (width ≤ maxDigits) × (n ≤ maxTotal) ⌝ }
-    ensures { λ r. ⌜ Stored (now (out .entry)) at (padded width n) (now (out .exit)) r × (r ≤ at + maxDigits) ⌝ }
+    ensures { λ r. ⌜ TextStored (now (out .entry)) at (padded width n) (now (out .exit)) r × (r ≤ at + maxDigits) ⌝ }
 {
     let count = digit_count(n);
     let p = put_spaces(out, at, padding(width, count));

@@ -10,8 +10,9 @@ ghost use mathlib.Core.List.{[], _∷_, _++_};
 ghost use Prim.Native.Nat.{_+_, _≤_};
 ghost use lib.ListN.{length};
 ghost use Rattle.counting_theory.specs.WellFormed.{maxTotal};
-ghost use Rattle.report.specs.Decimal.{maxDigits, decimal, Stored};
-ghost use Rattle.report.specs.Line.{wordLimit, kindWord, share as shareOf, lineOf, lineLimit};
+ghost use Rattle.report.specs.Decimal.{decimal};
+ghost use Rattle.report.specs.Inside.Room.{maxDigits, TextStored, wordLimit, lineLimit};
+ghost use Rattle.report.specs.Line.{kindWord, share as shareOf, lineOf};
 
 // The most bytes of a word, and the bytes of each kind's word.
 const WORD_LIMIT: usize = 5;
@@ -32,7 +33,7 @@ pub fn share(count: usize, whole: usize) -> usize
 // The word of a kind; kinds 1 to 7 have one.
 fn put_kind(out: &mut [u8], at: usize, kind: u8) -> usize
     requires { ⌜ at + wordLimit ≤ length (now out) ⌝ }
-    ensures { λ r. ⌜ Stored (now (out .entry)) at (kindWord kind) (now (out .exit)) r × (r ≤ at + wordLimit) ⌝ }
+    ensures { λ r. ⌜ TextStored (now (out .entry)) at (kindWord kind) (now (out .exit)) r × (r ≤ at + wordLimit) ⌝ }
 {
     if type_record::FIELD < kind {
         return at;
@@ -47,7 +48,7 @@ fn put_kind(out: &mut [u8], at: usize, kind: u8) -> usize
 // A number and the byte behind it.
 pub fn put_number_and(out: &mut [u8], at: usize, n: usize, byte: u8) -> usize
     requires { ⌜ (at + maxDigits + 1 ≤ length (now out)) × (n ≤ maxTotal) ⌝ }
-    ensures { λ r. ⌜ Stored (now (out .entry)) at (decimal n ++ (byte ∷ [])) (now (out .exit)) r × (r ≤ at + maxDigits + 1) ⌝ }
+    ensures { λ r. ⌜ TextStored (now (out .entry)) at (decimal n ++ (byte ∷ [])) (now (out .exit)) r × (r ≤ at + maxDigits + 1) ⌝ }
 {
     let p = put_number(out, at, n);
     put_byte(out, p, byte)
@@ -66,7 +67,7 @@ pub fn put_line(
 ) -> usize
     requires { ⌜ at + lineLimit ≤ length (now out) ⌝ }
     requires { ⌜ (depth ≤ maxTotal) × (key ≤ maxTotal) × (width ≤ maxDigits) × (count ≤ maxTotal) × (share ≤ maxTotal) ⌝ }
-    ensures { λ r. ⌜ Stored (now (out .entry)) at (lineOf depth kind key width count share) (now (out .exit)) r × (r ≤ at + lineLimit) ⌝ }
+    ensures { λ r. ⌜ TextStored (now (out .entry)) at (lineOf depth kind key width count share) (now (out .exit)) r × (r ≤ at + lineLimit) ⌝ }
 {
     let word = put_number_and(out, at, depth, b' ');
     let behind_word = put_kind(out, word, kind);

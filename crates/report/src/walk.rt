@@ -14,10 +14,9 @@ ghost use lib.ListN.{length};
 ghost use Rattle.value_table.specs.Value.{maxLength};
 ghost use Rattle.counting_theory.specs.Encoding.{typeSize};
 ghost use Rattle.counting_theory.specs.WellFormed.{maxTotal};
-ghost use Rattle.report.specs.Decimal.{maxDigits, Stored};
-ghost use Rattle.report.specs.Line.{lineLimit};
+ghost use Rattle.report.specs.Inside.Room.{maxDigits, TextStored, lineLimit};
 ghost use Rattle.report.specs.Report.{linesOf, programEquivalence};
-ghost use Rattle.report.specs.Inside.Walk.{typeIn, lineAt, depthIn, wholeIn, largestFrom, Inside, Run, Printable};
+ghost use Rattle.report.specs.Inside.Walk.{typeIn, lineAt, depthIn, wholeIn, largestFrom, Inside, PrintedRun, Printable};
 
 fn larger(x: usize, y: usize) -> usize
     ensures { λ r. ⌜ r ≡ max x y ⌝ }
@@ -74,7 +73,7 @@ fn put_record(
     at: usize,
 ) -> usize
     requires { ⌜ Printable (now b) p whole × (depth ≤ maxTotal) × (width ≤ maxDigits) × (at + lineLimit ≤ length (now out)) ⌝ }
-    ensures { λ r. ⌜ Stored (now (out .entry)) at (lineAt (now (b .entry)) p depth whole width) (now (out .exit)) r × (r ≤ at + lineLimit) ⌝ }
+    ensures { λ r. ⌜ TextStored (now (out .entry)) at (lineAt (now (b .entry)) p depth whole width) (now (out .exit)) r × (r ≤ at + lineLimit) ⌝ }
 {
     let count = count_at(b, p);
     let thousandths = share(count, whole);
@@ -101,8 +100,8 @@ pub fn put_run(
     out: &mut [u8],
     at: usize,
 ) -> usize
-    requires { ⌜ Run programEquivalence (now b) i end depth whole × (width ≤ maxDigits) × (at + lineLimit * (end - i) ≤ length (now out)) ⌝ }
-    ensures { λ r. ⌜ Stored (now (out .entry)) at (linesOf width depth whole (typeIn programEquivalence (now (b .entry)) i end)) (now (out .exit)) r
+    requires { ⌜ PrintedRun programEquivalence (now b) i end depth whole × (width ≤ maxDigits) × (at + lineLimit * (end - i) ≤ length (now out)) ⌝ }
+    ensures { λ r. ⌜ TextStored (now (out .entry)) at (linesOf width depth whole (typeIn programEquivalence (now (b .entry)) i end)) (now (out .exit)) r
         × (r ≤ at + lineLimit * (end - i)) ⌝ }
 {
     let mut p = i;

@@ -5,7 +5,7 @@ use crate::type_record::span_at;
 use value_table::record;
 ghost use mathlib.Core.Path.{_≡_};
 ghost use Rattle.counting_theory.specs.Label.{compareKeys, compareLabel};
-ghost use Rattle.type_arena.specs.Inside.Arena.{under, keysIn, labelAt, FieldsInside, Labelled};
+ghost use Rattle.type_arena.specs.Inside.Arena.{byFlag, keysIn, labelAt, FieldsInside, Labelled};
 ghost use Rattle.type_arena.specs.Inside.LabelOrder.{orderingOf};
 
 // How one label, or one key list, stands to another.
@@ -52,7 +52,7 @@ fn compare_keys(b: &[u8], x: usize, c: &[u8], y: usize) -> Order
 // How the label of record x of b stands to that of record y of c: by kind, then by key, then, for records under label, by key list.
 pub fn compare_labels(b: &[u8], x: usize, c: &[u8], y: usize, label: bool) -> Order
     requires { ⌜ Labelled (now b) x × Labelled (now c) y ⌝ }
-    ensures { λ r. ⌜ orderingOf r ≡ compareLabel (labelAt (under label) (now (b .entry)) x) (labelAt (under label) (now (c .entry)) y) ⌝ }
+    ensures { λ r. ⌜ orderingOf r ≡ compareLabel (labelAt (byFlag label) (now (b .entry)) x) (labelAt (byFlag label) (now (c .entry)) y) ⌝ }
 {
     let kind = kind_at(b, x);
     let other_kind = kind_at(c, y);

@@ -18,7 +18,7 @@ ghost use Rattle.counting_theory.specs.Label.{Equivalence};
 ghost use Rattle.counting_theory.specs.Encoding.{typeKind, typeSpan};
 ghost use Rattle.counting_theory.specs.Inside.TypeBytes.{typeCount};
 ghost use Rattle.counting_theory.specs.WellFormed.{maxTotal, badTypeLength, wellFormed, placedRecord, fieldRecord, typeRecord, fieldCount};
-ghost use Rattle.type_arena.specs.Inside.Arena.{InTable, under, Labelled};
+ghost use Rattle.type_arena.specs.Inside.Arena.{RecordIn, byFlag, Labelled};
 ghost use Rattle.type_check.specs.Inside.Checker.{RunOf, checkedOf, isSome, hasTotal, addends, fields, fits, ordered, addendRight, checkRun};
 
 // The total of a union, or that something in it is wrong.
@@ -29,7 +29,7 @@ pub enum Checked {
 
 // Byte 1 is zero, and the record with its content ends by `end`.
 fn placed(b: &[u8], p: usize, end: usize) -> bool
-    requires { ⌜ InTable (now b) p ⌝ }
+    requires { ⌜ RecordIn (now b) p ⌝ }
     ensures { λ r. ⌜ r ≡ placedRecord (now (b .entry)) p end ⌝ }
 {
     if zero_at(b, p) != 0 {
@@ -43,7 +43,7 @@ fn placed(b: &[u8], p: usize, end: usize) -> bool
 }
 
 fn kind_fits(b: &[u8], p: usize) -> bool
-    requires { ⌜ InTable (now b) p ⌝ }
+    requires { ⌜ RecordIn (now b) p ⌝ }
     ensures { λ r. ⌜ r ≡ (leb 1 (typeKind (now (b .entry)) p) && leb (typeKind (now (b .entry)) p) arrayKind) ⌝ }
 {
     let kind = kind_at(b, p);
@@ -55,7 +55,7 @@ fn kind_fits(b: &[u8], p: usize) -> bool
 
 // A scalar has span 1.
 fn scalar_fits(b: &[u8], p: usize) -> bool
-    requires { ⌜ InTable (now b) p ⌝ }
+    requires { ⌜ RecordIn (now b) p ⌝ }
     ensures { λ r. ⌜ r ≡ (ltb lastScalar (typeKind (now (b .entry)) p) || eqb (typeSpan (now (b .entry)) p) 1) ⌝ }
 {
     if record::LAST_SCALAR < kind_at(b, p) {
@@ -66,7 +66,7 @@ fn scalar_fits(b: &[u8], p: usize) -> bool
 
 // The record of an addend, with `left` levels of depth left.
 fn addend_record(b: &[u8], p: usize, end: usize, left: usize) -> bool
-    requires { ⌜ InTable (now b) p × (left ≤ maxDepth) ⌝ }
+    requires { ⌜ RecordIn (now b) p × (left ≤ maxDepth) ⌝ }
     ensures { λ r. ⌜ r ≡ typeRecord (now (b .entry)) p end false (maxDepth + 1 - left) ⌝ }
 {
     if !placed(b, p, end) {
@@ -85,7 +85,7 @@ fn addend_record(b: &[u8], p: usize, end: usize, left: usize) -> bool
 }
 
 fn field_record(b: &[u8], p: usize, end: usize) -> bool
-    requires { ⌜ InTable (now b) p ⌝ }
+    requires { ⌜ RecordIn (now b) p ⌝ }
     ensures { λ r. ⌜ r ≡ (placedRecord (now (b .entry)) p end && fieldRecord (now (b .entry)) p) ⌝ }
 {
     if !placed(b, p, end) {
@@ -102,7 +102,7 @@ fn field_record(b: &[u8], p: usize, end: usize) -> bool
 
 // The addend's count is at least 1 and keeps the union's total within the limit.
 fn count_fits(b: &[u8], p: usize, total: usize) -> bool
-    requires { ⌜ InTable (now b) p × (total ≤ maxTotal) ⌝ }
+    requires { ⌜ RecordIn (now b) p × (total ≤ maxTotal) ⌝ }
     ensures { λ r. ⌜ r ≡ (leb 1 (typeCount (now (b .entry)) p) && leb (total + typeCount (now (b .entry)) p) maxTotal) ⌝ }
 {
     let count = count_at(b, p);
@@ -114,7 +114,7 @@ fn count_fits(b: &[u8], p: usize, total: usize) -> bool
 
 // A field's count against its record's.
 fn count_agrees(count: usize, of_record: usize, label: bool) -> bool
-    ensures { λ r. ⌜ r ≡ fieldCount (under label) count «of_record» ⌝ }
+    ensures { λ r. ⌜ r ≡ fieldCount (byFlag label) count «of_record» ⌝ }
 {
     if label {
         count == of_record
@@ -126,7 +126,7 @@ fn count_agrees(count: usize, of_record: usize, label: bool) -> bool
 // Whether the addend at x comes before the one at y, by class, or is that one itself.
 fn in_order(b: &[u8], x: usize, y: usize, label: bool) -> bool
     requires { ⌜ Labelled (now b) x × Labelled (now b) y ⌝ }
-    ensures { λ r. ⌜ r ≡ ordered (under label) (now (b .entry)) x y ⌝ }
+    ensures { λ r. ⌜ r ≡ ordered (byFlag label) (now (b .entry)) x y ⌝ }
 {
     if x == y {
         return true;
@@ -140,8 +140,8 @@ fn in_order(b: &[u8], x: usize, y: usize, label: bool) -> bool
 
 // The record of a field, its key above the last one and its count against its record's.
 fn field_fits(b: &[u8], p: usize, end: usize, last: usize, of_record: usize, label: bool) -> bool
-    requires { ⌜ InTable (now b) p ⌝ }
-    ensures { λ r. ⌜ ((depth : ℕ) → r ≡ fits (under label) (now (b .entry)) p end (fields depth «of_record» last)) ⌝ }
+    requires { ⌜ RecordIn (now b) p ⌝ }
+    ensures { λ r. ⌜ ((depth : ℕ) → r ≡ fits (byFlag label) (now (b .entry)) p end (fields depth «of_record» last)) ⌝ }
 {
     if !field_record(b, p, end) {
         return false;
@@ -155,7 +155,8 @@ fn field_fits(b: &[u8], p: usize, end: usize, last: usize, of_record: usize, lab
 // The union of the field at p where it is one scalar, as most are, and that its count is the field's.
 fn check_scalar(b: &[u8], p: usize, end: usize, left: usize) -> bool
     requires { ⌜ RunOf (now b) (p + 1) end × (end ≡ p + 2) × (typeKind (now b) (p + 1) ≤ lastScalar) × (left ≤ maxDepth) ⌝ }
-    ensures { λ r. ⌜ ((e : Equivalence) → r ≡ hasTotal (typeCount (now (b .entry)) p) (checkRun e (now (b .entry)) (p + 1) end (addends (maxDepth + 1 - left) (p + 1) 0))) ⌝ }
+    ensures { λ r. ⌜ ((e : Equivalence) → r
+        ≡ hasTotal (typeCount (now (b .entry)) p) (checkRun e (now (b .entry)) (p + 1) end (addends (maxDepth + 1 - left) (p + 1) 0))) ⌝ }
 {
     if !addend_record(b, p + 1, end, left) {
         return false;
@@ -169,7 +170,7 @@ fn check_scalar(b: &[u8], p: usize, end: usize, left: usize) -> bool
 // The total of the union in records i to end, where `left` levels of depth are left.
 pub fn check_union(b: &[u8], i: usize, end: usize, left: usize, label: bool) -> Checked
     requires { ⌜ RunOf (now b) i end × (left ≤ maxDepth) ⌝ }
-    ensures { λ r. ⌜ checkedOf r ≡ checkRun (under label) (now (b .entry)) i end (addends (maxDepth + 1 - left) i 0) ⌝ }
+    ensures { λ r. ⌜ checkedOf r ≡ checkRun (byFlag label) (now (b .entry)) i end (addends (maxDepth + 1 - left) i 0) ⌝ }
 {
     let mut p = i;
     let mut last = i;
@@ -194,7 +195,7 @@ pub fn check_union(b: &[u8], i: usize, end: usize, left: usize, label: bool) -> 
 // An addend by itself: its record, and the union or the fields inside it.
 fn check_addend(b: &[u8], p: usize, end: usize, left: usize, label: bool) -> bool
     requires { ⌜ RunOf (now b) p end × (p < end) × (left ≤ maxDepth) ⌝ }
-    ensures { λ r. ⌜ r ≡ addendRight (under label) (now (b .entry)) p end (maxDepth + 1 - left) ⌝ }
+    ensures { λ r. ⌜ r ≡ addendRight (byFlag label) (now (b .entry)) p end (maxDepth + 1 - left) ⌝ }
 {
     if !addend_record(b, p, end, left) {
         return false;
@@ -216,7 +217,7 @@ fn check_addend(b: &[u8], p: usize, end: usize, left: usize, label: bool) -> boo
 // The fields of a record with this count, in records i to end.
 fn check_fields(b: &[u8], i: usize, end: usize, left: usize, of_record: usize, label: bool) -> bool
     requires { ⌜ RunOf (now b) i end × (1 ≤ left) × (left ≤ maxDepth) ⌝ }
-    ensures { λ r. ⌜ r ≡ isSome (checkRun (under label) (now (b .entry)) i end (fields (maxDepth + 1 - left) «of_record» 0)) ⌝ }
+    ensures { λ r. ⌜ r ≡ isSome (checkRun (byFlag label) (now (b .entry)) i end (fields (maxDepth + 1 - left) «of_record» 0)) ⌝ }
 {
     let mut p = i;
     let mut last = 0;
@@ -237,7 +238,8 @@ fn check_fields(b: &[u8], i: usize, end: usize, left: usize, of_record: usize, l
 // The union of the field at p, and that its total is the field's count.
 fn check_field(b: &[u8], p: usize, end: usize, left: usize, label: bool) -> bool
     requires { ⌜ RunOf (now b) (p + 1) end × (left < maxDepth) ⌝ }
-    ensures { λ r. ⌜ r ≡ hasTotal (typeCount (now (b .entry)) p) (checkRun (under label) (now (b .entry)) (p + 1) end (addends (maxDepth + 1 - left) (p + 1) 0)) ⌝ }
+    ensures { λ r. ⌜ r
+        ≡ hasTotal (typeCount (now (b .entry)) p) (checkRun (byFlag label) (now (b .entry)) (p + 1) end (addends (maxDepth + 1 - left) (p + 1) 0)) ⌝ }
 {
     if end == p + 2 {
         if kind_at(b, p + 1) <= record::LAST_SCALAR {
@@ -253,7 +255,7 @@ fn check_field(b: &[u8], p: usize, end: usize, left: usize, label: bool) -> bool
 // Whether the bytes of an allowed length are a well-formed type.
 pub fn well_formed(bytes: &[u8], label: bool) -> bool
     requires { ⌜ badTypeLength (length (now bytes)) ≡ false ⌝ }
-    ensures { λ r. ⌜ r ≡ wellFormed (under label) (now (bytes .entry)) ⌝ }
+    ensures { λ r. ⌜ r ≡ wellFormed (byFlag label) (now (bytes .entry)) ⌝ }
 {
     match check_union(
         bytes,

@@ -9,7 +9,7 @@ use lib.ListN.{length, drop, drop-of-length-le}
 use Rattle.value_table.specs.Value.{maxLength, recordSize, records, Values, encode, size, count}
 use Rattle.value_table.specs.Outcome.{Outcome, accepted, refused}
 use Rattle.value_table.specs.Judged.{Open, badLength, faultIn, close, enter, messagesIn, decide, walk, judged, messages}
-use Rattle.value_table.specs.Acceptance.{Table, Accepts, Unique, Placed}
+use Rattle.value_table.specs.Acceptance.{Table, Accepts, Unique, PlaceInTable}
 use Rattle.value_table.proofs.Fault.{length-fits}
 use Rattle.value_table.proofs.Header.{length-encode}
 use Rattle.value_table.proofs.Run.{Run}
@@ -78,7 +78,7 @@ within-walk b zero i end around n h = (λ e. refl, omega arith)
 within-walk b (suc k) i end around n h =
     within-decide (faultIn b i (close i around)) i end _ (omega arith) (within-walk b k (i + 1) end (enter b i (close i around)) (n + messagesIn (close i around)) (omega arith))
 
-pub placed : Placed
+pub placed : PlaceInTable
 unfolding judged
 placed b = go (badLength (length b))
   where

@@ -13,8 +13,8 @@ use borrow.Author.Tests.{eqb-true, eqb-false}
 use Rattle.value_table.specs.Value.{keyAt, member}
 use Rattle.value_table.specs.Judged.{repeated}
 use Rattle.value_table.specs.Inside.Chain.{Chain, done, next}
-use Rattle.value_table.specs.Inside.Siblings.{Before, field, other, keyBuckets, Latest}
-use Rattle.value_table.proofs.Siblings.{member-tail}
+use Rattle.value_table.specs.Inside.EarlierFields.{FieldsBefore, field, other, keyBuckets, Latest}
+use Rattle.value_table.proofs.EarlierFields.{member-tail}
 
 -- a bound of what stands at j holds after a larger number is stored at i
 set-upto : (l : List ℕ) (i j x a : ℕ) → i < length l → a ≤ x → ((j ≡ i → ⊥) → a ≤ getD l j 0) → a ≤ getD (set l i x) j 0
@@ -31,7 +31,7 @@ unseen n done = refl
 unseen n (next {p = p} {ks = ks} l s h) = member-tail ks (n p (le-refl p) l) ∙ unseen (λ q m. n q (omega arith)) h
 
 module _ {b : List ℕ} {i : ℕ} where
-  pub unrepeated-latest : {latest : List ℕ} {first : ℕ} {f : Bool} {ks : List ℕ} → Latest b i latest → getD latest (keyAt b i % keyBuckets) 0 < first → Before b i first f ks → false ≡ repeated b i f ks
+  pub unrepeated-latest : {latest : List ℕ} {first : ℕ} {f : Bool} {ks : List ℕ} → Latest b i latest → getD latest (keyAt b i % keyBuckets) 0 < first → FieldsBefore b i first f ks → false ≡ repeated b i f ks
   unfolding repeated
   unrepeated-latest {latest} w l (field m h) = sym (unseen (λ q p u e. absurd (omega (arith, w .upto q u, ap (λ k. getD latest (k % keyBuckets) 0) e))) h)
   unrepeated-latest w l (other e) = refl

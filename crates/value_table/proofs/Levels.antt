@@ -11,16 +11,16 @@ use lib.Seq.{getD-set-same, getD-set-other}
 use Rattle.value_table.specs.Value.{recordKind, kindAt, keyAt, spanAt}
 use Rattle.value_table.specs.Judged.{Open, endOf, inRecord, seen, withKey, enter}
 use Rattle.value_table.specs.Inside.Chain.{done}
-use Rattle.value_table.specs.Inside.Siblings.{Before, field, other, innermostOf, firstOf}
+use Rattle.value_table.specs.Inside.EarlierFields.{FieldsBefore, field, other, innermostOf, firstOf}
 use Rattle.value_table.proofs.Chain.{chain-more}
 
 -- `depth` levels of the arrays hold the open values around record i, in a table of n records
 pub data Levels (b ends fields : List ℕ) (n : ℕ) : ℕ → ℕ → List Open → Type 0 where
   outside : {i : ℕ} → i ≤ n → Levels b ends fields n 0 i []
   inside : {depth i : ℕ} {o : Open} {os : List Open} → i ≤ o .end → getD ends depth 0 ≡ o .end →
-      Before b i (getD fields depth 0) (eqb (o .kind) recordKind) (o .keys) → Levels b ends fields n depth (o .end) os → Levels b ends fields n (suc depth) i (o ∷ os)
+      FieldsBefore b i (getD fields depth 0) (eqb (o .kind) recordKind) (o .keys) → Levels b ends fields n depth (o .end) os → Levels b ends fields n (suc depth) i (o ∷ os)
 
-before-next : {b : List ℕ} {i first : ℕ} {f : Bool} {ks : List ℕ} → 1 ≤ spanAt b i → Before b i first f ks → Before b (i + spanAt b i) first f (ks ++ (keyAt b i ∷ []))
+before-next : {b : List ℕ} {i first : ℕ} {f : Bool} {ks : List ℕ} → 1 ≤ spanAt b i → FieldsBefore b i first f ks → FieldsBefore b (i + spanAt b i) first f (ks ++ (keyAt b i ∷ []))
 before-next s (field l h) = field l (chain-more s h)
 before-next s (other e) = other e
 
@@ -37,7 +37,7 @@ module _ {b ends fields : List ℕ} {n : ℕ} where
   levels-upto (outside l) = l
   levels-upto (inside l e f h) = l
 
-  pub levels-before : {depth i : ℕ} {around : List Open} → Levels b ends fields n depth i around → Before b i (innermostOf fields depth 0) (inRecord around) (seen around)
+  pub levels-before : {depth i : ℕ} {around : List Open} → Levels b ends fields n depth i around → FieldsBefore b i (innermostOf fields depth 0) (inRecord around) (seen around)
   levels-before (outside l) = other refl
   levels-before (inside l e f h) = f
 
@@ -60,6 +60,6 @@ levels-enter {b} {ends} {fields} {n} {depth} {i} {around} le lf s t h =
     (rw (getD-set-same fields depth (firstOf (kindAt b i) i) 0 lf) (first (eqb (kindAt b i) recordKind)))
     (levels-set depth (i + spanAt b i) (firstOf (kindAt b i) i) (le-refl depth) (levels-next h s t))
   where
-    first : (f : Bool) → Before b (i + 1) (cond f (i + 1) 0) f []
+    first : (f : Bool) → FieldsBefore b (i + 1) (cond f (i + 1) 0) f []
     first true = field (omega arith) done
     first false = other refl

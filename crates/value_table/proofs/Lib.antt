@@ -9,8 +9,8 @@ pub mod Nested
 pub mod Rest
 pub mod Walked
 pub mod Chain
-pub mod Siblings
+pub mod EarlierFields
 pub mod Latest
 pub mod Levels
-pub mod Turns
+pub mod WalkLoop
 pub mod Acceptance

@@ -33,7 +33,7 @@ unfolding encode size keys ValidAt
 run-none b i end field before depth e d =
     record { bytes = rw e refl; ends = omega arith; valid = tt; distinct = λ h. rw append-nil (d h) }
 
-key-below : (field : Bool) (key : ℕ) → KeyFits field key → key < 65536
+pub key-below : (field : Bool) (key : ℕ) → KeyFits field key → key < 65536
 key-below true key h = h .1
 key-below false key h = omega arith
 

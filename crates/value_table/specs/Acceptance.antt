@@ -24,5 +24,5 @@ abbrev pub Unique : Type 0
 Unique = (b : List ℕ) (ms : Values) (n : ℕ) → Table b ms n → ms ≡ messages b
 
 -- accepted, the place is 0; refused, it is a record of b, or 0
-abbrev pub Placed : Type 0
-Placed = (b : List ℕ) → (judged b .number ≡ 0 → judged b .place ≡ 0) × (judged b .place ≤ records b)
+abbrev pub PlaceInTable : Type 0
+PlaceInTable = (b : List ℕ) → (judged b .number ≡ 0 → judged b .place ≡ 0) × (judged b .place ≤ records b)

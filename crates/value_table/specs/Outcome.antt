@@ -3,8 +3,8 @@ use Prim.Native.Nat.{ℕ}
 use Rattle.value_table.specs.declared.Answer.{Answer}
 use Rattle.value_table.specs.declared.Judged.{Judged}
 use Rattle.value_table.specs.declared.Judged.the-variants.{Accepted, Refused}
-use Rattle.value_table.specs.declared.Refusal.{Refusal}
-use Rattle.value_table.specs.declared.Refusal.the-variants.{Length, Kind, Span, Key, Repeat, Depth}
+use Rattle.value_table.specs.declared.TableRefusal.{TableRefusal}
+use Rattle.value_table.specs.declared.TableRefusal.the-variants.{Length, Kind, Span, Key, Repeat, Depth}
 
 pub record Outcome : Type 0 where
   pub number : ℕ
@@ -18,7 +18,7 @@ abbrev pub refused : ℕ → ℕ → Outcome
 refused number place = record { number = number; place = place; count = 0 }
 
 -- the column 'returned' of document 01
-abbrev pub numberOfRefusal : Refusal → ℕ
+abbrev pub numberOfRefusal : TableRefusal → ℕ
 numberOfRefusal Length = 1
 numberOfRefusal Kind = 3
 numberOfRefusal Span = 4

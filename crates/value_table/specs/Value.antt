@@ -2,8 +2,8 @@
 use mathlib.Core.Path.{_≡_}
 use mathlib.Core.Bool.{Bool, true, false, _||_}
 use mathlib.Core.List.{List, [], _∷_, _++_}
-use Prim.Native.Nat.{ℕ, suc, _+_, _*_, _/_, _≤_, _<_}
-use lib.ListN.{length, take, drop}
+use Prim.Native.Nat.{ℕ, suc, _+_, _/_, _≤_, _<_}
+use lib.ListN.{length}
 use lib.Dec.{eqb}
 use Rattle.byte_records.specs.Format.{Format, widthOf, fieldAt, recordBytes}
 
@@ -34,9 +34,6 @@ lastScalar = 4
 -- how many value records b has, the bytes of record i, and its fields
 abbrev pub records : List ℕ → ℕ
 records b = length b / recordSize
-
-abbrev pub recordAt : List ℕ → ℕ → List ℕ
-recordAt b i = take recordSize (drop (recordSize * i) b)
 
 unfoldable pub kindAt : List ℕ → ℕ → ℕ
 kindAt = fieldAt valueFormat 0

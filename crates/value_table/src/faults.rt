@@ -1,5 +1,5 @@
 // The faults of one value record, 3 to 7.
-use crate::Refusal;
+use crate::TableRefusal;
 use crate::record;
 use crate::record::head_at;
 use crate::record::key_at;
@@ -12,7 +12,7 @@ ghost use mathlib.Core.List.{List};
 ghost use Prim.Native.Nat.{ℕ, _+_, _*_, _%_, _≤_, _<_};
 ghost use lib.ListN.{length};
 ghost use Rattle.value_table.specs.Value.{recordSize, maxLength, keyAt, spanAt, member};
-ghost use Rattle.value_table.specs.Inside.Siblings.{numberOfFault, Siblings, Before, Parent, FaultIs, keyBuckets, Latest};
+ghost use Rattle.value_table.specs.Inside.EarlierFields.{numberOfFault, EarlierFields, FieldsBefore, Parent, FaultIs, keyBuckets, Latest};
 ghost use Rattle.value_table.specs.Judged.{badKind, badSpan, badKey, repeated};
 ghost use Rattle.value_table.specs.Inside.Chain.{Chain};
 
@@ -22,7 +22,7 @@ pub const KEY_BUCKETS: usize = 64;
 // What is wrong with one record.
 pub enum Fault {
     Nothing,
-    Found(Refusal),
+    Found(TableRefusal),
 }
 
 fn bad_kind(table: &[u8], i: usize) -> bool
@@ -84,7 +84,7 @@ fn bad_key(table: &[u8], i: usize, field: bool) -> bool
 
 // Whether the key of record i stands in an earlier field, the first of which is `first`.
 fn key_before(table: &[u8], i: usize, first: usize) -> bool
-    requires { ⌜ (recordSize * i + recordSize ≤ length (now table)) × Siblings (now table) i first ⌝ }
+    requires { ⌜ (recordSize * i + recordSize ≤ length (now table)) × EarlierFields (now table) i first ⌝ }
     ensures { λ r. ⌜ ((ks : List ℕ) → Chain (spanAt (now (table .entry))) (keyAt (now (table .entry))) i first ks →
         r ≡ member (keyAt (now (table .entry)) i) ks) ⌝ }
 {
@@ -110,7 +110,7 @@ pub fn bucket_of(table: &[u8], i: usize) -> usize
 // Whether record i has the key of an earlier field: a bucket without fields of this parent needs no search.
 fn repeats(table: &[u8], i: usize, first: usize, latest: &[usize; KEY_BUCKETS]) -> bool
     requires { ⌜ (recordSize * i + recordSize ≤ length (now table)) × Parent (now table) i first × Latest (now table) i (now latest) ⌝ }
-    ensures { λ r. ⌜ ((field : Bool) (ks : List ℕ) → Before (now (table .entry)) i first field ks → r ≡ repeated (now (table .entry)) i field ks) ⌝ }
+    ensures { λ r. ⌜ ((field : Bool) (ks : List ℕ) → FieldsBefore (now (table .entry)) i first field ks → r ≡ repeated (now (table .entry)) i field ks) ⌝ }
 {
     if first == 0 {
         return false;
@@ -131,25 +131,26 @@ pub fn fault_at(
     depth: usize,
     latest: &[usize; KEY_BUCKETS],
 ) -> Fault
-    requires { ⌜ (recordSize * i + recordSize ≤ length (now table)) × (length (now table) ≤ maxLength) × (i < end) × Parent (now table) i first × Latest (now table) i (now latest) ⌝ }
+    requires { ⌜ (recordSize * i + recordSize ≤ length (now table)) × (length (now table) ≤ maxLength) × (i < end) × Parent (now table) i first
+        × Latest (now table) i (now latest) ⌝ }
     ensures { λ r. ⌜ FaultIs (now (table .entry)) i end first depth (numberOfFault r) ⌝ }
 {
     if !plain_scalar(table, i) {
         if bad_kind(table, i) {
-            return Fault::Found(Refusal::Kind);
+            return Fault::Found(TableRefusal::Kind);
         }
         if bad_span(table, i, end) {
-            return Fault::Found(Refusal::Span);
+            return Fault::Found(TableRefusal::Span);
         }
     }
     if bad_key(table, i, 0 < first) {
-        return Fault::Found(Refusal::Key);
+        return Fault::Found(TableRefusal::Key);
     }
     if repeats(table, i, first, latest) {
-        return Fault::Found(Refusal::Repeat);
+        return Fault::Found(TableRefusal::Repeat);
     }
     if record::MAX_DEPTH < depth {
-        return Fault::Found(Refusal::Depth);
+        return Fault::Found(TableRefusal::Depth);
     }
     Fault::Nothing
 }

@@ -8,7 +8,7 @@ ghost use Rattle.value_table.specs.Outcome.{numberOfRefusal, outcomeOf, 
 ghost use Rattle.value_table.specs.Judged.{judged};
 
 // Why a table is refused.
-pub enum Refusal {
+pub enum TableRefusal {
     Length,
     Kind,
     Span,
@@ -20,7 +20,7 @@ pub enum Refusal {
 // The answer of call 1: the number of messages, or a refusal with its place.
 pub enum Judged {
     Accepted(usize),
-    Refused(Refusal, usize),
+    Refused(TableRefusal, usize),
 }
 
 // An answer as three numbers: refusal number, place, count.
@@ -36,22 +36,22 @@ pub fn judge(table: &[u8]) -> Judged
     ensures { λ r. ⌜ outcomeOf r ≡ judged (now (table .entry)) ⌝ }
 {
     if record::bad_length(table.len()) {
-        return Judged::Refused(Refusal::Length, 0);
+        return Judged::Refused(TableRefusal::Length, 0);
     }
     walk::walk_table(table)
 }
 
 // The refusal number of document 01.
-pub fn refusal_number(why: Refusal) -> u64
+pub fn refusal_number(why: TableRefusal) -> u64
     ensures { λ r. ⌜ r ≡ numberOfRefusal why ⌝ }
 {
     match why {
-        Refusal::Length => 1,
-        Refusal::Kind => 3,
-        Refusal::Span => 4,
-        Refusal::Key => 5,
-        Refusal::Repeat => 6,
-        Refusal::Depth => 7,
+        TableRefusal::Length => 1,
+        TableRefusal::Kind => 3,
+        TableRefusal::Span => 4,
+        TableRefusal::Key => 5,
+        TableRefusal::Repeat => 6,
+        TableRefusal::Depth => 7,
     }
 }
 

@@ -7,7 +7,8 @@ ghost use mathlib.Core.Bool.{true};
 ghost use Prim.Native.Nat.{_+_, _*_, _≤_, _<_};
 ghost use lib.ListN.{length};
 ghost use Rattle.byte_records.specs.Number.{numberAt};
-ghost use Rattle.value_table.specs.Value.{recordSize, recordAt, kindAt, zeroAt, keyAt, spanAt};
+ghost use Rattle.value_table.specs.Value.{recordSize, kindAt, zeroAt, keyAt, spanAt};
+ghost use Rattle.value_table.specs.Inside.RecordBytes.{recordAt};
 ghost use Rattle.value_table.specs.Judged.{badLength};
 
 pub const SIZE: usize = 8;

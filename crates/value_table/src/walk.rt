@@ -14,7 +14,7 @@ ghost use lib.ListN.{length};
 ghost use Rattle.value_table.specs.Value.{recordSize, maxLength, maxDepth, records, kindAt};
 ghost use Rattle.value_table.specs.Outcome.{outcomeOf};
 ghost use Rattle.value_table.specs.Judged.{walk};
-ghost use Rattle.value_table.specs.Inside.Siblings.{innermostOf, firstOf, messagesAt};
+ghost use Rattle.value_table.specs.Inside.EarlierFields.{innermostOf, firstOf, messagesAt};
 
 // The open values around the next record: the end of each, the first field of each that is a record (else 0), and how many
 // there are.

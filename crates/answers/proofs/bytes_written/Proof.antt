@@ -5,14 +5,8 @@ use borrow.Author.Needs.{needs}
 use Rattle.answers.proofs.bytes_written.Statement.{statement}
 use Rattle.answers.proofs.bytes_written.Tie as tie
 
-enum-known-answered : tie.Need-enum-known-answered
-enum-known-answered c = search needs
-
 mul-result : tie.Need-mul-result
 mul-result c = omega (arith, rw (c .before .answered .given .1) at (c .before .before .before .pre))
-
-enum-told : tie.Need-enum-told
-enum-told c = search needs
 
 returns : tie.Need-returns
 returns c = rw (c .before .answered .given .1) (omega arith)
@@ -22,4 +16,4 @@ returns-2 c = rw (c .enum-told .given .1) refl
 
 pub bytes-written-spec : {M : Type 1} → statement M
 bytes-written-spec =
-    tie.close (tie.spec enum-known-answered mul-result enum-told returns returns-2)
+    tie.close (tie.spec (λ c. search needs) mul-result (λ c. search needs) returns returns-2)

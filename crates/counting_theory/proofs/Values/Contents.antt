@@ -11,7 +11,7 @@ use Rattle.counting_theory.specs.Payload.{oneField}
 use Rattle.counting_theory.specs.Trie.{lookup}
 use Rattle.counting_theory.specs.Label.{Equivalence, Label, fieldLabel, Counting}
 use Rattle.counting_theory.specs.Raw.{raw}
-use Rattle.counting_theory.specs.Place.{Value, gathered, valuesOf, valuesWith, elementsOf, elements, fieldOf, under, sameLabel, ofClass}
+use Rattle.counting_theory.specs.Place.{Value, gathered, valuesOf, valuesWith, elementsOf, elements, fieldOf, fieldValues, sameLabel, ofClass}
 use Rattle.counting_theory.proofs.Label.{counting-laws}
 use Rattle.counting_theory.proofs.Trie.Lookup.{lookup-append}
 use Rattle.counting_theory.proofs.Values.Every.{ValidValue, EachValid, every-map, select-none, valid-values}
@@ -57,19 +57,19 @@ module _ (e : Equivalence) where
       go false i = ap (λ f. lookup Counting f (l ∷ q)) (inside-other v p i)
 
   pub contents-field : (k : ℕ) (q : List Label) (M : List Value) → EachValid M →
-      lookup Counting (contents e M) (fieldLabel k ∷ q) ≡ tally (gathered (λ v. oneField) (under k M)) (lookup Counting (rawOf e (under k M)) q) q
-  unfolding lookup contents rawOf under flatMap gathered
+      lookup Counting (contents e M) (fieldLabel k ∷ q) ≡ tally (gathered (λ v. oneField) (fieldValues k M)) (lookup Counting (rawOf e (fieldValues k M)) q) q
+  unfolding lookup contents rawOf fieldValues flatMap gathered
   contents-field k q [] m = sym (tally-none q)
   contents-field k q (v ∷ M) m =
       rw (
         lookup-append counting-laws (inside e v) (contents e M) (fieldLabel k ∷ q),
         inside-field k q v (m .0),
         contents-field k q M (m .1),
-        rawOf-append e (fieldOf k v) (under k M),
-        lookup-append counting-laws (rawOf e (fieldOf k v)) (rawOf e (under k M)) q,
-        gathered-append (λ v. oneField) (fieldOf k v) (under k M),
+        rawOf-append e (fieldOf k v) (fieldValues k M),
+        lookup-append counting-laws (rawOf e (fieldOf k v)) (rawOf e (fieldValues k M)) q,
+        gathered-append (λ v. oneField) (fieldOf k v) (fieldValues k M),
       )
-      (sym (tally-join (gathered (λ v. oneField) (fieldOf k v)) (gathered (λ v. oneField) (under k M)) _ _ q))
+      (sym (tally-join (gathered (λ v. oneField) (fieldOf k v)) (gathered (λ v. oneField) (fieldValues k M)) _ _ q))
 
   pub contents-element : (l : Label) (q : List Label) (M : List Value) → EachValid M → sameLabel l (fieldLabel (l .key)) ≡ false →
       lookup Counting (contents e M) (l ∷ q) ≡ lookup Counting (rawOf e (elements M)) (l ∷ q)

@@ -6,7 +6,7 @@ use Rattle.counting_theory.specs.Payload.{oneField}
 use Rattle.counting_theory.specs.Trie.{lookup}
 use Rattle.counting_theory.specs.Label.{Equivalence, Label, fieldLabel, Counting, CountingType}
 use Rattle.counting_theory.specs.Raw.{raw, profileOf}
-use Rattle.counting_theory.specs.Place.{Value, valuesOf, elements, under, sameLabel, ofClass, Reached, values, field, follow, having, payloadReached, payloadFrom, payloadAt, Counts}
+use Rattle.counting_theory.specs.Place.{Value, valuesOf, elements, fieldValues, sameLabel, ofClass, Reached, values, field, follow, having, payloadReached, payloadFrom, payloadAt, Counts}
 use Rattle.counting_theory.proofs.Label.{counting-laws}
 use Rattle.counting_theory.proofs.Trie.Canonical.{lookup-root}
 use Rattle.counting_theory.proofs.Trie.Profile.{lookup-profile}
@@ -26,21 +26,21 @@ module _ (e : Equivalence) where
   -- the raw forest there
   abbrev below : Reached → CountingType
   below (values M) = contents e M
-  below (field k M) = rawOf e (under k M)
+  below (field k M) = rawOf e (fieldValues k M)
 
   abbrev Step : Reached → Reached → Label → Type 0
   Step r s l = ValidReached s × ((q : List Label) → lookup Counting (below r) (l ∷ q) ≡ tally (payloadReached s) (lookup Counting (below s) q) q)
 
   step : (r : Reached) (l : Label) → ValidReached r → Step r (follow e r l) l
   unfolding follow payloadReached
-  step (field k M) l h = (valid-class e l (under k M) (valid-under k M h), λ q. lookup-class e l q (under k M))
+  step (field k M) l h = (valid-class e l (fieldValues k M) (valid-under k M h), λ q. lookup-class e l q (fieldValues k M))
   step (values M) l h = go (sameLabel l (fieldLabel (l .key))) refl
     where
       go : (b : Bool) → sameLabel l (fieldLabel (l .key)) ≡ b → Step (values M) (cond b (field (l .key) M) (values (ofClass e l (elements M)))) l
       go true i = (
         h,
         λ q. ap (λ (m : Label). lookup Counting (contents e M) (m ∷ q)) (same-label l (fieldLabel (l .key)) i)
-            ∙ rw (← gathered-same oneField (under (l .key) M) (having (l .key) M) (length-having (l .key) M h)) (contents-field e (l .key) q M h),
+            ∙ rw (← gathered-same oneField (fieldValues (l .key) M) (having (l .key) M) (length-having (l .key) M h)) (contents-field e (l .key) q M h),
       )
       go false i = (valid-class e l (elements M) (valid-elements M h), λ q. contents-element e l q M h i ∙ lookup-class e l q (elements M))
 

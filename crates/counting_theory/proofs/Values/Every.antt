@@ -6,7 +6,7 @@ use Prim.Native.Nat.{ℕ, suc}
 use lib.Dec.{eqb}
 use Rattle.value_table.specs.Value.{Values, none, value, recordKind, arrayKind, Proper, ValidAt}
 use Rattle.counting_theory.specs.Label.{Equivalence, Label}
-use Rattle.counting_theory.specs.Place.{Value, valuesOf, valuesWith, elementsOf, elements, fieldOf, under, select, ofClass}
+use Rattle.counting_theory.specs.Place.{Value, valuesOf, valuesWith, elementsOf, elements, fieldOf, fieldValues, select, ofClass}
 
 abbrev pub Every : (Value → Type 0) → List Value → Type 0
 Every P [] = Unit {0}
@@ -83,8 +83,8 @@ valid-elements =
     every-flatMap ValidValue elementsOf
     (λ v h. every-cond ValidValue (eqb (v .head .kind) arrayKind) (valuesOf (v .content)) (valid-values _ _ (v .content) (h .inner)))
 
-pub valid-under : (k : ℕ) (M : List Value) → EachValid M → EachValid (under k M)
-unfolding under
+pub valid-under : (k : ℕ) (M : List Value) → EachValid M → EachValid (fieldValues k M)
+unfolding fieldValues
 valid-under k =
     every-flatMap ValidValue (fieldOf k)
     (λ v h. every-cond ValidValue (eqb (v .head .kind) recordKind) (valuesWith k (v .content)) (valid-with _ _ k (v .content) (h .inner)))

@@ -9,7 +9,7 @@ use lib.ListN.{length, length-append}
 use borrow.Author.Tests.{eqb-true}
 use Rattle.value_table.specs.Value.{Values, none, value, keys, member, Distinct, recordKind}
 use Rattle.value_table.proofs.Tests.{or-parts}
-use Rattle.counting_theory.specs.Place.{Value, valuesWith, fieldOf, under, select, having}
+use Rattle.counting_theory.specs.Place.{Value, valuesWith, fieldOf, fieldValues, select, having}
 use Rattle.counting_theory.proofs.Values.Every.{Every, ValidValue, EachValid, every-map}
 
 with-none : (k : ℕ) (c : Values) → member k (keys c) ≡ false → valuesWith k c ≡ []
@@ -43,8 +43,8 @@ length-select f test (v ∷ M) h = rw (length-append (f v) (flatMap f M), h .0, 
     go true = omega arith
     go false = omega arith
 
-pub length-having : (k : ℕ) (M : List Value) → EachValid M → length (under k M) ≡ length (having k M)
-unfolding under having
+pub length-having : (k : ℕ) (M : List Value) → EachValid M → length (fieldValues k M) ≡ length (having k M)
+unfolding fieldValues having
 length-having k M m = length-select (fieldOf k) _ M (every-map ValidValue _ one M m)
   where
     one : (v : Value) → ValidValue v → length (fieldOf k v) ≡ cond (eqb (v .head .kind) recordKind && member k (keys (v .content))) 1 0

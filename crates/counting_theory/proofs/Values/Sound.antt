@@ -14,7 +14,7 @@ use Rattle.counting_theory.specs.Trie.{nil, node, atEnd, lookup, Sorted}
 use Rattle.counting_theory.specs.Inside.TrieLaws.{SameMap}
 use Rattle.counting_theory.specs.Label.{Equivalence, Label, fieldLabel, Counting, CountingType}
 use Rattle.counting_theory.specs.Raw.{classOf, raw, profileOf}
-use Rattle.counting_theory.specs.Place.{Value, valuesOf, elementsOf, elements, under, sameLabel, select, ofClass, _⊞_, gathered, valuePayload, countOf}
+use Rattle.counting_theory.specs.Place.{Value, valuesOf, elementsOf, elements, fieldValues, sameLabel, select, ofClass, _⊞_, gathered, valuePayload, countOf}
 use Rattle.counting_theory.specs.Published.{Addend, HasKey}
 use Rattle.counting_theory.specs.Meaning.{OfKind, Means, Sound}
 use Rattle.counting_theory.proofs.Label.{counting-laws}
@@ -73,7 +73,7 @@ module _ (e : Equivalence) where
 
   -- f has the map of M; or (field ≡ true) each field of f has that of its values
   abbrev Agrees : Bool → CountingType → List Value → Type 0
-  Agrees true f M = (l : Label) (a : Payload) (d : CountingType) → Addend l a d f → SameMap Counting d (rawOf e (under (l .key) M))
+  Agrees true f M = (l : Label) (a : Payload) (d : CountingType) → Addend l a d f → SameMap Counting d (rawOf e (fieldValues (l .key) M))
   Agrees false f M = SameMap Counting f (rawOf e M)
 
   -- the children c of a node have the map of the contents of its values M
@@ -83,20 +83,20 @@ module _ (e : Equivalence) where
 
     fields-agree : OfKind recordKind M → Agrees true c M
     unfolding lookup rawOf atEnd tally
-    fields-agree k m b d n [] = same-root d (rawOf e (under (m .key) M))
+    fields-agree k m b d n [] = same-root d (rawOf e (fieldValues (m .key) M))
     fields-agree k m b d n (x ∷ q) = go (sameLabel m (fieldLabel (m .key))) refl
       where
         found : (q : List Label) → atEnd b (lookup Counting d q) q ≡ lookup Counting (contents e M) (m ∷ q)
         found q = sym (addend-found m b d c u n q) ∙ h (m ∷ q)
 
-        go : (t : Bool) → sameLabel m (fieldLabel (m .key)) ≡ t → lookup Counting d (x ∷ q) ≡ lookup Counting (rawOf e (under (m .key) M)) (x ∷ q)
+        go : (t : Bool) → sameLabel m (fieldLabel (m .key)) ≡ t → lookup Counting d (x ∷ q) ≡ lookup Counting (rawOf e (fieldValues (m .key) M)) (x ∷ q)
         go true i =
             found (x ∷ q) ∙ ap (λ (m : Label). lookup Counting (contents e M) (m ∷ x ∷ q)) (same-label m (fieldLabel (m .key)) i) ∙ contents-field e (m .key) (x ∷ q) M v
         go false i = absurd (some-none (found [] ∙ contents-element e m [] M v i ∙ rw (elements-none M k) refl))
 
-    no-other-keys : (k : ℕ) → ¬ HasKey k c → under k M ≡ []
+    no-other-keys : (k : ℕ) → ¬ HasKey k c → fieldValues k M ≡ []
     unfolding tally
-    no-other-keys k n = gathered-none oneField (under k M) (sym (contents-field e k [] M v) ∙ sym (h (fieldLabel k ∷ [])) ∙ no-key k c n [])
+    no-other-keys k n = gathered-none oneField (fieldValues k M) (sym (contents-field e k [] M v) ∙ sym (h (fieldLabel k ∷ [])) ∙ no-key k c n [])
 
   -- the first node has the values of its class, its siblings have the others
   module _ (l : Label) (a : Payload) (c s : CountingType) (u : Sorted Counting (node l a c s)) (M : List Value) (h : SameMap Counting (node l a c s) (rawOf e M)) where
@@ -122,7 +122,7 @@ module _ (e : Equivalence) where
   means : (b : Bool) (f : CountingType) (M : List Value) → Sorted Counting f → EachValid M → Agrees b f M → Means b f M
   means true nil M u v h = tt
   means true (node l a c s) M u v h =
-      (means false c (under (l .key) M) (u .1) (valid-under (l .key) M v) (h l a c (inl (refl, refl, refl))), means true s M (u .2) v (λ m b d i. h m b d (inr i)))
+      (means false c (fieldValues (l .key) M) (u .1) (valid-under (l .key) M v) (h l a c (inl (refl, refl, refl))), means true s M (u .2) v (λ m b d i. h m b d (inr i)))
   means false nil M u v h = no-values M h
   means false (node l a c s) M u v h =
       let M₁ = ofClass e l M in

@@ -8,7 +8,7 @@ use native.Mathlib.Omega.{arith}
 use lib.ListN.{length, length-replicate}
 use Rattle.value_table.specs.Outcome.{Outcome, refused}
 use Rattle.counting_theory.specs.Label.{Equivalence, CountingType}
-use Rattle.counting_theory.specs.Answers.{Left, leaves, Written, numberOf, zeros, inferred, inferredDefault, merged}
+use Rattle.counting_theory.specs.Answers.{Left, leaves, Written, equivalenceNumber, zeros, inferred, inferredDefault, merged}
 use Rattle.counting_theory.specs.Ways.{Call, infer, inferDefault, merge, pull, goOn, run, Ends, WorkZero, LastAlike}
 
 refused-number : {A B : Type 0} (o : Outcome) → ((o ≡ refused 10 0) × A) ⊎ ((o ≡ refused 11 0) × B) → 1 ≤ o .number
@@ -48,9 +48,9 @@ pub run-zero : (e : Equivalence) (plan : List Call) (hand : List (List ℕ)) →
 unfolding run
 run-zero e [] hand = tt
 run-zero e (infer source arena work ∷ calls) hand =
-    call-zero (inferred source (numberOf e) (length arena) (length work)) arena work _ (λ b. run-zero e calls (b ∷ hand))
+    call-zero (inferred source (equivalenceNumber e) (length arena) (length work)) arena work _ (λ b. run-zero e calls (b ∷ hand))
 run-zero e (inferDefault source arena work ∷ calls) hand =
     call-zero (inferredDefault source (length arena) (length work)) arena work _ (λ b. run-zero e calls (b ∷ hand))
 run-zero e (merge i j arena ∷ calls) hand =
     found-zero (pull i hand) _ (λ first. found-zero (pull j (first .1)) _
-    (λ second. call-zero (merged (first .0) (second .0) (numberOf e) (length arena)) arena [] _ (λ b. run-zero e calls (b ∷ second .1))))
+    (λ second. call-zero (merged (first .0) (second .0) (equivalenceNumber e) (length arena)) arena [] _ (λ b. run-zero e calls (b ∷ second .1))))

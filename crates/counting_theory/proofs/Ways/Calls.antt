@@ -18,15 +18,15 @@ use Rattle.counting_theory.specs.Label.{Equivalence, byKind, byLabel, Co
 use Rattle.counting_theory.specs.Raw.{profileOf}
 use Rattle.counting_theory.specs.Encoding.{typeSize, encode, typeOf}
 use Rattle.counting_theory.specs.WellFormed.{withinLimit, wellFormed, badTypeLength, IsType}
-use Rattle.counting_theory.specs.Answers.{numberOf, equivalenceOf, houseDefault, inferred, inferredDefault, merged, mergedTypes}
+use Rattle.counting_theory.specs.Answers.{equivalenceNumber, equivalenceOf, houseDefault, inferred, inferredDefault, merged, mergedTypes}
 use Rattle.counting_theory.specs.Ways.{Accepted}
 use Rattle.counting_theory.proofs.Encoding.Header.{length-encode}
 use Rattle.counting_theory.proofs.Encoding.Bytes.{bytes-encode}
 use Rattle.counting_theory.proofs.WellFormed.Limit.{totals-limit}
-use Rattle.counting_theory.proofs.WellFormed.Whole.{type-unique, well-formed-type}
+use Rattle.counting_theory.proofs.WellFormed.AcceptsExactly.{type-unique, well-formed-type}
 use Rattle.counting_theory.proofs.Ways.Weights.{largest-values}
 
-equivalence-of : (e : Equivalence) → equivalenceOf (numberOf e) ≡ some e
+equivalence-of : (e : Equivalence) → equivalenceOf (equivalenceNumber e) ≡ some e
 equivalence-of byKind = refl
 equivalence-of byLabel = refl
 
@@ -40,7 +40,7 @@ accepted-length b a =
 
 module _ (e : Equivalence) (n : ℕ) (allowed : badTypeLength n ≡ false) (b : List ℕ) (a : Accepted b) where
   -- the profile of one table keeps the limit, so 10 does not come
-  pub inferred-profile : (arena work : ℕ) → arena ≡ n → work ≡ n → inferred b (numberOf e) arena work ≡ mergedTypes (profileOf e (messages b)) n
+  pub inferred-profile : (arena work : ℕ) → arena ≡ n → work ≡ n → inferred b (equivalenceNumber e) arena work ≡ mergedTypes (profileOf e (messages b)) n
   unfolding inferred
   inferred-profile arena work i j =
       let f = profileOf e (messages b) in
@@ -48,7 +48,7 @@ module _ (e : Equivalence) (n : ℕ) (allowed : badTypeLength n ≡ false) (b : 
       rw (i, j, accepted-length b a, allowed, eq-eqb n n refl, equivalence-of e, a .1 .1, low) refl
 
   pub default-profile : houseDefault ≡ e → (arena work : ℕ) → arena ≡ n → work ≡ n → inferredDefault b arena work ≡ mergedTypes (profileOf e (messages b)) n
-  default-profile h arena work i j = ap (λ x. inferred b (numberOf x) arena work) h ∙ inferred-profile arena work i j
+  default-profile h arena work i j = ap (λ x. inferred b (equivalenceNumber x) arena work) h ∙ inferred-profile arena work i j
 
 module _ (e : Equivalence) where
   encode-length : (f : CountingType) → IsType e (encode f) f → badTypeLength (length (encode f)) ≡ false
@@ -63,7 +63,7 @@ module _ (e : Equivalence) where
       well-formed-type e (encode f) (bytes-encode f) (encode-length f t) .1 u
 
   pub merged-types : (f g : CountingType) (n arena : ℕ) → badTypeLength n ≡ false → arena ≡ n → IsType e (encode f) f → IsType e (encode g) g →
-      merged (encode f) (encode g) (numberOf e) arena ≡ mergedTypes (reduce Counting f g) n
+      merged (encode f) (encode g) (equivalenceNumber e) arena ≡ mergedTypes (reduce Counting f g) n
   unfolding merged
   merged-types f g n arena h i t u =
       rw (

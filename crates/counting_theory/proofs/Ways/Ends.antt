@@ -14,22 +14,22 @@ use Rattle.counting_theory.specs.Label.{Equivalence, CountingType}
 use Rattle.counting_theory.specs.Raw.{raw, profileOf}
 use Rattle.counting_theory.specs.Encoding.{encode}
 use Rattle.counting_theory.specs.WellFormed.{badTypeLength, IsType}
-use Rattle.counting_theory.specs.Answers.{Left, leaves, numberOf, merged, mergedTypes}
+use Rattle.counting_theory.specs.Answers.{Left, leaves, equivalenceNumber, merged, mergedTypes}
 use Rattle.counting_theory.specs.Ways.{Call, infer, inferDefault, merge, pull, goOn, run, atHand, Accepted, AllAllowed, Way, joinValues, planMessages, WithinLimits, Ends}
 use Rattle.counting_theory.proofs.Trie.Canonical.{some-none}
 use Rattle.counting_theory.proofs.WellFormed.Closed.{profile-type}
-use Rattle.counting_theory.proofs.WellFormed.Whole.{type-length}
+use Rattle.counting_theory.proofs.WellFormed.AcceptsExactly.{type-length}
 use Rattle.counting_theory.proofs.WellFormed.Profile.{EachFits, fits-run}
 use Rattle.counting_theory.proofs.Ways.Same.{fits-join}
 use Rattle.counting_theory.proofs.Ways.Join.{reduce-join, valid-join}
 use Rattle.counting_theory.proofs.Ways.Pull.{Pulled, pulled}
 use Rattle.counting_theory.proofs.Ways.Calls.{accepted-table, inferred-profile, default-profile, merged-types}
-use Rattle.counting_theory.proofs.Ways.Whole.{profile-only, Whole, whole-read, whole-merged, whole-last, whole-part}
+use Rattle.counting_theory.proofs.Ways.AllMessages.{profile-only, Whole, whole-read, whole-merged, whole-last, whole-part}
 use Rattle.counting_theory.proofs.Ways.Written.{After, written-ends}
 
 run-merge : (e : Equivalence) (i j : ℕ) (arena : List ℕ) (calls : List Call) (hand others rest : List (List ℕ)) (first second : List ℕ) →
     pull i hand ≡ some (first, others) → pull j others ≡ some (second, rest) →
-    let w = merged first second (numberOf e) (length arena) in
+    let w = merged first second (equivalenceNumber e) (length arena) in
     run e (merge i j arena ∷ calls) hand ≡ goOn w (leaves w arena []) (λ b. run e calls (b ∷ rest))
 unfolding run
 run-merge e i j arena calls hand others rest first second p q = rw (p, run, q, run) refl
@@ -61,7 +61,7 @@ module _ (e : Equivalence) (n : ℕ) where
     hand-type : (x : HandType) → IsType e (handBytes x) (profileOf e (x .inputs))
     hand-type x = profile-type e (x .inputs) (x .valid) (x .fits) (omega (arith, type-length n allowed)) (x .within .0)
 
-    merged-hand : (x y : HandType) (arena : ℕ) → arena ≡ n → merged (handBytes x) (handBytes y) (numberOf e) arena ≡ mergedTypes (profileOf e (joinValues (x .inputs) (y .inputs))) n
+    merged-hand : (x y : HandType) (arena : ℕ) → arena ≡ n → merged (handBytes x) (handBytes y) (equivalenceNumber e) arena ≡ mergedTypes (profileOf e (joinValues (x .inputs) (y .inputs))) n
     merged-hand x y arena fixed =
         merged-types e (profileOf e (x .inputs)) (profileOf e (y .inputs)) n arena allowed fixed (hand-type x) (hand-type y)
         ∙ ap (λ f. mergedTypes f n) (reduce-join e (x .inputs) (y .inputs))

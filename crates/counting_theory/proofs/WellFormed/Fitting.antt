@@ -18,13 +18,13 @@ use Rattle.counting_theory.proofs.Payload.{numbers-fit}
 use Rattle.counting_theory.proofs.Label.{kind-eq, key-eq}
 use Rattle.counting_theory.proofs.Tagged.Parts.{holdsFields, Shape, tagged-parts}
 use Rattle.counting_theory.proofs.WellFormed.Limit.{limit-totals}
-use Rattle.counting_theory.proofs.WellFormed.Nodes.{Placed, depthUnder, shallow-parts, measured-parts}
+use Rattle.counting_theory.proofs.WellFormed.Nodes.{KeyOrDepth, depthUnder, shallow-parts, measured-parts}
 
 pub weight-addend : (l : Label) (a : Payload) → l .kind ≤ arrayKind → weightOf l a ≡ a .count
 weight-addend l a h = rw (ne-eqb (l .kind) fieldKind (λ z. omega arith))
 
 module _ (e : Equivalence) where
-  key-below : (field : Bool) (depth : ℕ) (l : Label) (c : CountingType) → Shape e field l c → Placed field depth l → l .key < 65536
+  key-below : (field : Bool) (depth : ℕ) (l : Label) (c : CountingType) → Shape e field l c → KeyOrDepth field depth l → l .key < 65536
   key-below true depth l c h p = p .1
   key-below false depth l c h p = omega (arith, key-eq (h .tagged))
 

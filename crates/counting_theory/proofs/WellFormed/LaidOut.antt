@@ -18,9 +18,9 @@ use Rattle.counting_theory.proofs.Label.{kind-eq, key-eq}
 use Rattle.counting_theory.proofs.Tagged.Parts.{holdsFields, Shape, tagged-parts}
 use Rattle.counting_theory.proofs.Encoding.Node.{NodeAt}
 use Rattle.counting_theory.proofs.WellFormed.Tests.{three-parts, three}
-use Rattle.counting_theory.proofs.WellFormed.Nodes.{Placed, depthUnder, shallow-parts, counted-parts}
+use Rattle.counting_theory.proofs.WellFormed.Nodes.{KeyOrDepth, depthUnder, shallow-parts, counted-parts}
 use Rattle.counting_theory.proofs.WellFormed.Record.{OwnRecord, TypeRecord, type-record, record-test}
-use Rattle.counting_theory.proofs.WellFormed.Holds.{Holds, holds-nil, labelWith, holds-node, holds-first}
+use Rattle.counting_theory.proofs.WellFormed.RecordsHold.{RecordsHold, holds-nil, labelWith, holds-node, holds-first}
 
 -- what stands inside record i, told by its kind and by the label
 pub inside-label : (b : List ℕ) (i : ℕ) (field : Bool) (l : Label) → typeKind b i ≡ l .kind → fieldsInside b i field ≡ holdsFields field l
@@ -34,7 +34,7 @@ size-total (node l a c s) h = omega arith
 
 module _ (e : Equivalence) (b : List ℕ) where
   own-held : (i end : ℕ) (field : Bool) (depth : ℕ) (l : Label) (a : Payload) (c s : CountingType) → NodeAt b i end l a c s → Shape e field l c →
-      Placed field depth l → 1 ≤ a .count → (l .kind ≡ fieldKind → a .count ≡ total Counting c) → OwnRecord b i field depth
+      KeyOrDepth field depth l → 1 ≤ a .count → (l .kind ≡ fieldKind → a .count ≡ total Counting c) → OwnRecord b i field depth
   own-held i end true depth l a c s n h p m t =
       record {
         kind-is = n .kind-is ∙ kind-eq h;
@@ -51,7 +51,7 @@ module _ (e : Equivalence) (b : List ℕ) where
       }
 
   -- the first record of a type whose counts are at least 1, and those of fields the totals of their unions
-  pub record-held : (i end : ℕ) (field : Bool) (depth : ℕ) (l : Label) (a : Payload) (c s : CountingType) → Holds e b i end field depth (node l a c s) →
+  pub record-held : (i end : ℕ) (field : Bool) (depth : ℕ) (l : Label) (a : Payload) (c s : CountingType) → RecordsHold e b i end field depth (node l a c s) →
       1 ≤ a .count → (l .kind ≡ fieldKind → a .count ≡ total Counting c) → TypeRecord b i end field depth
   unfolding size
   record-held i end field depth l a c s h m t =
@@ -65,7 +65,7 @@ module _ (e : Equivalence) (b : List ℕ) where
         own = own-held i end field depth l a c s n (p .0) (q .0) m t;
       }
 
-  pub held-laid : (k i end : ℕ) (field : Bool) (depth : ℕ) (f : CountingType) → Holds e b i end field depth f → counted f ≡ true → FieldTotals f →
+  pub held-laid : (k i end : ℕ) (field : Bool) (depth : ℕ) (f : CountingType) → RecordsHold e b i end field depth f → counted f ≡ true → FieldTotals f →
       size f ≤ k → laidOut b k i end field depth ≡ true
   unfolding laidOut size
   held-laid zero i end field depth nil h m t n = eq-eqb i end (omega (arith, h .ends))
@@ -82,11 +82,11 @@ module _ (e : Equivalence) (b : List ℕ) where
 
   -- records i to end hold some type
   abbrev Held : ℕ → ℕ → Bool → ℕ → Type 0
-  Held i end field depth = (f : CountingType) × Holds e b i end field depth f
+  Held i end field depth = (f : CountingType) × RecordsHold e b i end field depth f
 
   pub holds-record : (i end : ℕ) (field : Bool) (depth : ℕ) (c s : CountingType) → Bytes b → typeSize * end ≤ length b → TypeRecord b i end field depth →
-      Holds e b (i + 1) (i + typeSpan b i) (fieldsInside b i field) (depthInside (fieldsInside b i field) depth) c →
-      Holds e b (i + typeSpan b i) end field depth s → Holds e b i end field depth (node (labelWith e b i c) (typePayload b i) c s)
+      RecordsHold e b (i + 1) (i + typeSpan b i) (fieldsInside b i field) (depthInside (fieldsInside b i field) depth) c →
+      RecordsHold e b (i + typeSpan b i) end field depth s → RecordsHold e b i end field depth (node (labelWith e b i c) (typePayload b i) c s)
   holds-record i end field depth c s bytes room r x y =
       holds-node e b i c end field depth s bytes room r (rw (inside-label b i field (labelWith e b i c) refl) at x) y
 

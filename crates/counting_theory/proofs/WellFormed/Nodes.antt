@@ -13,16 +13,16 @@ use Rattle.counting_theory.proofs.Tagged.Parts.{holdsFields}
 use Rattle.counting_theory.proofs.WellFormed.Tests.{three-parts, three, implied, implies}
 
 -- a field's key fits, and an addend is not too deep
-abbrev pub Placed : Bool → ℕ → Label → Type 0
-Placed true depth l = (1 ≤ l .key) × (l .key < 65536)
-Placed false depth l = depth ≤ maxDepth
+abbrev pub KeyOrDepth : Bool → ℕ → Label → Type 0
+KeyOrDepth true depth l = (1 ≤ l .key) × (l .key < 65536)
+KeyOrDepth false depth l = depth ≤ maxDepth
 
 -- the depth of what stands inside a node
 abbrev pub depthUnder : Bool → Label → ℕ → ℕ
 depthUnder field l depth = depthInside (holdsFields field l) depth
 
 abbrev ShallowParts : Bool → ℕ → Label → CountingType → CountingType → Type 0
-ShallowParts field depth l c s = Placed field depth l × Shallow (holdsFields field l) (depthUnder field l depth) c × Shallow field depth s
+ShallowParts field depth l c s = KeyOrDepth field depth l × Shallow (holdsFields field l) (depthUnder field l depth) c × Shallow field depth s
 
 pub shallow-parts : (field : Bool) (depth : ℕ) (l : Label) (a : Payload) (c s : CountingType) → Shallow field depth (node l a c s) → ShallowParts field depth l c s
 shallow-parts true depth l a c s h = ((h .0, h .1), h .2, h .3)
@@ -49,7 +49,7 @@ unfolding measured
 measured-parts l a c s h = three-parts (proper (l .kind) a (total Counting c)) (measured c) (measured s) h
 
 pub record Own (e : Equivalence) (field : Bool) (depth : ℕ) (l : Label) (a : Payload) (c : CountingType) : Type 0 where
-  pub placed : Placed field depth l
+  pub placed : KeyOrDepth field depth l
   pub positive : 1 ≤ a .count
   pub fields : eqb (l .kind) recordKind ≡ true → fieldsOf e (a .count) c ≡ true
   pub payload : proper (l .kind) a (total Counting c) ≡ true

@@ -4,14 +4,8 @@ use borrow.Author.Needs.{needs}
 use Rattle.counting_type.proofs.bad_buffers.Statement.{statement}
 use Rattle.counting_type.proofs.bad_buffers.Tie as tie
 
-bad-length-requires : tie.Need-bad-length-requires
-bad-length-requires c κs = search needs
-
 returns : tie.Need-returns
 returns c = simp (sym (c .before .bad-length .ensures) ∙ c .if1 .taken)
-
-bad-length-requires-2 : tie.Need-bad-length-requires-2
-bad-length-requires-2 c κs = search needs
 
 returns-2 : tie.Need-returns-2
 returns-2 c = simp (sym (c .before .before .before .bad-length .ensures) ∙ c .before .before .if1 .left, sym (c .before .bad-length2 .ensures) ∙ c .if2 .taken)
@@ -21,4 +15,4 @@ returns-3 c = simp (sym (c .before .before .before .bad-length .ensures) ∙ c .
 
 pub bad-buffers-spec : {M : Type 1} → statement M
 bad-buffers-spec =
-    tie.close (tie.spec bad-length-requires returns bad-length-requires-2 returns-2 returns-3)
+    tie.close (tie.spec (λ c κs. search needs) returns (λ c κs. search needs) returns-2 returns-3)

@@ -4,20 +4,11 @@ use borrow.Author.Needs.{needs}
 use Rattle.counting_type.proofs.bad_lengths.Statement.{statement}
 use Rattle.counting_type.proofs.bad_lengths.Tie as tie
 
-bad-length-requires : tie.Need-bad-length-requires
-bad-length-requires c κs = search needs
-
 returns : tie.Need-returns
 returns c = simp (sym (c .before .bad-length .ensures) ∙ c .if1 .taken)
 
-bad-length-requires-2 : tie.Need-bad-length-requires-2
-bad-length-requires-2 c κs = search needs
-
 returns-2 : tie.Need-returns-2
 returns-2 c = simp (sym (c .before .before .before .bad-length .ensures) ∙ c .before .before .if1 .left, sym (c .before .bad-length2 .ensures) ∙ c .if2 .taken)
-
-bad-length-requires-3 : tie.Need-bad-length-requires-3
-bad-length-requires-3 c κs = search needs
 
 returns-3 : tie.Need-returns-3
 returns-3 c = simp (sym (c .before .before .before .before .bad-length .ensures) ∙ c .before .before .before .if1 .left, sym (c .before .before .bad-length2 .ensures) ∙ c .before .if2 .left, c .bad-length3 .ensures)
@@ -26,9 +17,9 @@ pub bad-lengths-spec : {M : Type 1} → statement M
 bad-lengths-spec =
     tie.close
     (tie.spec
-    bad-length-requires
+    (λ c κs. search needs)
     returns
-    bad-length-requires-2
+    (λ c κs. search needs)
     returns-2
-    bad-length-requires-3
+    (λ c κs. search needs)
     returns-3)

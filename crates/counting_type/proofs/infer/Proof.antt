@@ -9,23 +9,11 @@ use Rattle.answers.proofs.Exact.{exact-inferred}
 use Rattle.counting_type.proofs.infer.Statement.{statement}
 use Rattle.counting_type.proofs.infer.Tie as tie
 
-infer-front-requires : tie.Need-infer-front-requires
-infer-front-requires c κs = search needs
-
 bytes-written-requires : tie.Need-bytes-written-requires
 bytes-written-requires c κs = omega (arith, front-length (exact-inferred _ _ _ _) (c .before .before .before .before .before .infer-front .ensures))
 
 clear-from-requires : tie.Need-clear-from-requires
 clear-from-requires c κs = omega (arith, front-length (exact-inferred _ _ _ _) (c .before .before .before .before .before .before .infer-front .ensures), c .bytes-written .ensures)
-
-clear-from-requires-2 : tie.Need-clear-from-requires-2
-clear-from-requires-2 c κs = search needs
-
-same-length : tie.Need-same-length
-same-length c = search needs
-
-same-length-2 : tie.Need-same-length-2
-same-length-2 c = search needs
 
 returns : tie.Need-returns
 returns c = front-cleared (exact-inferred _ _ _ _) (c .before .before .before .before .before .before .before .before .before .before .before .before .before .infer-front .ensures) (c .before .before .before .before .before .before .before .before .before .before .before .before .before .before .before .before .before .before .before .args .arena .now) _ (c .before .before .before .before .before .before .before .before .before .before .before .before .before .before .before .before .before .before .before .args .work .now) _ (c .before .before .before .before .before .before .before .before .before .before .before .before .before .infer-front .kept .1 .1 .0) (rw (c .before .before .before .before .before .before .before .bytes-written .ensures) at (c .before .before .before .before .before .before .clear-from .ensures)) (c .before .before .clear-from2 .ensures ∙ cleared-whole (c .before .before .before .before .before .before .before .before .before .before .before .before .before .infer-front .last .1 .1 .1 .0) ∙ ap zeros (c .before .before .before .before .before .before .before .before .before .before .before .before .before .infer-front .kept .1 .1 .1 .0))
@@ -34,10 +22,10 @@ pub infer-spec : {M : Type 1} → statement M
 infer-spec =
     tie.close
     (tie.spec
-    infer-front-requires
+    (λ c κs. search needs)
     bytes-written-requires
     clear-from-requires
-    clear-from-requires-2
-    same-length
-    same-length-2
+    (λ c κs. search needs)
+    (λ c. search needs)
+    (λ c. search needs)
     returns)

@@ -17,7 +17,7 @@ use Rattle.answers.specs.declared.Refusal.the-variants.{Length, Equivalence, Ta
 use Rattle.counting_theory.specs.WellFormed.{badTypeLength}
 use Rattle.answers.proofs.Fronts.{front-refused, refused-from}
 use Rattle.answers.proofs.Equivalence.{known, unknown}
-use Rattle.counting_theory.proofs.WellFormed.Whole.{type-length}
+use Rattle.counting_theory.proofs.WellFormed.AcceptsExactly.{type-length}
 use Rattle.counting_type.proofs.infer_front.Statement.{statement}
 use Rattle.counting_type.proofs.infer_front.Tie as tie
 
@@ -26,9 +26,6 @@ buffers table arena work h =
     let p = or-parts (badLength table || badTypeLength arena) (not (eqb work arena)) h in
     (type-length arena (or-parts (badLength table) (badTypeLength arena) (p .0) .1) .1, omega (arith, eqb-true work arena (not-false _ (p .1))))
 
-bad-buffers-requires : tie.Need-bad-buffers-requires
-bad-buffers-requires c κs = search needs
-
 returns : tie.Need-returns
 unfolding inferred
 returns c = front-refused Length 0 _ (rw (sym (c .before .bad-buffers .ensures) ∙ c .if1 .taken) refl)
@@ -36,15 +33,6 @@ returns c = front-refused Length 0 _ (rw (sym (c .before .bad-buffers .ensures) 
 returns-2 : tie.Need-returns-2
 unfolding inferred
 returns-2 c = front-refused Equivalence 0 _ (rw (sym (c .before .before .bad-buffers .ensures) ∙ c .before .if1 .left, unknown _ (c .if2 .taken)) refl)
-
-judge-requires : tie.Need-judge-requires
-judge-requires c κs = search needs
-
-enum-known-why : tie.Need-enum-known-why
-enum-known-why c = search needs
-
-enum-told : tie.Need-enum-told
-enum-told c = search needs
 
 infer-checked-requires : tie.Need-infer-checked-requires
 infer-checked-requires c κs =
@@ -59,12 +47,6 @@ returns-3 c =
     let why = c .before .why .given .0 in
     front-refused (Table (why .0)) (why .1 .0) _ (rw (sym (c .before .before .before .before .before .before .bad-buffers .ensures) ∙ c .before .before .before .before .before .if1 .left, known _ (c .before .before .before .before .if2 .left), j) (refused-from (why .0) (why .1 .0) _ _ _))
 
-same-length : tie.Need-same-length
-same-length c = search needs
-
-same-length-2 : tie.Need-same-length-2
-same-length-2 c = search needs
-
 returns-4 : tie.Need-returns-4
 unfolding inferred
 returns-4 c =
@@ -75,14 +57,14 @@ pub infer-front-spec : {M : Type 1} → statement M
 infer-front-spec =
     tie.close
     (tie.spec
-    bad-buffers-requires
+    (λ c κs. search needs)
     returns
     returns-2
-    judge-requires
-    enum-known-why
-    enum-told
+    (λ c κs. search needs)
+    (λ c. search needs)
+    (λ c. search needs)
     infer-checked-requires
     returns-3
-    same-length
-    same-length-2
+    (λ c. search needs)
+    (λ c. search needs)
     returns-4)

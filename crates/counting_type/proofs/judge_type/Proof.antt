@@ -6,9 +6,6 @@ use Rattle.answers.proofs.Equivalence.{known, unknown}
 use Rattle.counting_type.proofs.judge_type.Statement.{statement}
 use Rattle.counting_type.proofs.judge_type.Tie as tie
 
-bad-length-requires : tie.Need-bad-length-requires
-bad-length-requires c κs = search needs
-
 returns : tie.Need-returns
 unfolding judgedType
 returns c = simp (sym (c .before .bad-length .ensures) ∙ c .if1 .taken)
@@ -31,4 +28,4 @@ returns-4 c = simp (sym (c .before .before .before .before .bad-length .ensures)
 pub judge-type-spec : {M : Type 1} → statement M
 judge-type-spec =
     tie.close
-    (tie.spec bad-length-requires returns returns-2 well-formed-requires returns-3 returns-4)
+    (tie.spec (λ c κs. search needs) returns returns-2 well-formed-requires returns-3 returns-4)

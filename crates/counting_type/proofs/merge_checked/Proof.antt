@@ -6,23 +6,11 @@ use Rattle.answers.proofs.Fronts.{front-room, front-bytes, front-within, front-
 use Rattle.counting_type.proofs.merge_checked.Statement.{statement}
 use Rattle.counting_type.proofs.merge_checked.Tie as tie
 
-merge-types-requires : tie.Need-merge-types-requires
-merge-types-requires c κs = search needs
-
-same-length : tie.Need-same-length
-same-length c = search needs
-
 returns : tie.Need-returns
 returns c = front-total _ _ _ (sym (c .before .before .before .merge-types .ensures .1 .1) ∙ c .if1 .taken)
 
-same-length-2 : tie.Need-same-length-2
-same-length-2 c = search needs
-
 returns-2 : tie.Need-returns-2
 returns-2 c = front-within _ _ (sym (c .before .before .before .before .merge-types .ensures .1 .1) ∙ c .before .if1 .left) _ _ (front-room _ _ _ (omega (arith, c .if2 .taken, c .before .before .before .before .merge-types .kept .1 .1 .1 .0, c .before .before .before .before .merge-types .ensures .1 .0)))
-
-same-length-3 : tie.Need-same-length-3
-same-length-3 c = search needs
 
 returns-3 : tie.Need-returns-3
 returns-3 c =
@@ -33,10 +21,10 @@ pub merge-checked-spec : {M : Type 1} → statement M
 merge-checked-spec =
     tie.close
     (tie.spec
-    merge-types-requires
-    same-length
+    (λ c κs. search needs)
+    (λ c. search needs)
     returns
-    same-length-2
+    (λ c. search needs)
     returns-2
-    same-length-3
+    (λ c. search needs)
     returns-3)

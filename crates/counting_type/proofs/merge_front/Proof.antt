@@ -10,16 +10,13 @@ use Rattle.answers.specs.declared.Refusal.the-variants.{Length, Equivalence, Fi
 use Rattle.counting_theory.specs.WellFormed.{badTypeLength}
 use Rattle.answers.proofs.Fronts.{front-refused}
 use Rattle.answers.proofs.Equivalence.{known, unknown}
-use Rattle.counting_theory.proofs.WellFormed.Whole.{well-formed-type}
+use Rattle.counting_theory.proofs.WellFormed.AcceptsExactly.{well-formed-type}
 use Rattle.value_table.proofs.Tests.{or-parts}
 use Rattle.counting_type.proofs.merge_front.Statement.{statement}
 use Rattle.counting_type.proofs.merge_front.Tie as tie
 
 lengths : (a b c : ℕ) → (badTypeLength a || badTypeLength b || badTypeLength c) ≡ false → (badTypeLength a ≡ false) × (badTypeLength b ≡ false)
 lengths a b c h = or-parts (badTypeLength a) (badTypeLength b) (or-parts (badTypeLength a || badTypeLength b) (badTypeLength c) h .0)
-
-bad-lengths-requires : tie.Need-bad-lengths-requires
-bad-lengths-requires c κs = search needs
 
 returns : tie.Need-returns
 unfolding merged
@@ -48,9 +45,6 @@ merge-checked-requires c κs =
     let l = lengths (length (c .before .before .before .before .before .before .before .before .before .before .before .args .first .now)) (length (c .before .before .before .before .before .before .before .before .before .before .before .args .second .now)) (length (c .before .before .before .before .before .before .before .before .before .before .before .args .arena .now)) (sym (c .before .before .before .before .before .before .before .bad-lengths .ensures) ∙ c .before .before .before .before .before .before .if1 .left) in
     (well-formed-type _ _ (λ p. c .before .before .before .before .before .before .before .before .before .before .shared-slice-known .given p .fits) (l .0) .0 (sym (c .before .before .before .before .well-formed .ensures) ∙ not-false _ (c .before .before .before .if3 .left)), well-formed-type _ _ (λ p. c .before .before .before .before .before .before .before .before .before .shared-slice-known2 .given p .fits) (l .1) .0 (sym (c .before .before .well-formed2 .ensures) ∙ not-false _ (c .before .if4 .left)))
 
-same-length : tie.Need-same-length
-same-length c = search needs
-
 returns-5 : tie.Need-returns-5
 unfolding merged
 returns-5 c = rw (sym (c .before .before .before .before .before .before .before .before .before .before .bad-lengths .ensures) ∙ c .before .before .before .before .before .before .before .before .before .if1 .left, known _ (c .before .before .before .before .before .before .before .before .if2 .left), sym (c .before .before .before .before .before .before .before .well-formed .ensures) ∙ not-false _ (c .before .before .before .before .before .before .if3 .left), sym (c .before .before .before .before .before .well-formed2 .ensures) ∙ not-false _ (c .before .before .before .before .if4 .left)) (c .before .before .merge-checked .ensures)
@@ -59,7 +53,7 @@ pub merge-front-spec : {M : Type 1} → statement M
 merge-front-spec =
     tie.close
     (tie.spec
-    bad-lengths-requires
+    (λ c κs. search needs)
     returns
     returns-2
     well-formed-requires
@@ -67,5 +61,5 @@ merge-front-spec =
     well-formed-requires-2
     returns-4
     merge-checked-requires
-    same-length
+    (λ c. search needs)
     returns-5)

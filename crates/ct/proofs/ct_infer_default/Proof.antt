@@ -4,22 +4,10 @@ use borrow.Author.Needs.{needs}
 use Rattle.ct.proofs.ct_infer_default.Statement.{statement}
 use Rattle.ct.proofs.ct_infer_default.Tie as tie
 
-infer-default-requires : tie.Need-infer-default-requires
-infer-default-requires c κs = search needs
-
-answer-of-requires : tie.Need-answer-of-requires
-answer-of-requires c κs = search needs
-
-same-length : tie.Need-same-length
-same-length c = search needs
-
-same-length-2 : tie.Need-same-length-2
-same-length-2 c = search needs
-
 returns : tie.Need-returns
 returns c =
     let k = c .before .before .before .before .before .infer-default in
     (λ i. record { outcome = (c .answer-of .ensures) i; arena = k .last .1 .0; work = k .last .1 .1 .0 }) ∙ k .ensures
 
 pub ct-infer-default-spec : {M : Type 1} → statement M
-ct-infer-default-spec = tie.close (tie.spec infer-default-requires answer-of-requires same-length same-length-2 returns)
+ct-infer-default-spec = tie.close (tie.spec (λ c κs. search needs) (λ c κs. search needs) (λ c. search needs) (λ c. search needs) returns)

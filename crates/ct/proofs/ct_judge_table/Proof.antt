@@ -4,14 +4,8 @@ use borrow.Author.Needs.{needs}
 use Rattle.ct.proofs.ct_judge_table.Statement.{statement}
 use Rattle.ct.proofs.ct_judge_table.Tie as tie
 
-judge-requires : tie.Need-judge-requires
-judge-requires c κs = search needs
-
-answer-of-requires : tie.Need-answer-of-requires
-answer-of-requires c κs = search needs
-
 returns : tie.Need-returns
 returns c = c .answer-of .ensures ∙ c .before .judge .ensures
 
 pub ct-judge-table-spec : {M : Type 1} → statement M
-ct-judge-table-spec = tie.close (tie.spec judge-requires answer-of-requires returns)
+ct-judge-table-spec = tie.close (tie.spec (λ c κs. search needs) (λ c κs. search needs) returns)

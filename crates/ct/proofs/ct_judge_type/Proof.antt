@@ -4,14 +4,8 @@ use borrow.Author.Needs.{needs}
 use Rattle.ct.proofs.ct_judge_type.Statement.{statement}
 use Rattle.ct.proofs.ct_judge_type.Tie as tie
 
-judge-type-requires : tie.Need-judge-type-requires
-judge-type-requires c κs = search needs
-
-answer-of-requires : tie.Need-answer-of-requires
-answer-of-requires c κs = search needs
-
 returns : tie.Need-returns
 returns c = c .answer-of .ensures ∙ c .before .judge-type .ensures
 
 pub ct-judge-type-spec : {M : Type 1} → statement M
-ct-judge-type-spec = tie.close (tie.spec judge-type-requires answer-of-requires returns)
+ct-judge-type-spec = tie.close (tie.spec (λ c κs. search needs) (λ c κs. search needs) returns)

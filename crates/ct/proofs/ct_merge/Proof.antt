@@ -5,19 +5,10 @@ use borrow.Author.Needs.{needs}
 use Rattle.ct.proofs.ct_merge.Statement.{statement}
 use Rattle.ct.proofs.ct_merge.Tie as tie
 
-merge-requires : tie.Need-merge-requires
-merge-requires c κs = search needs
-
-answer-of-requires : tie.Need-answer-of-requires
-answer-of-requires c κs = search needs
-
-same-length : tie.Need-same-length
-same-length c = search needs
-
 returns : tie.Need-returns
 returns c =
     (λ i. record { outcome = (c .answer-of .ensures) i; arena = c .before .before .before .merge .last .1 .1 .1 .0; work = [] })
     ∙ c .before .before .before .merge .ensures
 
 pub ct-merge-spec : {M : Type 1} → statement M
-ct-merge-spec = tie.close (tie.spec merge-requires answer-of-requires same-length returns)
+ct-merge-spec = tie.close (tie.spec (λ c κs. search needs) (λ c κs. search needs) (λ c. search needs) returns)

@@ -8,20 +8,20 @@ use lib.ListN.{length}
 use Rattle.value_table.specs.Value.{maxLength, Values, none, value, size, count, ValidAt}
 use Rattle.value_table.specs.Acceptance.{Table}
 use Rattle.value_table.proofs.Acceptance.{unique}
-use Rattle.gathering.specs.Inside.Gathering.{messageBytes, messageAt, SameMessage, MessageAt}
+use Rattle.gathering.specs.Inside.Gathering.{bytesOfMessage, messageAt, SameMessage, MessageAt}
 use Rattle.inference.proofs.InPlace.Runs.{FirstValue}
-use Rattle.inference.proofs.InPlace.Whole.{table-run}
+use Rattle.inference.proofs.InPlace.TableRun.{table-run}
 
 module _ {t : List ℕ} {i : ℕ} {left : Values} (short : length t ≤ maxLength) (x : FirstValue false 1 t i left) where
   abbrev first : Values
   first = value (x .head) (x .key) (x .content) none
 
-  first-table : Table (messageBytes t i) first 1
+  first-table : Table (bytesOfMessage t i) first 1
   unfolding ValidAt size count
   first-table = record { bytes = x .alone; valid = (x .proper, x .content-valid, tt); room = omega (arith, x .span-is, x .within); counted = refl }
 
   pub message-is : messageAt t i ≡ first
-  message-is = sym (unique (messageBytes t i) first 1 first-table)
+  message-is = sym (unique (bytesOfMessage t i) first 1 first-table)
 
   pub message-at : MessageAt t i
   message-at = record { some = omega (arith, x .span-is); within = x .within; run = rw message-is (table-run first-table) }

@@ -19,9 +19,9 @@ use Rattle.counting_theory.proofs.Trie.Join.{⊞-none}
 use Rattle.inference.specs.Inside.Inferring.{AcceptedTable, Grown}
 use Rattle.gathering.specs.Inside.Gathering.{slotStart, slotCount, slotRaw, waiting, Slot, Gathering}
 use Rattle.inference.proofs.InPlace.Runs.{none-left}
-use Rattle.inference.proofs.InPlace.Whole.{holds-nothing}
+use Rattle.inference.proofs.InPlace.TableRun.{holds-nothing}
 use Rattle.gathering.proofs.Waiting.Slots.{waiting-gives, waiting-cons, slot-empty}
-use Rattle.gathering.proofs.Waiting.Turns.{is-profile, added-sibling, grown-holds, added-same, slot-full}
+use Rattle.gathering.proofs.Waiting.GatherLoop.{is-profile, added-sibling, grown-holds, added-same, slot-full}
 
 infixr 66 _⊞_
 abbrev _⊞_ : Option Payload → Option Payload → Option Payload

@@ -15,7 +15,7 @@ use Rattle.counting_theory.proofs.Label.{counting-laws}
 use Rattle.counting_theory.proofs.Trie.Join.{⊞-comm, ⊞-assoc, ⊞-left-comm}
 use Rattle.counting_theory.proofs.Trie.Lookup.{lookup-append}
 use Rattle.counting_theory.specs.Inside.Times.{times}
-use Rattle.gathering.specs.Inside.Gathering.{slotStart, slotCount, messageAt, gathered, slotRaw, waiting}
+use Rattle.gathering.specs.Inside.Gathering.{slotStart, slotCount, messageAt, messageRaw, slotRaw, waiting}
 use Rattle.counting_theory.proofs.Times.{times-one, lookup-times}
 
 infixr 66 _⊞_
@@ -60,8 +60,8 @@ module _ (e : Equivalence) (t : List ℕ) (p : List Label) where
       ∙ ap (λ x. slot-gives v ⊞ x) (sym (waiting-cons u slots))
 
   -- one message more, or the first
-  pub gathered-more : (i n : ℕ) → lookup Counting (gathered e t i (suc n)) p ≡ lookup Counting (gathered e t i n) p ⊞ message-gives i
-  unfolding gathered lookup joinOption
+  pub gathered-more : (i n : ℕ) → lookup Counting (messageRaw e t i (suc n)) p ≡ lookup Counting (messageRaw e t i n) p ⊞ message-gives i
+  unfolding messageRaw lookup joinOption
   gathered-more i zero = ap (λ r. lookup Counting r p) (times-one (raw e false (messageAt t i)))
   gathered-more i (suc n) =
       ap (λ k. lookup Counting (times k (raw e false (messageAt t i))) p) (sym (add-one (suc n))) ∙ lookup-times (suc n) 1 (raw e false (messageAt t i)) p
@@ -76,14 +76,14 @@ module _ (e : Equivalence) (t : List ℕ) (p : List Label) where
 
   -- a new slot
   pub slot-first : (i : ℕ) → i < 8192 → slot-gives (i + 8192) ≡ message-gives i
-  unfolding gathered
+  unfolding messageRaw
   slot-first i h =
       let s : (i + 8192) % 8192 ≡ i = omega arith in
       let c : (i + 8192) / 8192 ≡ 1 = omega arith in
       rw (s, c) (ap (λ r. lookup Counting r p) (times-one (raw e false (messageAt t i))))
 
   pub slot-empty : (v : ℕ) → v < 8192 → slot-gives v ≡ none
-  unfolding gathered lookup
+  unfolding messageRaw lookup
   slot-empty v h =
       let c : v / 8192 ≡ 0 = omega arith in
       rw c refl

@@ -8,12 +8,9 @@ use borrow.Author.Needs.{needs}
 use Rattle.value_table.specs.Judged.{messages}
 use Rattle.counting_theory.specs.Trie.{nil}
 use Rattle.gathering.specs.Inside.Gathering.{Roomy}
-use Rattle.inference.proofs.InPlace.Whole.{table-run, holds-nothing, added-once, weighed-once}
+use Rattle.inference.proofs.InPlace.TableRun.{table-run, holds-nothing, added-once, weighed-once}
 use Rattle.gathering.proofs.add_messages.Statement.{statement}
 use Rattle.gathering.proofs.add_messages.Tie as tie
-
-slots-for-requires : tie.Need-slots-for-requires
-slots-for-requires c κs = search needs
 
 add-run-requires : tie.Need-add-run-requires
 add-run-requires c κs =
@@ -21,19 +18,10 @@ add-run-requires c κs =
     let r = table-run (s .pre .0 .is-table) in
     (record { f = nil; q = []; free = s .args .a .now; holds = holds-nothing _ _ (s .pre .1) }, record { values = messages (s .args .t .now); run = r }, omega (arith, s .pre .2), weighed-once (r .short))
 
-same-length : tie.Need-same-length
-same-length c = search needs
-
-same-length-2 : tie.Need-same-length-2
-same-length-2 c = search needs
-
 returns : tie.Need-returns
 returns c =
     let s = c .before .before .before .before .before .before .before .before .before .before .before .before .pre in
     rw (← added-once) (c .before .before .before .before .add-run .ensures nil [] _ _ (holds-nothing _ _ (s .1)) (table-run (s .0 .is-table)))
-
-clear-slots-requires : tie.Need-clear-slots-requires
-clear-slots-requires c κs = search needs
 
 -- the slots, cleared
 module _ (c : tie.After-clear-slots) where
@@ -46,18 +34,6 @@ module _ (c : tie.After-clear-slots) where
 gather-requires : tie.Need-gather-requires
 gather-requires c κs = let k = c .before .before .before .before in let s = start k .pre in (s .0, s .1, roomy k _ _ refl (k .clear-slots .kept .0), k .clear-slots .ensures _)
 
-enum-known-m : tie.Need-enum-known-m
-enum-known-m c = search needs
-
-enum-told : tie.Need-enum-told
-enum-told c = search needs
-
-same-length-3 : tie.Need-same-length-3
-same-length-3 c = search needs
-
-same-length-4 : tie.Need-same-length-4
-same-length-4 c = search needs
-
 returns-2 : tie.Need-returns-2
 returns-2 c = omega (arith, rw (c .enum-told .given .1) at (c .before .before .before .before .before .before .gather .ensures))
 
@@ -67,32 +43,23 @@ settle-requires c κs =
     let i = k .before .before .before .before .before in
     (start i .pre .0, rw (c .before .before .before .m .given .1) at (k .gather .ensures), roomy i _ _ (k .gather .kept .0) (k .gather .kept .1 .1 .1 .1 .0 ∙ i .clear-slots .kept .0))
 
-same-length-5 : tie.Need-same-length-5
-same-length-5 c = search needs
-
-same-length-6 : tie.Need-same-length-6
-same-length-6 c = search needs
-
-returns-3 : tie.Need-returns-3
-returns-3 c = search needs
-
 pub add-messages-spec : {M : Type 1} → statement M
 add-messages-spec =
     tie.close
     (tie.spec
-    slots-for-requires
+    (λ c κs. search needs)
     add-run-requires
-    same-length
-    same-length-2
+    (λ c. search needs)
+    (λ c. search needs)
     returns
-    clear-slots-requires
+    (λ c κs. search needs)
     gather-requires
-    enum-known-m
-    enum-told
-    same-length-3
-    same-length-4
+    (λ c. search needs)
+    (λ c. search needs)
+    (λ c. search needs)
+    (λ c. search needs)
     returns-2
     settle-requires
-    same-length-5
-    same-length-6
-    returns-3)
+    (λ c. search needs)
+    (λ c. search needs)
+    (λ c. search needs))

@@ -16,37 +16,16 @@ use Rattle.gathering.proofs.add_waiting.Tie as tie
 returns : tie.Need-returns
 returns c = (λ f free h. waited-nothing _ _ (c .if1 .taken) h, λ n. refl)
 
-mul-from : tie.Need-mul-from
-mul-from c = search needs
-
 span-at-requires : tie.Need-span-at-requires
 span-at-requires c κs =
     let s = c .before .before .before .before .pre in
     let m = waits (s .1) (s .2) (c .if1 .left) in
     omega (arith, m .some, m .within)
 
-add-stop : tie.Need-add-stop
-add-stop c = search needs
-
-mul-stop : tie.Need-mul-stop
-mul-stop c = search needs
-
-key-part-requires : tie.Need-key-part-requires
-key-part-requires c κs = search needs
-
-sub-add-run : tie.Need-sub-add-run
-sub-add-run c = search needs
-
-part-add-run-start : tie.Need-part-add-run-start
-part-add-run-start c = search needs
-
 part-add-run-end : tie.Need-part-add-run-end
 part-add-run-end c =
     let s = c .before .before .before .before .before .before .before .pre in
     omega (arith, waits (s .1) (s .2) (c .before .before .before .if1 .left) .within, c .before .before .span-at .ensures .0)
-
-slice-relend-prefix-add-run : tie.Need-slice-relend-prefix-add-run
-slice-relend-prefix-add-run c = search needs
 
 slice-aggregate-add-run : tie.Need-slice-aggregate-add-run
 slice-aggregate-add-run c = let h = c .before .before .before .key-part in sym (length-take-le (h .result) (c .before .before .before .before .before .before .before .before .before .args .work .now) (omega (arith, h .ensures)))
@@ -59,12 +38,6 @@ add-run-requires c κs =
     let i = slotStart (b .args .slot) in
     let part = part-is (s .1) (s .2) full _ _ refl (ap (λ n. recordSize * (i + n)) (c .before .before .before .before .span-at .ensures .0)) in
     (s .0, record { values = messageAt (b .args .t .now) i; run = rw part (waits (s .1) (s .2) full .run) }, simp length-take (omega (arith, s .3, c .before .before .before .key-part .ensures)), rw part (weighed (s .1) (s .2) full))
-
-same-length : tie.Need-same-length
-same-length c = search needs
-
-same-length-2 : tie.Need-same-length-2
-same-length-2 c = search needs
 
 returns-2 : tie.Need-returns-2
 returns-2 c =
@@ -81,17 +54,17 @@ add-waiting-spec =
     tie.close
     (tie.spec
     returns
-    mul-from
+    (λ c. search needs)
     span-at-requires
-    add-stop
-    mul-stop
-    key-part-requires
-    sub-add-run
-    part-add-run-start
+    (λ c. search needs)
+    (λ c. search needs)
+    (λ c κs. search needs)
+    (λ c. search needs)
+    (λ c. search needs)
     part-add-run-end
-    slice-relend-prefix-add-run
+    (λ c. search needs)
     slice-aggregate-add-run
     add-run-requires
-    same-length
-    same-length-2
+    (λ c. search needs)
+    (λ c. search needs)
     returns-2)

@@ -5,17 +5,17 @@ use Prim.Native.Nat.{_-_, _*_, _≤_, _<_}
 use native.Mathlib.Omega.{arith}
 use lib.ListN.{length}
 use Rattle.value_table.specs.Value.{maxLength, recordSize, records}
-use Rattle.type_arena.specs.Inside.Arena.{under}
+use Rattle.type_arena.specs.Inside.Arena.{byFlag}
 use Rattle.gathering.specs.Inside.Gathering.{slotsOf, MessageAt, Gathering}
-use Rattle.inference.proofs.InPlace.Whole.{table-run}
-use Rattle.gathering.proofs.Waiting.Turns.{here}
+use Rattle.inference.proofs.InPlace.TableRun.{table-run}
+use Rattle.gathering.proofs.Waiting.GatherLoop.{here}
 use Rattle.gathering.proofs.Waiting.Settled.{gathering-start}
 use Rattle.gathering.proofs.gather.Statement.{statement}
 use Rattle.gathering.proofs.gather.Tie as tie
 
 abbrev Inv-loop : tie.InvT-loop
 Inv-loop a₀ t slots label work₀ end m₀ i₀ a work m i =
-    Gathering (under label) t a m i (slotsOf slots work) × (length a ≡ length a₀) × (length work ≡ length work₀) × (i ≤ end)
+    Gathering (byFlag label) t a m i (slotsOf slots work) × (length a ≡ length a₀) × (length work ≡ length work₀) × (i ≤ end)
 
 abbrev μ-loop : tie.MeasureT-loop
 μ-loop a₀ t slots label work₀ end m₀ i₀ a work m i = end - i
@@ -42,18 +42,6 @@ take-message-requires c κs =
     let s = c .before .before .before .before .before .before .before .pre .2 in
     (v .0, more (c .before .before), short (c .before .before), record { some = s .some; few = omega (arith, s .few, v .1); enough = omega (arith, s .enough, v .1, v .2) })
 
-enum-known-size : tie.Need-enum-known-size Inv-loop μ-loop
-enum-known-size c = search needs
-
-enum-told : tie.Need-enum-told Inv-loop μ-loop
-enum-told c = search needs
-
-same-length : tie.Need-same-length Inv-loop μ-loop
-same-length c = search needs
-
-same-length-2 : tie.Need-same-length-2 Inv-loop μ-loop
-same-length-2 c = search needs
-
 returns : tie.Need-returns Inv-loop μ-loop
 returns c = rw (c .enum-told .given .1) at (c .before .before .before .before .before .before .take-message .ensures)
 
@@ -73,12 +61,6 @@ loop-again c =
     let k = c .before .before .before .before .before .before .before .before .take-message in
     (rw (c .before .before .size .given .1, ← r) at (k .ensures), omega (arith, k .kept .0, v .1), omega (arith, k .kept .1 .1 .1 .1 .1 .1 .0, v .2), omega (arith, message (c .before .before .before .before .before .before .before .before .before .before .before) .within, r))
 
-same-length-3 : tie.Need-same-length-3 Inv-loop μ-loop
-same-length-3 c = search needs
-
-same-length-4 : tie.Need-same-length-4 Inv-loop μ-loop
-same-length-4 c = search needs
-
 returns-2 : tie.Need-returns-2 Inv-loop μ-loop
 returns-2 c =
     let v = c .before .loop in
@@ -93,15 +75,15 @@ gather-spec =
     μ-loop
     loop-holds
     take-message-requires
-    enum-known-size
-    enum-told
-    same-length
-    same-length-2
+    (λ c. search needs)
+    (λ c. search needs)
+    (λ c. search needs)
+    (λ c. search needs)
     returns
     span-at-requires
     add-i
     loop-less
     loop-again
-    same-length-3
-    same-length-4
+    (λ c. search needs)
+    (λ c. search needs)
     returns-2)

@@ -8,10 +8,10 @@ use native.Mathlib.Omega.{arith}
 use lib.ListN.{length, drop, drop-of-length-le}
 use lib.Seq.{drop-cons}
 use Rattle.value_table.specs.Value.{records}
-use Rattle.type_arena.specs.Inside.Arena.{under}
+use Rattle.type_arena.specs.Inside.Arena.{byFlag}
 use Rattle.gathering.specs.Inside.Gathering.{slotsOf, Gathering}
 use Rattle.inference.proofs.InPlace.Runs.{whole-records}
-use Rattle.inference.proofs.InPlace.Whole.{table-run}
+use Rattle.inference.proofs.InPlace.TableRun.{table-run}
 use Rattle.gathering.proofs.Waiting.SlotBytes.{length-slots}
 use Rattle.gathering.proofs.Waiting.Settled.{settled-added, settled-full, settled-end}
 use Rattle.gathering.proofs.settle.Statement.{statement}
@@ -19,14 +19,14 @@ use Rattle.gathering.proofs.settle.Tie as tie
 
 abbrev Inv-loop : tie.InvT-loop
 Inv-loop a₀ m t slots label work₀ n₀ k₀ a work n k =
-    Gathering (under label) t a n (records t) (drop k (slotsOf slots work)) × (k ≤ slots) × (length a ≡ length a₀) × (length work ≡ length work₀)
+    Gathering (byFlag label) t a n (records t) (drop k (slotsOf slots work)) × (k ≤ slots) × (length a ≡ length a₀) × (length work ≡ length work₀)
 
 abbrev μ-loop : tie.MeasureT-loop
 μ-loop a₀ m t slots label work₀ n₀ k₀ a work n k = slots - k
 
 -- the slot at hand is the first of those that are left
 module _ (c : tie.After-read-slot Inv-loop μ-loop) where
-  slot-first : Gathering (under (c .before .before .before .before .before .before .before .args .label)) (c .before .before .before .before .before .before .before .args .t .now) (c .before .before .before .loop .a) (c .before .before .before .loop .n) (records (c .before .before .before .before .before .before .before .args .t .now)) (c .read-slot .result ∷ drop (suc (c .before .before .before .loop .k)) (slotsOf (c .before .before .before .before .before .before .before .args .slots) (c .before .before .before .loop .work)))
+  slot-first : Gathering (byFlag (c .before .before .before .before .before .before .before .args .label)) (c .before .before .before .before .before .before .before .args .t .now) (c .before .before .before .loop .a) (c .before .before .before .loop .n) (records (c .before .before .before .before .before .before .before .args .t .now)) (c .read-slot .result ∷ drop (suc (c .before .before .before .loop .k)) (slotsOf (c .before .before .before .before .before .before .before .args .slots) (c .before .before .before .loop .work)))
   slot-first =
       let v = c .before .before .before .loop in
       let n = c .before .before .before .before .before .before .before .args .slots in
@@ -49,29 +49,11 @@ add-waiting-requires c κs =
     let g = slot-first (c .before .before) in
     (record { f = g .f; q = []; free = g .free; holds = g .holds }, g .held 0 (omega arith), table-run (s .0 .is-table) .short, omega (arith, s .2 .enough, v .2, v .3))
 
-enum-known-size : tie.Need-enum-known-size Inv-loop μ-loop
-enum-known-size c = search needs
-
-enum-told : tie.Need-enum-told Inv-loop μ-loop
-enum-told c = search needs
-
-same-length : tie.Need-same-length Inv-loop μ-loop
-same-length c = search needs
-
-same-length-2 : tie.Need-same-length-2 Inv-loop μ-loop
-same-length-2 c = search needs
-
 returns : tie.Need-returns Inv-loop μ-loop
 returns c =
     let g = slot-first (c .before .before .before .before .before .before .before .before .before) in
     let w = c .before .before .before .before .before .before .add-waiting in
     omega (arith, settled-full _ _ g (w .last .0) (rw (c .enum-told .given .1) at (w .ensures .0 (g .f) (g .free) (g .holds))))
-
-add-k : tie.Need-add-k Inv-loop μ-loop
-add-k c = search needs
-
-loop-less : tie.Need-loop-less Inv-loop μ-loop
-loop-less c = search needs
 
 loop-again : tie.Need-loop-again Inv-loop μ-loop
 loop-again c =
@@ -79,12 +61,6 @@ loop-again c =
     let g = slot-first (c .before .before .before .before .before .before .before .before .before .before) in
     let w = c .before .before .before .before .before .before .before .add-waiting in
     (rw (add-one (v .k), w .ensures .1 (c .before .before .before .before .before .before .before .before .before .before .before .before .before .before .before .before .before .args .slots)) (settled-added _ _ g _ (w .last .0) (omega (arith, w .kept .0, g .holds .short)) (rw (c .before .size .given .1) at (w .ensures .0 (g .f) (g .free) (g .holds)))), omega (arith, c .before .before .before .before .before .before .before .before .before .before .before .before .loop-test .taken), omega (arith, w .kept .0, v .inv .2), omega (arith, w .kept .1 .1 .1 .1 .1 .0, v .inv .3))
-
-same-length-3 : tie.Need-same-length-3 Inv-loop μ-loop
-same-length-3 c = search needs
-
-same-length-4 : tie.Need-same-length-4 Inv-loop μ-loop
-same-length-4 c = search needs
 
 returns-2 : tie.Need-returns-2 Inv-loop μ-loop
 returns-2 c =
@@ -102,14 +78,14 @@ settle-spec =
     loop-holds
     read-slot-requires
     add-waiting-requires
-    enum-known-size
-    enum-told
-    same-length
-    same-length-2
+    (λ c. search needs)
+    (λ c. search needs)
+    (λ c. search needs)
+    (λ c. search needs)
     returns
-    add-k
-    loop-less
+    (λ c. search needs)
+    (λ c. search needs)
     loop-again
-    same-length-3
-    same-length-4
+    (λ c. search needs)
+    (λ c. search needs)
     returns-2)

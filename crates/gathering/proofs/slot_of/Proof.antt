@@ -11,30 +11,6 @@ Inv-loop t i end slots hash₀ j₀ hash j = hash < 4294967296
 abbrev μ-loop : tie.MeasureT-loop
 μ-loop t i end slots hash₀ j₀ hash j = end - j
 
-loop-holds : tie.Need-loop-holds Inv-loop μ-loop
-loop-holds c = search needs
-
-mul-hash : tie.Need-mul-hash Inv-loop μ-loop
-mul-hash c = search needs
-
-front-at-requires : tie.Need-front-at-requires Inv-loop μ-loop
-front-at-requires c κs = search needs
-
-add-hash : tie.Need-add-hash Inv-loop μ-loop
-add-hash c = search needs
-
-add-j : tie.Need-add-j Inv-loop μ-loop
-add-j c = search needs
-
-loop-less : tie.Need-loop-less Inv-loop μ-loop
-loop-less c = search needs
-
-loop-again : tie.Need-loop-again Inv-loop μ-loop
-loop-again c = search needs
-
-mul-result : tie.Need-mul-result Inv-loop μ-loop
-mul-result c = search needs
-
 mul-result-2 : tie.Need-mul-result-2 Inv-loop μ-loop
 mul-result-2 c =
     let s = c .before .before .before in
@@ -51,13 +27,13 @@ slot-of-spec =
     (tie.spec
     Inv-loop
     μ-loop
-    loop-holds
-    mul-hash
-    front-at-requires
-    add-hash
-    add-j
-    loop-less
-    loop-again
-    mul-result
+    (λ c. search needs)
+    (λ c. search needs)
+    (λ c κs. search needs)
+    (λ c. search needs)
+    (λ c. search needs)
+    (λ c. search needs)
+    (λ c. search needs)
+    (λ c. search needs)
     mul-result-2
     returns)

@@ -6,7 +6,7 @@ use native.Mathlib.Omega.{arith}
 use lib.ListN.{length, getD}
 use Rattle.gathering.specs.Inside.Gathering.{slotsOf, Slot}
 use Rattle.gathering.proofs.Waiting.SlotBytes.{length-slots}
-use Rattle.gathering.proofs.Waiting.Turns.{here, slot-later, taken-same, taken-to}
+use Rattle.gathering.proofs.Waiting.GatherLoop.{here, slot-later, taken-same, taken-to}
 use borrow.Author.Needs.{needs}
 use Rattle.gathering.proofs.take_message.Statement.{statement}
 use Rattle.gathering.proofs.take_message.Tie as tie
@@ -28,19 +28,10 @@ span-at-requires c κs =
     let m = here (s .0) (s .2) (s .1) in
     omega (arith, m .some, m .within)
 
-first-records-requires : tie.Need-first-records-requires
-first-records-requires c κs = search needs
-
-add-slot-of : tie.Need-add-slot-of
-add-slot-of c = search needs
-
 slot-of-requires : tie.Need-slot-of-requires
 slot-of-requires c κs =
     let s = c .before .before .before .before .before .pre in
     (omega (arith, here (s .0) (s .2) (s .1) .within, c .before .span-at .ensures .0, c .first-records .ensures), s .2, s .3 .some, omega (arith, s .3 .few, s .0 .holds .short))
-
-read-slot-requires : tie.Need-read-slot-requires
-read-slot-requires c κs = search needs
 
 same-message-requires : tie.Need-same-message-requires
 same-message-requires c κs =
@@ -53,12 +44,6 @@ add-put-slot c =
     let s = c .before .before .before .before .before .before .before .before .before .before .before .pre in
     omega (arith, slot-holds (c .before .before .before) .few, s .1, s .2)
 
-put-slot-requires : tie.Need-put-slot-requires
-put-slot-requires c κs = search needs
-
-same-length : tie.Need-same-length
-same-length c = search needs
-
 returns : tie.Need-returns
 returns c =
     let b = c .before .before .before .before .before .before .before .before .before .before .before .before .before .before in
@@ -69,23 +54,11 @@ returns c =
     rw (c .before .before .put-slot .ensures (b .args .slots) (k .ensures) (omega (arith, s .3 .few, s .3 .enough)), z)
     (taken-same (s .0) (s .2) (s .1) (k .result) (inside r) (rw z at (c .before .before .before .before .before .same-message .ensures (c .before .before .before .before .if1 .taken))))
 
-add-put-slot-2 : tie.Need-add-put-slot-2
-add-put-slot-2 c = search needs
-
-put-slot-requires-2 : tie.Need-put-slot-requires-2
-put-slot-requires-2 c κs = search needs
-
 add-waiting-requires : tie.Need-add-waiting-requires
 add-waiting-requires c κs =
     let s = c .before .before .before .before .before .before .before .before .before .before .before .before .before .before .before .before .pre in
     let g = s .0 in
     (record { f = g .f; q = []; free = g .free; holds = g .holds }, slot-later (omega (arith, s .1)) (slot-holds (c .before .before .before .before .before .before .before .before)), s .2, omega (arith, s .3 .enough, c .before .before .before .before .put-slot2 .kept .0))
-
-same-length-2 : tie.Need-same-length-2
-same-length-2 c = search needs
-
-same-length-3 : tie.Need-same-length-3
-same-length-3 c = search needs
 
 returns-2 : tie.Need-returns-2
 returns-2 c =
@@ -103,18 +76,18 @@ take-message-spec =
     tie.close
     (tie.spec
     span-at-requires
-    first-records-requires
-    add-slot-of
+    (λ c κs. search needs)
+    (λ c. search needs)
     slot-of-requires
-    read-slot-requires
+    (λ c κs. search needs)
     same-message-requires
     add-put-slot
-    put-slot-requires
-    same-length
+    (λ c κs. search needs)
+    (λ c. search needs)
     returns
-    add-put-slot-2
-    put-slot-requires-2
+    (λ c. search needs)
+    (λ c κs. search needs)
     add-waiting-requires
-    same-length-2
-    same-length-3
+    (λ c. search needs)
+    (λ c. search needs)
     returns-2)

@@ -15,7 +15,7 @@ use Rattle.counting_theory.specs.Label.{Equivalence, Label, Counting, CountingT
 use Rattle.counting_theory.specs.Inside.Times.{times}
 use Rattle.counting_theory.specs.Raw.{raw, profileOf}
 use Rattle.counting_theory.specs.Encoding.{typeSize}
-use Rattle.inference.specs.Inside.Inferring.{numbersOf, TableRun, Holds}
+use Rattle.inference.specs.Inside.Inferring.{numbersOf, TableRun, ArenaHolds}
 
 -- where the slots begin in a working buffer of n bytes, behind those for the keys
 abbrev pub keyPart : ℕ → ℕ
@@ -39,19 +39,19 @@ abbrev pub slotCount : ℕ → ℕ
 slotCount v = v / 8192
 
 -- the bytes of the message at record i of a table, and the message
-abbrev pub messageBytes : List ℕ → ℕ → List ℕ
-messageBytes t i = take (recordSize * spanAt t i) (drop (recordSize * i) t)
+abbrev pub bytesOfMessage : List ℕ → ℕ → List ℕ
+bytesOfMessage t i = take (recordSize * spanAt t i) (drop (recordSize * i) t)
 
 abbrev pub messageAt : List ℕ → ℕ → Values
-messageAt t i = messages (messageBytes t i)
+messageAt t i = messages (bytesOfMessage t i)
 
 -- raw material of the message at record i, n times
-unfoldable pub gathered : Equivalence → List ℕ → ℕ → ℕ → CountingType
-gathered e t i zero = nil
-gathered e t i (suc n) = times (suc n) (raw e false (messageAt t i))
+unfoldable pub messageRaw : Equivalence → List ℕ → ℕ → ℕ → CountingType
+messageRaw e t i zero = nil
+messageRaw e t i (suc n) = times (suc n) (raw e false (messageAt t i))
 
 abbrev pub slotRaw : Equivalence → List ℕ → ℕ → CountingType
-slotRaw e t v = gathered e t (slotStart v) (slotCount v)
+slotRaw e t v = messageRaw e t (slotStart v) (slotCount v)
 
 unfoldable pub waiting : Equivalence → List ℕ → List ℕ → CountingType
 waiting e t [] = nil
@@ -59,13 +59,13 @@ waiting e t (v ∷ slots) = append (slotRaw e t v) (waiting e t slots)
 
 -- the two records of t begin messages of the same bytes
 abbrev pub SameMessage : List ℕ → ℕ → ℕ → Type 0
-SameMessage t j i = (spanAt t j ≡ spanAt t i) × (messageBytes t j ≡ messageBytes t i)
+SameMessage t j i = (spanAt t j ≡ spanAt t i) × (bytesOfMessage t j ≡ bytesOfMessage t i)
 
 -- a message of t begins at record i
 pub record MessageAt (t : List ℕ) (i : ℕ) : Type 0 where
   pub some : 1 ≤ spanAt t i
   pub within : recordSize * (i + spanAt t i) ≤ length t
-  pub run : TableRun false (messageBytes t i) (messageAt t i)
+  pub run : TableRun false (bytesOfMessage t i) (messageAt t i)
 
 -- slot v holds messages of t before record i
 pub record Slot (t : List ℕ) (i v : ℕ) : Type 0 where
@@ -89,7 +89,7 @@ pub record Gathering (e : Equivalence) (t a : List ℕ) (m i : ℕ) (slots : Lis
   pub f : CountingType
   pub free : List ℕ
   pub left : Values
-  pub holds : Holds e false a m 0 f [] free
+  pub holds : ArenaHolds e false a m 0 f [] free
   pub left-bytes : drop (recordSize * i) t ≡ encode left
   pub valid : Valid left
   pub held : Slots t i slots

@@ -1,4 +1,4 @@
--- Siblings in two parts: their bytes and records, and what holds of the second part; siblings that a label comes behind.
+-- InferredSiblings in two parts: their bytes and records, and what holds of the second part; siblings that a label comes behind.
 use mathlib.Core.Path.{_≡_, refl, _∙_, ap}
 use mathlib.Core.Bool.{Bool}
 use mathlib.Core.List.{_++_, append-assoc}
@@ -9,7 +9,7 @@ use Rattle.counting_theory.specs.Inside.TrieLaws.{flip, append}
 use Rattle.counting_theory.specs.Trie.{nil, node, size, Before, Sorted}
 use Rattle.counting_theory.specs.Label.{Equivalence, Label, compareLabel, Counting, CountingType}
 use Rattle.counting_theory.specs.Encoding.{encode}
-use Rattle.inference.specs.Inside.Inferring.{Siblings}
+use Rattle.inference.specs.Inside.Inferring.{InferredSiblings}
 use Rattle.counting_theory.proofs.Trie.Sorted.{before-trans}
 use Rattle.counting_theory.proofs.Label.{label-order, counting-laws}
 use Rattle.counting_theory.proofs.Tagged.Parts.{tagged-parts}
@@ -25,11 +25,11 @@ size-append nil g = omega arith
 size-append (node l a c s) g = omega (arith, size-append s g)
 
 -- the siblings behind the first
-pub siblings-next : {e : Equivalence} {field : Bool} {l : Label} {a : Payload} {c s : CountingType} → Siblings e field (node l a c s) → Siblings e field s
+pub siblings-next : {e : Equivalence} {field : Bool} {l : Label} {a : Payload} {c s : CountingType} → InferredSiblings e field (node l a c s) → InferredSiblings e field s
 siblings-next {e} {field} {l} {a} {c} {s} h =
     record { tagged = tagged-parts e field l a c s (h .tagged) .2; sorted = h .sorted .2; keyed = h .keyed .2 }
 
-pub siblings-last : {e : Equivalence} {field : Bool} (f : CountingType) {g : CountingType} → Siblings e field (append f g) → Siblings e field g
+pub siblings-last : {e : Equivalence} {field : Bool} (f : CountingType) {g : CountingType} → InferredSiblings e field (append f g) → InferredSiblings e field g
 unfolding append
 siblings-last nil h = h
 siblings-last (node l a c s) h = siblings-last s (siblings-next h)

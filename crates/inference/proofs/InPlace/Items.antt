@@ -19,7 +19,7 @@ use Rattle.counting_theory.specs.Raw.{insertKey, ascending, raw}
 use Rattle.counting_theory.specs.Encoding.{typeSize, siblingKeys}
 use Rattle.counting_theory.specs.Inside.Times.{times}
 use Rattle.type_arena.specs.Inside.Payload.{itemPayload}
-use Rattle.inference.specs.Inside.Inferring.{keysPerRecord, keysOf, ListedIn, LabelListed, wanted, labelFor, withItem, split, grown, Siblings, TableRun, PlacedAt, CountedWithin}
+use Rattle.inference.specs.Inside.Inferring.{keysPerRecord, keysOf, ListedIn, LabelListed, wanted, labelFor, withItem, split, grown, InferredSiblings, TableRun, PlacedAt, CountedWithin}
 use Rattle.counting_theory.proofs.Label.{counting-laws}
 use Rattle.counting_theory.proofs.Trie.Growth.{add-grows, profile-grows}
 use Rattle.counting_theory.proofs.Tagged.Profile.{inferred}
@@ -80,18 +80,18 @@ siblings-size nil = omega arith
 siblings-size (node l a c s) = omega (arith, siblings-size s)
 
 -- the fields of a record are at least as many records
-fields-size : (e : Equivalence) (w : ℕ) (t : List ℕ) (vs : Values) (c : CountingType) → 1 ≤ w → TableRun true t vs → Siblings e true c → length (keys vs) ≤ size (add Counting (times w (raw e true vs)) c)
+fields-size : (e : Equivalence) (w : ℕ) (t : List ℕ) (vs : Values) (c : CountingType) → 1 ≤ w → TableRun true t vs → InferredSiblings e true c → length (keys vs) ≤ size (add Counting (times w (raw e true vs)) c)
 fields-size e w t vs c o r h =
     let p = profile Counting (raw e true vs) in
     let i : siblingKeys p ≡ ascending (keys vs) = inferred e true (r .depth) vs (rw (r .fields refl) at (r .valid)) .has-keys refl (r .distinct refl) in
     omega (arith, ap length i, length-ascending (keys vs), siblings-size p, profile-grows counting-laws (raw e true vs) c (h .sorted) .sizes, times-grows w (raw e true vs) c o (h .sorted))
 
-pub too-many : (e : Equivalence) (field : Bool) (kind key w : ℕ) (t : List ℕ) (vs : Values) (f : CountingType) → 1 ≤ w → kind ≡ recordKind → TableRun (eqb kind recordKind) t vs → Siblings e field f →
+pub too-many : (e : Equivalence) (field : Bool) (kind key w : ℕ) (t : List ℕ) (vs : Values) (f : CountingType) → 1 ≤ w → kind ≡ recordKind → TableRun (eqb kind recordKind) t vs → InferredSiblings e field f →
     (rest k n : ℕ) → n < 2 * length (keys vs) → k ≤ keysPerRecord * n → k < typeSize * (size (withItem e kind key w vs f) + rest)
 too-many e field kind key w t vs f o z r h rest k n i j =
     let b = eq-eqb kind recordKind z in
     let l = labelFor e kind key vs in
     let c = split l f .content in
-    let s : Siblings e true c = rw b at (content-siblings l e field f h) in
+    let s : InferredSiblings e true c = rw b at (content-siblings l e field f h) in
     let grown : size (add Counting (times w (raw e (eqb kind recordKind) vs)) c) ≡ size (add Counting (times w (raw e true vs)) c) = ap (λ u. size (add Counting (times w (raw e u vs)) c)) b in
     omega (arith, insert-size l (itemPayload w kind vs) (add Counting (times w (raw e (eqb kind recordKind) vs))) f, grown, fields-size e w t vs c o (rw b at r) s)

@@ -11,13 +11,13 @@ use Rattle.counting_theory.specs.Label.{Equivalence, Label, compareLabel, Count
 use Rattle.counting_theory.specs.Raw.{classOf, addend, raw}
 use Rattle.counting_theory.specs.Encoding.{Tagged}
 use Rattle.counting_theory.specs.Inside.Times.{times}
-use Rattle.inference.specs.Inside.Inferring.{Keyed, Siblings}
+use Rattle.inference.specs.Inside.Inferring.{Keyed, InferredSiblings}
 use Rattle.counting_theory.proofs.Label.{counting-laws}
 use Rattle.counting_theory.proofs.Trie.Sorted.{sorted-add, sorted-profile}
 use Rattle.counting_theory.proofs.Trie.Profile.{add-comm, reduce-add}
 use Rattle.counting_theory.proofs.Tagged.Profile.{inferred}
 use Rattle.counting_theory.proofs.Tagged.Reduce.{tagged-reduce}
-use Rattle.inference.proofs.InPlace.Runs.{key-fits}
+use Rattle.value_table.proofs.Run.{key-below}
 use Rattle.counting_theory.proofs.Times.{times-keeps}
 
 -- values that are no fields: their keys make no difference
@@ -49,7 +49,7 @@ module _ (e : Equivalence) where
   unfolding raw ValidAt
   keyed-raw field asFields depth none h = tt
   keyed-raw true asFields depth (value head key content next) h =
-      ((lit< tt, key-fits asFields key (h .0 .keyed)), ((omega (arith, h .0 .kind-high), lit< tt), keyed-raw (eqb (head .kind) recordKind) (eqb (head .kind) recordKind) (suc depth) content (h .1), tt), keyed-raw true asFields depth next (h .2))
+      ((lit< tt, key-below asFields key (h .0 .keyed)), ((omega (arith, h .0 .kind-high), lit< tt), keyed-raw (eqb (head .kind) recordKind) (eqb (head .kind) recordKind) (suc depth) content (h .1), tt), keyed-raw true asFields depth next (h .2))
   keyed-raw false asFields depth (value head key content next) h =
       ((omega (arith, h .0 .kind-high), lit< tt), keyed-raw (eqb (head .kind) recordKind) (eqb (head .kind) recordKind) (suc depth) content (h .1), keyed-raw false asFields depth next (h .2))
 
@@ -69,7 +69,7 @@ keyed-add nil f h k = k
 keyed-add (node l a c s) f h k = keyed-add s (insert Counting l a (add Counting c) f) (h .2) (keyed-insert l a (add Counting c) (h .0) (λ d. keyed-add c d (h .1)) f k)
 
 module _ (e : Equivalence) (field asFields : Bool) (depth : ℕ) (vs : Values) (valid : ValidAt asFields depth vs) (fields : field ≡ true → asFields ≡ true) where
-  add-siblings : (f : CountingType) → Siblings e field f → Siblings e field (add Counting (raw e field vs) f)
+  add-siblings : (f : CountingType) → InferredSiblings e field f → InferredSiblings e field (add Counting (raw e field vs) f)
   add-siblings f h =
       let r = raw e field vs in
       let p = profile Counting r in
@@ -80,5 +80,5 @@ module _ (e : Equivalence) (field asFields : Bool) (depth : ℕ) (vs : Values) (
         keyed = keyed-add r f (keyed-raw e field asFields depth vs valid) (h .keyed);
       }
 
-  pub times-siblings : (w : ℕ) → 1 ≤ w → (f : CountingType) → Siblings e field f → Siblings e field (add Counting (times w (raw e field vs)) f)
-  times-siblings = times-keeps (Siblings e field) (raw e field vs) (λ f h. h .sorted) add-siblings
+  pub times-siblings : (w : ℕ) → 1 ≤ w → (f : CountingType) → InferredSiblings e field f → InferredSiblings e field (add Counting (times w (raw e field vs)) f)
+  times-siblings = times-keeps (InferredSiblings e field) (raw e field vs) (λ f h. h .sorted) add-siblings

@@ -14,7 +14,7 @@ use Rattle.counting_theory.specs.Encoding.{typeSize, typePayload, header, encod
 use Rattle.type_arena.specs.Inside.Arena.{headerOf}
 use Rattle.type_arena.specs.Inside.Payload.{payloadOffset, payloadBytes}
 use Rattle.type_arena.proofs.PayloadBytes.{payload-joined}
-use Rattle.inference.specs.Inside.Inferring.{Holds, Split, grown, Counted}
+use Rattle.inference.specs.Inside.Inferring.{ArenaHolds, Split, grown, Counted}
 use Rattle.counting_theory.proofs.Encoding.Header.{length-encode}
 use Rattle.inference.proofs.InPlace.Part.{tail-part, tail-put}
 use Rattle.inference.proofs.InPlace.Append.{encode-append, size-append}
@@ -24,7 +24,7 @@ pub encode-node : (l : Label) (a : Payload) (c s : CountingType) → encode (nod
 unfolding encode
 encode-node l a c s = refl
 
-module _ {e : Equivalence} {field : Bool} {a : List ℕ} {n rest : ℕ} {f : CountingType} {q free : List ℕ} (h : Holds e field a n rest f q free) where
+module _ {e : Equivalence} {field : Bool} {a : List ℕ} {n rest : ℕ} {f : CountingType} {q free : List ℕ} (h : ArenaHolds e field a n rest f q free) where
   pub holds-length : length a ≡ typeSize * n + typeSize * rest + length free
   holds-length = ap length (h .bytes) ∙ simp length-append (omega (arith, length-encode f, h .count, h .used))
 

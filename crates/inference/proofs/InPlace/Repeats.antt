@@ -8,7 +8,8 @@ use native.Mathlib.Omega.{arith}
 use native.Mathlib.Decide.{decLt}
 use lib.ListN.{length, take, drop, getD, length-append, length-drop, take-append-drop}
 use lib.Seq.{take-add, drop-drop, take-at, drop-at}
-use Rattle.value_table.specs.Value.{Head, valueFormat, recordSize, maxLength, recordAt, header, Values, none, value, size, encode, Proper, ValidAt}
+use Rattle.value_table.specs.Value.{Head, valueFormat, recordSize, maxLength, header, Values, none, value, size, encode, Proper, ValidAt}
+use Rattle.value_table.specs.Inside.RecordBytes.{recordAt}
 use Rattle.byte_records.proofs.Format.{length-record, record-same}
 use Rattle.value_table.proofs.Run.{value-fits}
 use Rattle.value_table.proofs.Header.{length-encode}

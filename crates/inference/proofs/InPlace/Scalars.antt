@@ -20,10 +20,10 @@ use Rattle.counting_theory.specs.Inside.TrieLaws.{append}
 use Rattle.counting_theory.specs.Label.{Equivalence, Label, fieldKind, compareLabel, Counting, CountingType}
 use Rattle.counting_theory.specs.Raw.{ascending, raw}
 use Rattle.counting_theory.specs.Encoding.{typeSize, typeKind, typeKey, typeSpan, encode}
-use Rattle.type_arena.specs.Inside.Arena.{under, labelAt, InTable}
+use Rattle.type_arena.specs.Inside.Arena.{byFlag, labelAt, RecordIn}
 use Rattle.counting_theory.specs.Inside.Times.{times}
-use Rattle.inference.specs.Inside.Inferring.{numbersOf, StandsAt, Holds, Starts, split, grown, Counted, Grown, AddedAt, labelFor, ItemAt, EqualRecords, resumed}
-use Rattle.inference.specs.Inside.ScalarFields.{Ran, plain, fieldStart, withScalar}
+use Rattle.inference.specs.Inside.Inferring.{numbersOf, StandsAt, ArenaHolds, Starts, split, grown, Counted, Grown, AddedAt, labelFor, ItemAt, EqualRecords, resumed}
+use Rattle.inference.specs.Inside.ScalarFields.{AddedSoFar, plain, fieldStart, withScalar}
 use Rattle.counting_theory.proofs.Label.{kind-eq, key-eq}
 use Rattle.counting_theory.proofs.LabelOrder.{kind-less, kind-more, key-more, no-record}
 use Rattle.counting_theory.proofs.Tagged.Parts.{listed-field, Shape, tagged-parts}
@@ -33,8 +33,8 @@ use Rattle.inference.proofs.InPlace.Nodes.{node-in}
 use Rattle.inference.proofs.InPlace.Placing.{holds-length, here-as-is}
 use Rattle.inference.proofs.InPlace.Seeking.{Seen, from-bytes, from-count, seen-start, seen-at, stop, not-both}
 use Rattle.inference.proofs.InPlace.Splits.{HereAt, here-at}
-use Rattle.inference.proofs.InPlace.Steps.{step-within, step-span, step-empty, step-holds, step-kept}
-use Rattle.inference.proofs.InPlace.Turns.{ran-first, below, grown as grownBy, turn-room, turn-added}
+use Rattle.inference.proofs.InPlace.AddItem.{step-within, step-span, step-empty, step-holds, step-kept}
+use Rattle.inference.proofs.InPlace.RunLoop.{ran-first, below, grown as grownBy, turn-room, turn-added}
 
 -- a sibling where one starts: what is read there is its label
 record SiblingAt (e : Equivalence) (field : Bool) (a : List ℕ) (at : ℕ) : Type 0 where
@@ -43,9 +43,9 @@ record SiblingAt (e : Equivalence) (field : Bool) (a : List ℕ) (at : ℕ) : Ty
   kind-is : typeKind a at ≡ label .kind
   key-is : typeKey a at ≡ label .key
   shape : Shape e field label children
-  here : InTable a at
+  here : RecordIn a at
 
-module _ {e : Equivalence} {field : Bool} {a : List ℕ} {n rest : ℕ} {f : CountingType} {q free : List ℕ} (h : Holds e field a n rest f q free) where
+module _ {e : Equivalence} {field : Bool} {a : List ℕ} {n rest : ℕ} {f : CountingType} {q free : List ℕ} (h : ArenaHolds e field a n rest f q free) where
   sibling-in : (first last : CountingType) → f ≡ append first last → (at : ℕ) → at ≡ size first → at < n → SiblingAt e field a at
   unfolding size
   sibling-in first nil whole at count u = absurd (omega (arith, from-count h first nil whole at count))
@@ -58,62 +58,62 @@ module _ {e : Equivalence} {field : Bool} {a : List ℕ} {n rest : ℕ} {f : Cou
   sibling-at : {at : ℕ} → Starts at f → at < n → SiblingAt e field a at
   sibling-at {at} s u = sibling-in (s .first) (s .last) (s .whole) at (s .count) u
 
-  pub table-at : {at : ℕ} → Starts at f → at < n → InTable a at
+  pub table-at : {at : ℕ} → Starts at f → at < n → RecordIn a at
   table-at s u = sibling-at s u .here
 
 module _ {e : Equivalence} {a : List ℕ} {n rest : ℕ} {f : CountingType} {q free : List ℕ} {at : ℕ} where
-  pub field-kind : Holds e true a n rest f q free → Starts at f → at < n → fieldKind ≡ typeKind a at
+  pub field-kind : ArenaHolds e true a n rest f q free → Starts at f → at < n → fieldKind ≡ typeKind a at
   field-kind h s u = let x = sibling-at h s u in sym (x .kind-is ∙ kind-eq (x .shape))
 
-  pub union-key : Holds e false a n rest f q free → Starts at f → at < n → 0 ≡ typeKey a at
+  pub union-key : ArenaHolds e false a n rest f q free → Starts at f → at < n → 0 ≡ typeKey a at
   union-key h s u = let x = sibling-at h s u in sym (x .key-is ∙ key-eq (x .shape .tagged))
 
 -- a label without a key list against that of the record at p
 module _ (label : Bool) (b : List ℕ) (p kind key : ℕ) where
   abbrev compared : Ordering
-  compared = compareLabel (plain (under label) kind key) (labelAt (under label) b p)
+  compared = compareLabel (plain (byFlag label) kind key) (labelAt (byFlag label) b p)
 
   pub plain-kind-less : kind < typeKind b p → compared ≡ lt
   unfolding labelAt
-  plain-kind-less h = sym (kind-less (plain (under label) kind key) (labelAt (under label) b p) h)
+  plain-kind-less h = sym (kind-less (plain (byFlag label) kind key) (labelAt (byFlag label) b p) h)
 
   pub plain-kind-greater : typeKind b p < kind → compared ≡ gt
   unfolding labelAt
-  plain-kind-greater h = sym (kind-more (plain (under label) kind key) (labelAt (under label) b p) h)
+  plain-kind-greater h = sym (kind-more (plain (byFlag label) kind key) (labelAt (byFlag label) b p) h)
 
   pub plain-key-greater : kind ≡ typeKind b p → typeKey b p < key → compared ≡ gt
   unfolding labelAt
-  plain-key-greater ek h = sym (key-more (plain (under label) kind key) (labelAt (under label) b p) ek h)
+  plain-key-greater ek h = sym (key-more (plain (byFlag label) kind key) (labelAt (byFlag label) b p) ek h)
 
-pub plain-equal : (label : Bool) (b : List ℕ) (p kind key : ℕ) → kind ≡ typeKind b p → key ≡ typeKey b p → (kind ≡ recordKind → ⊥) → compareLabel (plain (under label) kind key) (labelAt (under label) b p) ≡ eq
+pub plain-equal : (label : Bool) (b : List ℕ) (p kind key : ℕ) → kind ≡ typeKind b p → key ≡ typeKey b p → (kind ≡ recordKind → ⊥) → compareLabel (plain (byFlag label) kind key) (labelAt (byFlag label) b p) ≡ eq
 unfolding labelAt
-plain-equal label b p kind key ek ey m = sym (no-record (under label) ek ey _ _ m)
+plain-equal label b p kind key ek ey m = sym (no-record (byFlag label) ek ey _ _ m)
 
 -- where a search has come to, and what it has seen
 pub record Begun (e : Equivalence) (b : List ℕ) (n : ℕ) (l : Label) (f : CountingType) (at : ℕ) : Type 0 where
   pub seen : Seen e b n l f false at
   pub starts : Starts at f
 
-pub begun-first : {e : Equivalence} {field : Bool} {b : List ℕ} {n rest : ℕ} {f : CountingType} {q free : List ℕ} → Holds e field b n rest f q free → (l : Label) → Begun e b n l f 0
+pub begun-first : {e : Equivalence} {field : Bool} {b : List ℕ} {n rest : ℕ} {f : CountingType} {q free : List ℕ} → ArenaHolds e field b n rest f q free → (l : Label) → Begun e b n l f 0
 unfolding append size
 begun-first {f = f} h l = record { seen = seen-start h l; starts = record { first = nil; last = f; whole = refl; count = refl } }
 
-module _ (label : Bool) {b : List ℕ} {n rest : ℕ} {f : CountingType} {q free : List ℕ} (h : Holds (under label) true b n rest f q free) (key : ℕ) where
+module _ (label : Bool) {b : List ℕ} {n rest : ℕ} {f : CountingType} {q free : List ℕ} (h : ArenaHolds (byFlag label) true b n rest f q free) (key : ℕ) where
   abbrev wantedField : Label
-  wantedField = plain (under label) fieldKind key
+  wantedField = plain (byFlag label) fieldKind key
 
   module _ {from : ℕ} (s : Starts from f) where
-    no-less : from < n → typeKey b from ≤ key → compareLabel wantedField (labelAt (under label) b from) ≡ lt → ⊥
+    no-less : from < n → typeKey b from ≤ key → compareLabel wantedField (labelAt (byFlag label) b from) ≡ lt → ⊥
     no-less u z = go (decLt (typeKey b from) key)
       where
-        go : Dec (typeKey b from < key) → compareLabel wantedField (labelAt (under label) b from) ≡ lt → ⊥
+        go : Dec (typeKey b from < key) → compareLabel wantedField (labelAt (byFlag label) b from) ≡ lt → ⊥
         go (yes v) y = not-both _ y .1 (plain-key-greater label b from fieldKind key (field-kind h s u) v)
         go (no v) y = not-both _ y .0 (plain-equal label b from fieldKind key (field-kind h s u) (omega arith) (λ w. omega arith))
 
-    pub begun-start : Begun (under label) b n wantedField f (fieldStart b from n key)
+    pub begun-start : Begun (byFlag label) b n wantedField f (fieldStart b from n key)
     begun-start = go (decLt from n) (decLt key (typeKey b from))
       where
-        go : Dec (from < n) → Dec (key < typeKey b from) → Begun (under label) b n wantedField f (fieldStart b from n key)
+        go : Dec (from < n) → Dec (key < typeKey b from) → Begun (byFlag label) b n wantedField f (fieldStart b from n key)
         go (no u) v = rw (le-ltb from n (omega arith)) (begun-first h wantedField)
         go (yes u) (yes v) = rw (lt-ltb from n u, lt-ltb key (typeKey b from) v) (begun-first h wantedField)
         go (yes u) (no v) = rw (lt-ltb from n u, le-ltb key (typeKey b from) (omega arith)) (record { seen = seen-at h wantedField s u (no-less u (omega arith)); starts = s })
@@ -136,7 +136,7 @@ field-label : (e : Equivalence) (key : ℕ) (vs : Values) → plain e fieldKind 
 field-label e key vs = label-is e fieldKind key 0 [] vs (listed-field e _ ∙ sym (listed-field e _))
 
 -- the field at record p, its union, and both counted
-module _ {e : Equivalence} {a : List ℕ} {n rest : ℕ} {f : CountingType} {q free : List ℕ} (h : Holds e true a n rest f q free) (key p : ℕ) (o : StandsAt (plain e fieldKind key) f p) where
+module _ {e : Equivalence} {a : List ℕ} {n rest : ℕ} {f : CountingType} {q free : List ℕ} (h : ArenaHolds e true a n rest f q free) (key p : ℕ) (o : StandsAt (plain e fieldKind key) f p) where
   abbrev l : Label
   l = plain e fieldKind key
 
@@ -159,11 +159,11 @@ module _ {e : Equivalence} {a : List ℕ} {n rest : ℕ} {f : CountingType} {q f
   field-bound = omega (arith, union-span, step-within f rest (h .used) (h .short) uncounted, holds-length h, h .short)
 
   module _ (s : ℕ) (es : s ≡ typeSpan a p) where
-    pub union-holds : Holds e false (take (length a - (typeSize * p + typeSize)) (drop (typeSize * p + typeSize) a)) (s - 1) (n + rest - p - s) union (encode (split l f .after) ++ q) (uncounted .free)
+    pub union-holds : ArenaHolds e false (take (length a - (typeSize * p + typeSize)) (drop (typeSize * p + typeSize) a)) (s - 1) (n + rest - p - s) union (encode (split l f .after) ++ q) (uncounted .free)
     union-holds = step-holds f rest (h .used) (h .short) uncounted s (es ∙ union-span) e true (h .siblings)
 
     module _ (w kind : ℕ) {b : List ℕ} (y : Counted (split l f) l (grown (split l f .payload) (itemPayload w fieldKind (scalar kind key))) q p n b) (short : length b ≤ maxLength) where
-      pub counted-union : Holds e false (take (length b - (typeSize * p + typeSize)) (drop (typeSize * p + typeSize) b)) (s - 1) (n + rest - p - s) union (encode (split l f .after) ++ q) (y .free)
+      pub counted-union : ArenaHolds e false (take (length b - (typeSize * p + typeSize)) (drop (typeSize * p + typeSize) b)) (s - 1) (n + rest - p - s) union (encode (split l f .after) ++ q) (y .free)
       counted-union = step-holds f rest (h .used) short y s (es ∙ union-span) e true (h .siblings)
 
       module _ (low : kind ≤ lastScalar) {i : ℕ} {z : List ℕ} (k : Counted (split (plain e kind 0) union) (plain e kind 0) (grown (split (plain e kind 0) union .payload) (itemPayload w kind none)) (encode (split l f .after) ++ q) i (s - 1) z) (small : length z ≤ maxLength) where
@@ -182,7 +182,7 @@ module _ {e : Equivalence} {a : List ℕ} {n rest : ℕ} {f : CountingType} {q f
             (step-kept f rest (h .used) short y s (es ∙ union-span) (itemPayload w fieldKind (scalar kind key)) refl more z union-grown)
 
 -- one field of a run is counted
-module _ {e : Equivalence} {w : ℕ} {vs : Values} {f : CountingType} {q a t : List ℕ} {n i from : ℕ} (x : Ran e true w vs f q a t n i from)
+module _ {e : Equivalence} {w : ℕ} {vs : Values} {f : CountingType} {q a t : List ℕ} {n i from : ℕ} (x : AddedSoFar e true w vs f q a t n i from)
     (short : length t ≤ maxLength) (more : recordSize * i < length t) (plainKind : kindAt t i ≤ lastScalar) where
   abbrev item : Item
   item = record { kind = fieldKind; key = keyAt t i; start = recordSize * i; next = i + spanAt t i }
@@ -203,10 +203,10 @@ module _ {e : Equivalence} {w : ℕ} {vs : Values} {f : CountingType} {q a t : L
         let same : below x short more item-at ≡ scalar (kindAt t i) (keyAt t i) = rw (v .kind-is, v .key-is, none-in) refl in
         (rw (same, mul-one w) g, o ∙ ap (λ l. size (split l (x .g) .before)) (field-label e (keyAt t i) _))
 
-    pub scalar-room : InTable b p
+    pub scalar-room : RecordIn b p
     scalar-room = turn-room x short more item-at 0 no-copies rest p n b refl added small
 
-    pub scalar-turn : length q ≡ typeSize * rest → Ran e true w vs f q b t n (i + 1) (resumed true b p n)
+    pub scalar-turn : length q ≡ typeSize * rest → AddedSoFar e true w vs f q b t n (i + 1) (resumed true b p n)
     unfolding table.size
     scalar-turn used =
         let one : spanAt t i ≡ 1 = ran-first x short more .span-is ∙ ap (λ c. 1 + table.size c) none-in in
@@ -214,8 +214,8 @@ module _ {e : Equivalence} {w : ℕ} {vs : Values} {f : CountingType} {q a t : L
         rw next at (turn-added x short more item-at 0 no-copies rest p n b refl added small used _ refl)
 
 -- nothing has changed but where a search may begin
-pub ran-from : {e : Equivalence} {field : Bool} {w : ℕ} {vs : Values} {f : CountingType} {q a t : List ℕ} {n i from : ℕ} (x : Ran e field w vs f q a t n i from) (p : ℕ) (b : List ℕ) → b ≡ a → Starts p (x .g) →
-    Ran e field w vs f q b t n i p
+pub ran-from : {e : Equivalence} {field : Bool} {w : ℕ} {vs : Values} {f : CountingType} {q a t : List ℕ} {n i from : ℕ} (x : AddedSoFar e field w vs f q a t n i from) (p : ℕ) (b : List ℕ) → b ≡ a → Starts p (x .g) →
+    AddedSoFar e field w vs f q b t n i p
 ran-from x p b z s =
     record {
       asFields = x .asFields;

@@ -16,7 +16,7 @@ use Rattle.counting_theory.specs.Inside.TrieLaws.{append}
 use Rattle.counting_theory.specs.Label.{Equivalence, Label, compareLabel, CountingType}
 use Rattle.counting_theory.specs.Encoding.{typeSize, typeSpan, encode}
 use Rattle.type_arena.specs.Inside.Arena.{labelAt, Labelled}
-use Rattle.inference.specs.Inside.Inferring.{spotHere, spot, Siblings, Holds, Starts, resumed}
+use Rattle.inference.specs.Inside.Inferring.{spotHere, spot, InferredSiblings, ArenaHolds, Starts, resumed}
 use Rattle.counting_theory.proofs.Trie.Profile.{append-assoc as forest-assoc}
 use Rattle.counting_theory.proofs.Encoding.Header.{length-encode}
 use Rattle.inference.proofs.InPlace.Part.{tail-drop}
@@ -31,7 +31,7 @@ pub record Seen (e : Equivalence) (a : List ℕ) (n : ℕ) (l : Label) (f : Coun
   pub q : List ℕ
   pub bytes : drop (typeSize * at) a ≡ encode g ++ q
   pub count : at + size g ≡ n
-  pub siblings : Siblings e field g
+  pub siblings : InferredSiblings e field g
   pub within : resumed ≡ true → at < n
   pub same : (resumed ≡ true → compareLabel l (labelAt e a at) ≡ lt → ⊥) → spot l at g ≡ spot l 0 f
 
@@ -45,7 +45,7 @@ spot-skip l at (node k n c s) g b =
 pub not-both : (o : Ordering) → o ≡ lt → (o ≡ eq → ⊥) × (o ≡ gt → ⊥)
 not-both o z = (λ e. let y : _≡_ {A = ℕ} 0 1 = cc in omega arith, λ e. let y : _≡_ {A = ℕ} 0 1 = cc in omega arith)
 
-module _ {e : Equivalence} {field : Bool} {a : List ℕ} {n rest : ℕ} {f : CountingType} {q free : List ℕ} (h : Holds e field a n rest f q free) where
+module _ {e : Equivalence} {field : Bool} {a : List ℕ} {n rest : ℕ} {f : CountingType} {q free : List ℕ} (h : ArenaHolds e field a n rest f q free) where
   -- what is held behind the first siblings of f
   module _ (first last : CountingType) (whole : f ≡ append first last) (from : ℕ) (count : from ≡ size first) where
     pub from-bytes : drop (typeSize * from) a ≡ encode last ++ (q ++ free)
@@ -56,7 +56,7 @@ module _ {e : Equivalence} {field : Bool} {a : List ℕ} {n rest : ℕ} {f : Cou
     pub from-count : from + size last ≡ n
     from-count = omega (arith, h .count, ap size whole, size-append first last)
 
-    from-siblings : Siblings e field last
+    from-siblings : InferredSiblings e field last
     from-siblings = siblings-last first (rw whole at (h .siblings))
 
   next-start : (first last : CountingType) → f ≡ append first last → (from : ℕ) → from ≡ size first → from < n → Starts (from + typeSpan a from) f
@@ -83,7 +83,7 @@ module _ {e : Equivalence} {field : Bool} {a : List ℕ} {n rest : ℕ} {f : Cou
       go true false z = s
       go false b z = s
 
-module _ {e : Equivalence} {field : Bool} {a : List ℕ} {n rest : ℕ} {f : CountingType} {q free : List ℕ} (h : Holds e field a n rest f q free) (l : Label) where
+module _ {e : Equivalence} {field : Bool} {a : List ℕ} {n rest : ℕ} {f : CountingType} {q free : List ℕ} (h : ArenaHolds e field a n rest f q free) (l : Label) where
   module _ (first last : CountingType) (whole : f ≡ append first last) (from : ℕ) (count : from ≡ size first) where
     from-same : AllBefore l first → spot l from last ≡ spot l 0 f
     from-same b =
@@ -92,7 +92,7 @@ module _ {e : Equivalence} {field : Bool} {a : List ℕ} {n rest : ℕ} {f : Cou
 
     -- the label is behind the first siblings if it does not come before the next one
     before-last : from < n → (compareLabel l (labelAt e a from) ≡ lt → ⊥) → (last : CountingType) → f ≡ append first last → drop (typeSize * from) a ≡ encode last ++ (q ++ free) →
-        from + size last ≡ n → Siblings e field last → AllBefore l first
+        from + size last ≡ n → InferredSiblings e field last → AllBefore l first
     unfolding size
     before-last u m nil z b w i = absurd (omega arith)
     before-last u m (node k c d t) z b w i =
@@ -139,7 +139,7 @@ pub record Stop (e : Equivalence) (a : List ℕ) (n : ℕ) (l : Label) (f : Coun
   pub greater : compareLabel l (labelAt e a at) ≡ gt → Seen e a n l f false (at + typeSpan a at)
 
 module _ {e : Equivalence} {a : List ℕ} {n : ℕ} {l : Label} {f : CountingType} {resumed : Bool} {at : ℕ} (short : length a ≤ maxLength) (x : Seen e a n l f resumed at) where
-  stop-at : at < n → (g : CountingType) → drop (typeSize * at) a ≡ encode g ++ x .q → at + size g ≡ n → Siblings e (x .field) g →
+  stop-at : at < n → (g : CountingType) → drop (typeSize * at) a ≡ encode g ++ x .q → at + size g ≡ n → InferredSiblings e (x .field) g →
       ((resumed ≡ true → compareLabel l (labelAt e a at) ≡ lt → ⊥) → spot l at g ≡ spot l 0 f) → Stop e a n l f resumed at
   unfolding size spot spotHere
   stop-at u nil h z s m = absurd (omega arith)

@@ -11,7 +11,7 @@ use Rattle.counting_theory.specs.Payload.{Payload}
 use Rattle.counting_theory.specs.Trie.{nil, node, size, insertStep, insert}
 use Rattle.counting_theory.specs.Inside.TrieLaws.{append}
 use Rattle.counting_theory.specs.Label.{Equivalence, Label, compareLabel, Counting, CountingType}
-use Rattle.inference.specs.Inside.Inferring.{spotHere, spot, Siblings, Split, splitHere, split, grown}
+use Rattle.inference.specs.Inside.Inferring.{spotHere, spot, InferredSiblings, Split, splitHere, split, grown}
 use Rattle.counting_theory.proofs.Label.{kind-eq, label-order}
 use Rattle.counting_theory.proofs.Tagged.Parts.{holdsFields, Shape, tagged-parts}
 use Rattle.inference.proofs.InPlace.Append.{siblings-next}
@@ -83,8 +83,8 @@ module _ (l : Label) where
 
   -- the children where the label stands, if it does
   module _ (e : Equivalence) (field : Bool) where
-    content-node : (o : Ordering) (k : Label) (n : Payload) (c s : CountingType) → compareLabel l k ≡ o → Siblings e field (node k n c s) →
-        Siblings e (eqb (l .kind) recordKind) (split l s .content) → Siblings e (eqb (l .kind) recordKind) (splitHere o k n c s (split l s) .content)
+    content-node : (o : Ordering) (k : Label) (n : Payload) (c s : CountingType) → compareLabel l k ≡ o → InferredSiblings e field (node k n c s) →
+        InferredSiblings e (eqb (l .kind) recordKind) (split l s .content) → InferredSiblings e (eqb (l .kind) recordKind) (splitHere o k n c s (split l s) .content)
     unfolding splitHere
     content-node lt k n c s z h i = record { tagged = tt; sorted = tt; keyed = tt }
     content-node eq k n c s z h i =
@@ -92,7 +92,7 @@ module _ (l : Label) where
         rw (label-order .compare-eq z) (record { tagged = rw (fields-inside e field k c (p .0)) at (p .1); sorted = h .sorted .1; keyed = h .keyed .1 })
     content-node gt k n c s z h i = i
 
-    pub content-siblings : (f : CountingType) → Siblings e field f → Siblings e (eqb (l .kind) recordKind) (split l f .content)
+    pub content-siblings : (f : CountingType) → InferredSiblings e field f → InferredSiblings e (eqb (l .kind) recordKind) (split l f .content)
     unfolding split
     content-siblings nil h = record { tagged = tt; sorted = tt; keyed = tt }
     content-siblings (node k n c s) h = content-node (compareLabel l k) k n c s refl h (content-siblings s (siblings-next h))

@@ -10,6 +10,7 @@ use lib.ListN.{length, take, drop}
 use Rattle.byte_records.specs.Number.{numberOf}
 use Rattle.value_table.specs.Value.{maxLength, recordKind, Values, keys, Distinct, ValidAt}
 use Rattle.value_table.specs.Value as table
+use Rattle.value_table.specs.Inside.RecordBytes.{recordAt}
 use Rattle.value_table.specs.Judged.{messages}
 use Rattle.value_table.specs.Acceptance.{Table}
 use Rattle.inference.specs.declared.key_list.Listed.{Listed}
@@ -77,8 +78,8 @@ pub record SomeRun (field : Bool) (t : List ℕ) : Type 0 where
 
 -- w begins with the ascending keys of vs; or vs has more fields than w has room for keys
 abbrev pub ListedIn : Values → Listed → List ℕ → Type 0
-ListedIn vs (Keys n) w = (keysOf n w ≡ ascending (keys vs)) × (2 * n ≤ length w)
-ListedIn vs TooMany w = length w < 2 * length (keys vs)
+ListedIn vs (Keys n) w = (keysOf n w ≡ ascending (keys vs)) × (keySize * n ≤ length w)
+ListedIn vs TooMany w = length w < keySize * length (keys vs)
 
 -- the label of a kind and a key, with the first n keys of w as its key list
 abbrev pub wanted : Equivalence → ℕ → ℕ → ℕ → List ℕ → Label
@@ -104,18 +105,18 @@ Keyed nil = Unit {0}
 Keyed (node l a c s) = ((l .kind < 256) × (l .key < 65536)) × Keyed c × Keyed s
 
 -- f is a union or, where `field` is true, a record's run of fields, as inference makes them
-pub record Siblings (e : Equivalence) (field : Bool) (f : CountingType) : Type 0 where
+pub record InferredSiblings (e : Equivalence) (field : Bool) (f : CountingType) : Type 0 where
   pub tagged : Tagged e field f
   pub sorted : Sorted Counting f
   pub keyed : Keyed f
 
 -- the arena a is the siblings f, of n records, then q, the `rest` records that are in use behind them, then what is free
-pub record Holds (e : Equivalence) (field : Bool) (a : List ℕ) (n rest : ℕ) (f : CountingType) (q free : List ℕ) : Type 0 where
+pub record ArenaHolds (e : Equivalence) (field : Bool) (a : List ℕ) (n rest : ℕ) (f : CountingType) (q free : List ℕ) : Type 0 where
   pub bytes : a ≡ encode f ++ (q ++ free)
   pub count : n ≡ size f
   pub used : length q ≡ typeSize * rest
   pub short : length a ≤ maxLength
-  pub siblings : Siblings e field f
+  pub siblings : InferredSiblings e field f
 
 -- a sibling of f, or the end, is at record `from`
 pub record Starts (from : ℕ) (f : CountingType) : Type 0 where
@@ -134,7 +135,7 @@ pub record HeldFrom (e : Equivalence) (a : List ℕ) (n rest from : ℕ) : Type 
   pub f : CountingType
   pub q : List ℕ
   pub free : List ℕ
-  pub holds : Holds e field a n rest f q free
+  pub holds : ArenaHolds e field a n rest f q free
   pub starts : Starts from f
 
 pub record Shown (e : Equivalence) (a : List ℕ) (n from : ℕ) : Type 0 where
@@ -146,7 +147,7 @@ pub record HeldRun (e : Equivalence) (field : Bool) (a : List ℕ) (n rest : ℕ
   pub f : CountingType
   pub q : List ℕ
   pub free : List ℕ
-  pub holds : Holds e field a n rest f q free
+  pub holds : ArenaHolds e field a n rest f q free
 
 -- the siblings around the label l: those before it, its payload if it stands there, its children, and those after it
 pub record Split : Type 0 where
@@ -215,8 +216,8 @@ pub record Weighed (w : ℕ) (t : List ℕ) : Type 0 where
 
 -- the key list that the label asks for is in w; or the record has more fields than w has room for keys
 abbrev pub LabelListed : Equivalence → ℕ → Values → Listed → List ℕ → Type 0
-LabelListed e kind vs (Keys n) w = (listed e kind (keysOf n w) ≡ listed e kind (ascending (keys vs))) × (2 * n ≤ length w)
-LabelListed e kind vs TooMany w = (kind ≡ recordKind) × (length w < 2 * length (keys vs))
+LabelListed e kind vs (Keys n) w = (listed e kind (keysOf n w) ≡ listed e kind (ascending (keys vs))) × (keySize * n ≤ length w)
+LabelListed e kind vs TooMany w = (kind ≡ recordKind) × (length w < keySize * length (keys vs))
 
 -- What stands at record i of a run: the kind and key of its label, the byte from which what is below it is read, and the record behind
 -- it. A field's value is read as a run of its own.
@@ -229,7 +230,7 @@ pub record ItemAt (field : Bool) (t : List ℕ) (i : ℕ) (x : Item) : Type 0 wh
 -- n records of t from i on have the bytes of those from j on
 pub record EqualRecords (t : List ℕ) (i j n : ℕ) : Type 0 where
   pub within : table.recordSize * (j + n) ≤ length t
-  pub same : (x : ℕ) → x < n → table.recordAt t (i + x) ≡ table.recordAt t (j + x)
+  pub same : (x : ℕ) → x < n → recordAt t (i + x) ≡ recordAt t (j + x)
 
 -- t is the table of its messages, as call 1 accepts it
 pub record AcceptedTable (t : List ℕ) : Type 0 where

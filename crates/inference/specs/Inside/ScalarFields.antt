@@ -15,11 +15,11 @@ use Rattle.counting_theory.specs.Label.{Equivalence, Label, fieldKind, Counting
 use Rattle.counting_theory.specs.Inside.Times.{times}
 use Rattle.counting_theory.specs.Raw.{raw}
 use Rattle.counting_theory.specs.Encoding.{typeSize, typeKey, encode}
-use Rattle.type_arena.specs.Inside.Arena.{under}
-use Rattle.inference.specs.Inside.Inferring.{Siblings, Holds, Starts, StandsAt, split, wanted, withItem, Grown}
+use Rattle.type_arena.specs.Inside.Arena.{byFlag}
+use Rattle.inference.specs.Inside.Inferring.{InferredSiblings, ArenaHolds, Starts, StandsAt, split, wanted, withItem, Grown}
 
 -- what is left of the run vs from record i on, and the siblings g that it is to be added to, w times
-pub record Ran (e : Equivalence) (field : Bool) (w : ℕ) (vs : Values) (f : CountingType) (q a t : List ℕ) (m i from : ℕ) : Type 0 where
+pub record AddedSoFar (e : Equivalence) (field : Bool) (w : ℕ) (vs : Values) (f : CountingType) (q a t : List ℕ) (m i from : ℕ) : Type 0 where
   pub asFields : Bool
   pub depth : ℕ
   pub left : Values
@@ -30,20 +30,20 @@ pub record Ran (e : Equivalence) (field : Bool) (w : ℕ) (vs : Values) (f : Cou
   pub fields : field ≡ true → asFields ≡ true
   pub held : a ≡ encode g ++ (q ++ free)
   pub count : m ≡ size g
-  pub siblings : Siblings e field g
+  pub siblings : InferredSiblings e field g
   pub starts : Starts from g
   pub some : 1 ≤ w
   pub same : add Counting (times w (raw e field left)) g ≡ add Counting (times w (raw e field vs)) f
 
 -- the same of some run, with the lengths that bound it
-pub record SomeRan (field : Bool) (w : ℕ) (a t : List ℕ) (n i from : ℕ) : Type 0 where
+pub record SomeAddedSoFar (field : Bool) (w : ℕ) (a t : List ℕ) (n i from : ℕ) : Type 0 where
   pub label : Bool
   pub vs : Values
   pub f : CountingType
   pub q : List ℕ
   pub rest : ℕ
   pub used : length q ≡ typeSize * rest
-  pub ran : Ran (under label) field w vs f q a t n i from
+  pub ran : AddedSoFar (byFlag label) field w vs f q a t n i from
   pub short : length a ≤ maxLength
   pub short-table : length t ≤ maxLength
 
@@ -58,7 +58,7 @@ pub record SomeFrom (field : Bool) (b : List ℕ) (n from : ℕ) : Type 0 where
   pub f : CountingType
   pub q : List ℕ
   pub free : List ℕ
-  pub holds : Holds (under label) field b n rest f q free
+  pub holds : ArenaHolds (byFlag label) field b n rest f q free
   pub starts : Starts from f
 
 -- some fields, of which one stands at record p
@@ -70,8 +70,8 @@ pub record SomeField (b : List ℕ) (p : ℕ) : Type 0 where
   pub f : CountingType
   pub q : List ℕ
   pub free : List ℕ
-  pub holds : Holds (under label) true b n rest f q free
-  pub here : StandsAt (plain (under label) fieldKind key) f p
+  pub holds : ArenaHolds (byFlag label) true b n rest f q free
+  pub here : StandsAt (plain (byFlag label) fieldKind key) f p
 
 -- where a search for a field begins: at `from`, unless there is none, or one with a larger key
 abbrev pub fieldStart : List ℕ → ℕ → ℕ → ℕ → ℕ

@@ -14,18 +14,18 @@ use Rattle.counting_theory.specs.Trie.{nil, node, total, largestBelow, largestT
 use Rattle.counting_theory.specs.Label.{Equivalence, Label, fieldKind, Counting, CountingType}
 use Rattle.counting_theory.specs.Encoding.{typePayload, typeKind, typeOf, Tagged}
 use Rattle.counting_theory.specs.WellFormed.{maxTotal, withinLimit, depthInside, Shallow, IsType}
-use Rattle.type_arena.specs.Inside.Arena.{under, labelAt}
+use Rattle.type_arena.specs.Inside.Arena.{byFlag, labelAt}
 use Rattle.type_arena.specs.Inside.Addend.{body, rest, Coded, Union}
 use Rattle.merging.specs.Inside.Merging.{depthOf, Part, insideOf, exceeds}
 use Rattle.counting_theory.proofs.Label.{kind-eq}
 use Rattle.counting_theory.proofs.Tagged.Parts.{holdsFields}
-use Rattle.counting_theory.proofs.WellFormed.Nodes.{Placed, depthUnder, shallow-parts}
+use Rattle.counting_theory.proofs.WellFormed.Nodes.{KeyOrDepth, depthUnder, shallow-parts}
 use Rattle.counting_theory.proofs.Encoding.Header.{length-encode}
 use Rattle.counting_theory.proofs.WellFormed.Limit.{limit-totals, totals-limit}
 use Rattle.type_arena.proofs.FirstAddend.{Addend, addend, coded-type, type-coded}
 
 -- an addend has a level left
-level-left : (field : Bool) (left : ℕ) (l : Label) → Placed field (maxDepth + 1 - (left + cond field 1 0)) l → cond field 0 1 ≤ left
+level-left : (field : Bool) (left : ℕ) (l : Label) → KeyOrDepth field (maxDepth + 1 - (left + cond field 1 0)) l → cond field 0 1 ≤ left
 level-left true left l h = omega arith
 level-left false left l h = omega arith
 
@@ -42,16 +42,16 @@ shallow-inside false left l c low some h = go (eqb (l .kind) recordKind) h
     go false h = let e : maxDepth + 1 - (left + 0) + 1 ≡ maxDepth + 1 - (left - 1 + 0) = omega arith in rw e at h
 
 pub record Head (level : Level) (x : List ℕ) : Type 0 where
-  pub first : Addend (under (level .label)) (level .field) x
+  pub first : Addend (byFlag (level .label)) (level .field) x
   pub level-left : cond (level .field) 0 1 ≤ level .left
   pub in-body : Part (insideOf level (typeKind x 0)) (body x)
   pub in-rest : Part level (rest x)
-  pub light : exceeds (typeOf (under (level .label)) (body x)) ≡ false
+  pub light : exceeds (typeOf (byFlag (level .label)) (body x)) ≡ false
 
 pub head : {level : Level} {x : List ℕ} → Part level x → 0 < length x → Head level x
 unfolding labelAt largestTotal largestBelow total exceeds
 head {level} {x} p h =
-    let e : Equivalence = under (level .label) in
+    let e : Equivalence = byFlag (level .label) in
     let l : Label = labelAt e x 0 in
     let c : CountingType = typeOf e (body x) in
     let s : CountingType = typeOf e (rest x) in
@@ -76,7 +76,7 @@ head {level} {x} p h =
     }
 
 -- a whole type is a union at depth 1, and short
-pub type-part : (label : Bool) (x : List ℕ) → IsType (under label) x (typeOf (under label) x) → Part (record { left = maxDepth; field = false; label = label }) x
+pub type-part : (label : Bool) (x : List ℕ) → IsType (byFlag label) x (typeOf (byFlag label) x) → Part (record { left = maxDepth; field = false; label = label }) x
 type-part label x t =
     record {
       coded = type-coded t;
@@ -100,9 +100,9 @@ rank-inside {level} {x} h = go (level .field) (eqb (typeKind x 0) recordKind) (h
     go false true i = omega arith
     go false false i = omega arith
 
-pub total-low : {level : Level} {x : List ℕ} → Part level x → total Counting (typeOf (under (level .label)) x) ≤ maxTotal
+pub total-low : {level : Level} {x : List ℕ} → Part level x → total Counting (typeOf (byFlag (level .label)) x) ≤ maxTotal
 unfolding largestTotal
-total-low {level} {x} p = omega (arith, limit-totals (typeOf (under (level .label)) x) (p .limit))
+total-low {level} {x} p = omega (arith, limit-totals (typeOf (byFlag (level .label)) x) (p .limit))
 
 -- fields weigh nothing; a run of addends is a union
 pub total-fields : {e : Equivalence} {x : List ℕ} → Coded e true x → total Counting (typeOf e x) ≡ 0
@@ -114,8 +114,8 @@ total-fields {e} k = rw (coded-type k) (go (k .trie) (k .tagged))
     go (node l a c s) t = rw (eq-eqb (l .kind) fieldKind (kind-eq (t .0)), zero-add) (go s (t .2))
 
 pub part-union : {level : Level} {x : List ℕ} → level .field ≡ false → Part level x → Union x
-part-union {level} f p = record { equivalence = under (level .label); coded = rw f at (p .coded); limit = total-low p }
+part-union {level} f p = record { equivalence = byFlag (level .label); coded = rw f at (p .coded); limit = total-low p }
 
 pub part-total : {level : Level} {x : List ℕ} {n : ℕ} → level .field ≡ false → Part level x → ((e : Equivalence) → Coded e false x → n ≡ total Counting (typeOf e x)) →
-    n ≡ total Counting (typeOf (under (level .label)) x)
-part-total {level} f p h = h (under (level .label)) (rw f at (p .coded))
+    n ≡ total Counting (typeOf (byFlag (level .label)) x)
+part-total {level} f p h = h (byFlag (level .label)) (rw f at (p .coded))

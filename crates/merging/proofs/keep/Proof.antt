@@ -9,17 +9,8 @@ use native.Mathlib.Omega.{arith}
 use Rattle.merging.proofs.keep.Statement.{statement}
 use Rattle.merging.proofs.keep.Tie as tie
 
-front-of-requires : tie.Need-front-of-requires
-front-of-requires c κs = search needs
-
 append-requires : tie.Need-append-requires
 append-requires c κs = omega (arith, front-le (c .before .before .before .before .before .args .x .now), ap length (c .before .before .front-of .ensures))
-
-rest-of-requires : tie.Need-rest-of-requires
-rest-of-requires c κs = search needs
-
-same-length : tie.Need-same-length
-same-length c = search needs
 
 returns : tie.Need-returns
 returns c =
@@ -34,4 +25,4 @@ returns c =
 
 pub keep-spec : {M : Type 1} → statement M
 keep-spec =
-    tie.close (tie.spec front-of-requires append-requires rest-of-requires same-length returns)
+    tie.close (tie.spec (λ c κs. search needs) append-requires (λ c κs. search needs) (λ c. search needs) returns)

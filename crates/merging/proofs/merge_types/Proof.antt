@@ -13,12 +13,9 @@ merge-union-requires c κs =
     let q = s .pre .1 in
     ((type-part (s .args .label) _ p, type-part (s .args .label) _ q), omega (arith, type-short p, type-short q))
 
-same-length : tie.Need-same-length
-same-length c = search needs
-
 returns : tie.Need-returns
 unfolding both mergedBytes exceeds
 returns c = let m = c .before .before .merge-union .ensures in (m .bytes, (m .counted, m .seen))
 
 pub merge-types-spec : {M : Type 1} → statement M
-merge-types-spec = tie.close (tie.spec merge-union-requires same-length returns)
+merge-types-spec = tie.close (tie.spec merge-union-requires (λ c. search needs) returns)

@@ -13,7 +13,7 @@ use Rattle.counting_theory.specs.Trie.{size, reduce, largestBelow}
 use Rattle.counting_theory.specs.Label.{Equivalence, Counting, CountingType}
 use Rattle.counting_theory.specs.Encoding.{typeKind, typeKey, typePayload, encode, typeOf}
 use Rattle.counting_theory.specs.WellFormed.{maxTotal, withinLimit, Shallow}
-use Rattle.type_arena.specs.Inside.Arena.{under, headerOf}
+use Rattle.type_arena.specs.Inside.Arena.{byFlag, headerOf}
 use Rattle.type_arena.specs.Inside.Addend.{front, body, rest, Coded}
 
 -- the depth of a run's addends, or of the record that has the fields
@@ -22,10 +22,10 @@ depthOf level = maxDepth + 1 - (level .left + cond (level .field) 1 0)
 
 -- x is the bytes of a run of a well-formed type
 pub record Part (level : Level) (x : List ℕ) : Type 0 where
-  pub coded : Coded (under (level .label)) (level .field) x
-  pub shallow : Shallow (level .field) (depthOf level) (typeOf (under (level .label)) x)
+  pub coded : Coded (byFlag (level .label)) (level .field) x
+  pub shallow : Shallow (level .field) (depthOf level) (typeOf (byFlag (level .label)) x)
   pub left-low : level .left ≤ maxDepth
-  pub limit : withinLimit (typeOf (under (level .label)) x) ≡ true
+  pub limit : withinLimit (typeOf (byFlag (level .label)) x) ≡ true
 
 -- what stands inside a record of this kind: the depth falls at an addend
 abbrev pub insideOf : Level → ℕ → Level
@@ -52,13 +52,13 @@ joinedBytes e x y =
     headerOf (typeKind x 0) (typeKey x 0) (1 + size (both e (body x) (body y))) (join (typePayload x 0) (typePayload y 0)) ++ mergedBytes e (body x) (body y)
 
 -- the merge of a and b is stored from byte k on, but for the tail t of a, which comes next
-pub record Ran (e : Equivalence) (a b out₀ : List ℕ) (k₀ : ℕ) (over₀ : Bool) (t out : List ℕ) (k : ℕ) (over : Bool) : Type 0 where
+pub record MergedSoFar (e : Equivalence) (a b out₀ : List ℕ) (k₀ : ℕ) (over₀ : Bool) (t out : List ℕ) (k : ℕ) (over : Bool) : Type 0 where
   pub bytes : sets out k t ≡ sets out₀ k₀ (mergedBytes e a b)
   pub upto : k + length t ≡ k₀ + length (mergedBytes e a b)
   pub seen : over ≡ (over₀ || exceedsBelow (both e a b))
 
 -- the merge of a and b, of n bytes, is stored from byte k on
-pub record Stored (e : Equivalence) (a b out₀ : List ℕ) (k : ℕ) (out : List ℕ) (n : ℕ) (over : Bool) : Type 0 where
+pub record MergeStored (e : Equivalence) (a b out₀ : List ℕ) (k : ℕ) (out : List ℕ) (n : ℕ) (over : Bool) : Type 0 where
   pub bytes : out ≡ sets out₀ k (mergedBytes e a b)
   pub counted : n ≡ length (mergedBytes e a b)
   pub seen : over ≡ exceeds (both e a b)

@@ -12,12 +12,6 @@ slice-aggregate-infer-default c = search needs
 slice-aggregate-infer-default-2 : tie.Need-slice-aggregate-infer-default-2
 slice-aggregate-infer-default-2 c = search needs
 
-infer-default-requires : tie.Need-infer-default-requires
-infer-default-requires c κs = search needs
-
-answer-of-requires : tie.Need-answer-of-requires
-answer-of-requires c κs = search needs
-
 -- the call has been answered
 answered : (c : tie.After-answer-of) → Told (c .before .before .before .before .before .before .before .args .input .now) (c .before .before .before .infer-default .last .1 .0) (c .answer-of .result)
 answered c =
@@ -55,8 +49,8 @@ put-profile-spec =
     (tie.spec
     slice-aggregate-infer-default
     slice-aggregate-infer-default-2
-    infer-default-requires
-    answer-of-requires
+    (λ c κs. search needs)
+    (λ c κs. search needs)
     mul-n
     array-share-prefix-arena
     slice-aggregate-put-report

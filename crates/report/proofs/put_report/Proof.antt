@@ -4,7 +4,7 @@ use native.Mathlib.Omega.{arith}
 use borrow.Author.Needs.{needs}
 use Rattle.report.specs.Decimal.{digitCount}
 use Rattle.report.proofs.Storing.{stored-front}
-use Rattle.report.proofs.Whole.{whole-short, whole-run, whole-union, whole-total, whole-largest, whole-lines}
+use Rattle.report.proofs.TypeRun.{whole-short, whole-run, whole-union, whole-total, whole-largest, whole-lines}
 use Rattle.report.proofs.put_report.Statement.{statement}
 use Rattle.report.proofs.put_report.Tie as tie
 
@@ -22,9 +22,6 @@ put-run-requires c κs =
     let t = c .before .before .before .before .before .before .pre .0 in
     (rw (whole-total t (c .before .union-total .ensures)) (whole-run t), c .before .before .digit-count .ensures .2, omega (arith, c .before .before .before .before .before .before .pre .1))
 
-same-length : tie.Need-same-length
-same-length c = search needs
-
 returns : tie.Need-returns
 returns c =
     let w = c .before .before .before .before .before .digit-count .ensures .0 ∙ ap digitCount (c .before .before .before .before .before .before .largest-count .ensures) in
@@ -39,5 +36,5 @@ put-report-spec =
     digit-count-requires
     union-total-requires
     put-run-requires
-    same-length
+    (λ c. search needs)
     returns)

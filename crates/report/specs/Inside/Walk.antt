@@ -11,7 +11,7 @@ use Rattle.counting_theory.specs.Label.{Equivalence, Counting, CountingType}
 use Rattle.counting_theory.specs.Encoding.{typeSize, typeKind, typeKey, typeSpan, typeOf}
 use Rattle.counting_theory.specs.Inside.TypeBytes.{typeCount}
 use Rattle.counting_theory.specs.WellFormed.{maxTotal, depthInside}
-use Rattle.counting_theory.proofs.WellFormed.Holds.{Holds}
+use Rattle.counting_theory.proofs.WellFormed.RecordsHold.{RecordsHold}
 use Rattle.type_arena.specs.Inside.Addend.{Coded}
 use Rattle.report.specs.Line.{share, lineOf}
 use Rattle.report.specs.Report.{wholeInside}
@@ -53,9 +53,9 @@ pub record Inside (e : Equivalence) (b : List ℕ) (p end : ℕ) : Type 0 where
   pub limit : (typeKind b p ≡ recordKind → ⊥) → total Counting (typeIn e b (p + 1) end) ≤ maxTotal
 
 -- records i to end are a union or the fields of a record, with shares against `whole`; each level of depth has a record before i
-pub record Run (e : Equivalence) (b : List ℕ) (i end depth whole : ℕ) : Type 0 where
+pub record PrintedRun (e : Equivalence) (b : List ℕ) (i end depth whole : ℕ) : Type 0 where
   pub field : Bool
-  pub holds : Holds e b i end field depth (typeIn e b i end)
+  pub holds : RecordsHold e b i end field depth (typeIn e b i end)
   pub shares : Shares whole (typeIn e b i end)
   pub limit : whole ≤ maxTotal
   pub deep : depth ≤ i + 1

@@ -13,9 +13,9 @@ use Rattle.counting_theory.specs.Label.{Equivalence, byKind, byLabel, Label, la
 use Rattle.counting_theory.specs.Encoding.{typeFormat, typeSize, typeKind, typeKey, typeSpan, header}
 
 -- the code's flag for label equivalence
-abbrev pub under : Bool → Equivalence
-under false = byKind
-under true = byLabel
+abbrev pub byFlag : Bool → Equivalence
+byFlag false = byKind
+byFlag true = byLabel
 
 -- the keys of the fields in records i to end; k bounds their number
 unfoldable pub keysFrom : List ℕ → ℕ → ℕ → ℕ → List ℕ
@@ -34,7 +34,7 @@ unfoldable pub labelAt : Equivalence → List ℕ → ℕ → Label
 labelAt e b p = labelOf e (typeKind b p) (typeKey b p) (keysIn b p)
 
 -- record p stands in b, which is no longer than a type may be
-pub record InTable (b : List ℕ) (p : ℕ) : Type 0 where
+pub record RecordIn (b : List ℕ) (p : ℕ) : Type 0 where
   pub whole : typeSize * p + typeSize ≤ length b
   pub short : length b ≤ maxLength
 

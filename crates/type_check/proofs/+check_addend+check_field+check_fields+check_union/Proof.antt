@@ -8,9 +8,9 @@ use borrow.Fn.Kinds.{In}
 use borrow.Fn.PlainCycle.{Measures, is, falls, and}
 use Rattle.counting_theory.specs.Encoding.{typeSpan}
 use Rattle.counting_theory.specs.Inside.TypeBytes.{typeCount}
-use Rattle.type_arena.specs.Inside.Arena.{under}
+use Rattle.type_arena.specs.Inside.Arena.{byFlag}
 use Rattle.type_check.specs.Inside.Checker.{checkedOf, isSome, hasTotal, addends, checkRun, addendRight}
-use Rattle.type_check.proofs.OnePass.Turns.{addend-inside, wrong-record, record-span, with-fields, with-union, with-nothing}
+use Rattle.type_check.proofs.OnePass.CheckLoop.{addend-inside, wrong-record, record-span, with-fields, with-union, with-nothing}
 use Rattle.type_check.proofs.OnePass.Loops.{run-from, run-within, in-table, Addends, addends-start, addends-done, last-inside, wrong-addend, wrong-count, wrong-order, addend-span, count-below, addends-next, Fields, fields-start, fields-done, wrong-field, field-span, wrong-total, fields-next}
 use Rattle.type_check.proofs.check_addend.Reads as check-addend
 use Rattle.type_check.proofs.check_addend.Kinds as check-addend-kinds
@@ -78,10 +78,10 @@ check-addend-calls t = (addend-record-reads.Asked, addend-record-reads.Learnt, k
 module _ (t : ℕ) where
   -- what the call on the inner union says of the addend
   inner-union : (c : check-addend-lts.After-check-union (check-addend-calls t) (check-addend-at t) check-addend.Post) →
-      let a = c .before .before .before .before .before .before .before .before .args in isSome (checkedOf (c .check-union .result)) ≡ addendRight (under (a .label)) (a .b .now) (a .p) (a .end) (33 - a .left)
+      let a = c .before .before .before .before .before .before .before .before .args in isSome (checkedOf (c .check-union .result)) ≡ addendRight (byFlag (a .label)) (a .b .now) (a .p) (a .end) (33 - a .left)
   inner-union c =
       let h = (sym (c .before .before .before .before .before .before .addend-record .ensures) ∙ not-false _ (c .before .before .before .before .before .if1 .left)) in
-      let d : 33 - (c .before .before .before .before .before .before .before .before .args .left - 1) ≡ 33 - c .before .before .before .before .before .before .before .before .args .left + 1 = omega (arith, record-span (under (c .before .before .before .before .before .before .before .before .args .label)) _ _ _ _ h .2, c .before .before .before .before .before .before .before .before .pre .1 .2) in
+      let d : 33 - (c .before .before .before .before .before .before .before .before .args .left - 1) ≡ 33 - c .before .before .before .before .before .before .before .before .args .left + 1 = omega (arith, record-span (byFlag (c .before .before .before .before .before .before .before .before .args .label)) _ _ _ _ h .2, c .before .before .before .before .before .before .before .before .pre .1 .2) in
       ap isSome (rw (d, c .before .before .before .span-at .ensures .0) at (c .check-union .ensures)) ∙ with-union _ _ _ _ _ h (λ z. c .before .before .if2 .left (c .before .before .before .before .kind-at .ensures ∙ z))
 
   check-addend-addend-record-requires : check-addend-lts.Need-addend-record-requires (check-addend-calls t) (check-addend-at t) check-addend.Post
@@ -97,7 +97,7 @@ module _ (t : ℕ) where
   check-addend-span-at-requires c κs = in-table (c .before .before .before .before .pre .1 .0) (c .before .before .before .before .pre .1 .1) .whole
 
   check-addend-add-inner-end : check-addend-lts.Need-add-inner-end (check-addend-calls t) (check-addend-at t) check-addend.Post
-  check-addend-add-inner-end c = omega (arith, record-span (under (c .before .before .before .before .before .args .label)) _ _ _ _ (sym (c .before .before .before .addend-record .ensures) ∙ not-false _ (c .before .before .if1 .left)) .1, c .span-at .ensures .0, c .before .before .before .before .before .pre .1 .0 .within)
+  check-addend-add-inner-end c = omega (arith, record-span (byFlag (c .before .before .before .before .before .args .label)) _ _ _ _ (sym (c .before .before .before .addend-record .ensures) ∙ not-false _ (c .before .before .if1 .left)) .1, c .span-at .ensures .0, c .before .before .before .before .before .pre .1 .0 .within)
 
   check-addend-add-check-fields : check-addend-lts.Need-add-check-fields (check-addend-calls t) (check-addend-at t) check-addend.Post
   check-addend-add-check-fields c = omega (arith, c .before .before .before .before .before .before .pre .1 .0 .within, c .before .before .before .before .before .before .pre .1 .1)
@@ -107,7 +107,7 @@ module _ (t : ℕ) where
 
   check-addend-check-fields-requires : check-addend-lts.Need-check-fields-requires (check-addend-calls t) (check-addend-at t) check-addend.Post
   check-addend-check-fields-requires c κs =
-      let s = record-span (under (c .before .before .before .before .before .before .before .args .label)) _ _ _ _ (sym (c .before .before .before .before .before .addend-record .ensures) ∙ not-false _ (c .before .before .before .before .if1 .left)) in
+      let s = record-span (byFlag (c .before .before .before .before .before .before .before .args .label)) _ _ _ _ (sym (c .before .before .before .before .before .addend-record .ensures) ∙ not-false _ (c .before .before .before .before .if1 .left)) in
       (omega (arith, c .before .before .before .before .before .before .before .pre .0), (rw (c .before .before .span-at .ensures .0) (run-within (c .before .before .before .before .before .before .before .pre .1 .0) (omega (arith, s .0)) (s .1)), omega (arith, s .2, c .before .before .before .before .before .before .before .pre .1 .2), c .before .before .before .before .before .before .before .pre .1 .2))
 
   check-addend-returns-2 : check-addend-lts.Need-returns-2 (check-addend-calls t) (check-addend-at t) check-addend.Post
@@ -122,11 +122,11 @@ module _ (t : ℕ) where
   check-addend-add-check-union c = omega (arith, c .before .before .before .before .before .before .before .pre .1 .0 .within, c .before .before .before .before .before .before .before .pre .1 .1)
 
   check-addend-sub-check-union : check-addend-lts.Need-sub-check-union (check-addend-calls t) (check-addend-at t) check-addend.Post
-  check-addend-sub-check-union c = omega (arith, record-span (under (c .before .before .before .before .before .before .before .args .label)) _ _ _ _ (sym (c .before .before .before .before .before .addend-record .ensures) ∙ not-false _ (c .before .before .before .before .if1 .left)) .2)
+  check-addend-sub-check-union c = omega (arith, record-span (byFlag (c .before .before .before .before .before .before .before .args .label)) _ _ _ _ (sym (c .before .before .before .before .before .addend-record .ensures) ∙ not-false _ (c .before .before .before .before .if1 .left)) .2)
 
   check-addend-check-union-requires : check-addend-lts.Need-check-union-requires (check-addend-calls t) (check-addend-at t) check-addend.Post
   check-addend-check-union-requires c κs =
-      let s = record-span (under (c .before .before .before .before .before .before .before .args .label)) _ _ _ _ (sym (c .before .before .before .before .before .addend-record .ensures) ∙ not-false _ (c .before .before .before .before .if1 .left)) in
+      let s = record-span (byFlag (c .before .before .before .before .before .before .before .args .label)) _ _ _ _ (sym (c .before .before .before .before .before .addend-record .ensures) ∙ not-false _ (c .before .before .before .before .if1 .left)) in
       (omega (arith, s .2, c .before .before .before .before .before .before .before .pre .0, c .before .before .before .before .before .before .before .pre .1 .2), (rw (c .before .before .span-at .ensures .0) (run-within (c .before .before .before .before .before .before .before .pre .1 .0) (omega (arith, s .0)) (s .1)), omega (arith, c .before .before .before .before .before .before .before .pre .1 .2)))
 
   check-addend-enum-told : check-addend-lts.Need-enum-told (check-addend-calls t) (check-addend-at t) check-addend.Post
@@ -158,7 +158,7 @@ module _ (t : ℕ) where
   check-field-check-scalar-requires c κs = let s = c .before .before .before .before .pre .1 in (s .0, c .before .before .if1 .taken, rw (c .before .kind-at .ensures) at (c .if2 .taken), omega (arith, s .1))
 
   check-field-returns : check-field-lts.Need-returns (check-field-calls t) (check-field-at t) check-field.Post
-  check-field-returns c = c .check-scalar .ensures (under (c .before .before .before .before .before .args .label))
+  check-field-returns c = c .check-scalar .ensures (byFlag (c .before .before .before .before .before .args .label))
 
   check-field-add-check-union : check-field-lts.Need-add-check-union (check-field-calls t) (check-field-at t) check-field.Post
   check-field-add-check-union c = omega (arith, c .before .before .pre .1 .0 .upto, c .before .before .pre .1 .0 .within)
@@ -182,7 +182,7 @@ module _ (t : ℕ) where
   check-field-returns-3 c = rw (← (c .before .before .check-union .ensures), c .enum-told .given .1) refl
 
 abbrev check-fields-Inv-loop : check-fields-lts.InvT-loop
-check-fields-Inv-loop b i end left of-record label p₀ last₀ p last = Fields (under label) b i end (33 - left) of-record p last
+check-fields-Inv-loop b i end left of-record label p₀ last₀ p last = Fields (byFlag label) b i end (33 - left) of-record p last
 
 abbrev check-fields-μ-loop : check-fields-lts.MeasureT-loop
 check-fields-μ-loop b i end left of-record label p₀ last₀ p last = end - p
@@ -194,7 +194,7 @@ module _ (t : ℕ) where
   -- what the call on the union inside the field at p says, in the depth of that union
   inner : (c : check-fields-lts.After-check-field (check-fields-calls t) (check-fields-at t) check-fields.Post check-fields-Inv-loop check-fields-μ-loop) →
       let a = c .before .before .before .before .before .before .before .args in let p = c .before .before .before .before .before .loop .p in
-      c .check-field .result ≡ hasTotal (typeCount (a .b .now) p) (checkRun (under (a .label)) (a .b .now) (p + 1) (p + typeSpan (a .b .now) p) (addends (33 - a .left + 1) (p + 1) 0))
+      c .check-field .result ≡ hasTotal (typeCount (a .b .now) p) (checkRun (byFlag (a .label)) (a .b .now) (p + 1) (p + typeSpan (a .b .now) p) (addends (33 - a .left + 1) (p + 1) 0))
   inner c =
       let d : 33 - (c .before .before .before .before .before .before .before .args .left - 1) ≡ 33 - c .before .before .before .before .before .before .before .args .left + 1 = omega (arith, c .before .before .before .before .before .before .before .pre .1 .1, c .before .before .before .before .before .before .before .pre .1 .2) in
       rw (← d, ← (c .before .span-at .ensures .0)) (c .check-field .ensures)
@@ -242,7 +242,7 @@ module _ (t : ℕ) where
   check-fields-returns-3 c = fields-done (c .before .loop .inv) (c .loop-test .left)
 
 abbrev check-union-Inv-loop : check-union-lts.InvT-loop
-check-union-Inv-loop b i end left label p₀ last₀ total₀ p last total = Addends (under label) b i end (33 - left) p last total
+check-union-Inv-loop b i end left label p₀ last₀ total₀ p last total = Addends (byFlag label) b i end (33 - left) p last total
 
 abbrev check-union-μ-loop : check-union-lts.MeasureT-loop
 check-union-μ-loop b i end left label p₀ last₀ total₀ p last total = end - p

@@ -17,10 +17,10 @@ use Rattle.counting_theory.specs.WellFormed.{maxTotal, counted, fieldsOf, field
 use Rattle.type_check.specs.Inside.Checker.{Run, addends, fields, totalOf, fits, after, content, checkRun}
 use Rattle.counting_theory.proofs.WellFormed.Nodes.{counted-parts}
 use Rattle.counting_theory.proofs.WellFormed.Record.{TypeRecord}
-use Rattle.counting_theory.proofs.WellFormed.Holds.{Holds, holds-nil, holds-first, labelWith}
+use Rattle.counting_theory.proofs.WellFormed.RecordsHold.{RecordsHold, holds-nil, holds-first, labelWith}
 use Rattle.counting_theory.proofs.WellFormed.LaidOut.{inside-label, record-held, holds-record}
 use Rattle.type_check.proofs.OnePass.Fits.{isFields, depthOf, Follows, fits-record, record-fits}
-use Rattle.type_check.proofs.OnePass.Steps.{check-end, check-step}
+use Rattle.type_check.proofs.OnePass.OneRecord.{check-end, check-step}
 use Rattle.type_check.proofs.OnePass.Rest.{sumOf, Totals, Beside, Rest}
 use Rattle.type_check.proofs.OnePass.Node.{rest-node, rest-parts}
 use Rattle.type_check.proofs.OnePass.Content.{content-starts, after-goes-on, agrees-some, some-agrees, sum-nil, total-follows, sum-node}
@@ -31,7 +31,7 @@ cond-some false o u h = (cc, cc)
 
 module _ (e : Equivalence) (b : List ℕ) where
   abbrev HoldsRun : ℕ → ℕ → Run → CountingType → Type 0
-  HoldsRun p end r f = Holds e b p end (isFields r) (depthOf r) f
+  HoldsRun p end r f = RecordsHold e b p end (isFields r) (depthOf r) f
 
   pub check-complete : (p end : ℕ) (r : Run) (f : CountingType) → HoldsRun p end r f → Rest e b p r f → checkRun e b p end r ≡ some (sumOf r f)
   unfolding size

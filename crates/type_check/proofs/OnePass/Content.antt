@@ -16,7 +16,7 @@ use Rattle.counting_theory.specs.Inside.TypeBytes.{typeCount}
 use Rattle.counting_theory.specs.WellFormed.{maxTotal, holdsFields as fieldsInside, depthInside}
 use Rattle.type_check.specs.Inside.Checker.{Run, addends, fields, totalOf, after, content, agrees}
 use Rattle.counting_theory.proofs.WellFormed.Fitting.{weight-addend}
-use Rattle.counting_theory.proofs.WellFormed.Holds.{Holds, holds-first}
+use Rattle.counting_theory.proofs.WellFormed.RecordsHold.{RecordsHold, holds-first}
 use Rattle.type_check.proofs.OnePass.Fits.{isFields, depthOf, Follows}
 use Rattle.type_check.proofs.OnePass.Rest.{sumOf, Totals}
 
@@ -58,7 +58,7 @@ module _ (e : Equivalence) (b : List ℕ) (p : ℕ) where
   total-follows (addends depth last sum) h = h .2
   total-follows (fields depth ofRecord lastKey) h = lit≤ tt
 
-  pub sum-node : (end : ℕ) (l : Label) (a : Payload) (c s : CountingType) (r : Run) → Holds e b p end (isFields r) (depthOf r) (node l a c s) →
+  pub sum-node : (end : ℕ) (l : Label) (a : Payload) (c s : CountingType) (r : Run) → RecordsHold e b p end (isFields r) (depthOf r) (node l a c s) →
       sumOf (after b p r) s ≡ sumOf r (node l a c s)
   unfolding total
   sum-node end l a c s (addends depth last sum) h =

@@ -14,11 +14,11 @@ use Rattle.counting_theory.specs.Label.{Equivalence}
 use Rattle.counting_theory.specs.Encoding.{typeKind, typeKey, typeSpan}
 use Rattle.counting_theory.specs.Inside.TypeBytes.{typeCount}
 use Rattle.counting_theory.specs.WellFormed.{maxTotal, typeRecord}
-use Rattle.type_arena.specs.Inside.Arena.{InTable, Labelled}
+use Rattle.type_arena.specs.Inside.Arena.{RecordIn, Labelled}
 use Rattle.type_check.specs.Inside.Checker.{addends, fields, fits, ordered, checkRun, isSome, hasTotal, addendRight, RunOf}
 use Rattle.type_check.proofs.OnePass.Fits.{fits-record}
-use Rattle.type_check.proofs.OnePass.Steps.{check-end}
-use Rattle.type_check.proofs.OnePass.Turns.{countFits, union-step, fields-step, addend-inside, record-span, wrong-record, with-nothing}
+use Rattle.type_check.proofs.OnePass.OneRecord.{check-end}
+use Rattle.type_check.proofs.OnePass.CheckLoop.{countFits, union-step, fields-step, addend-inside, record-span, wrong-record, with-nothing}
 
 -- parts of a run stand where the run does
 pub run-from : {b : List ℕ} {i end p : ℕ} → RunOf b i end → p ≤ end → RunOf b p end
@@ -27,7 +27,7 @@ run-from r h = record { upto = h; within = r .within; short = r .short }
 pub run-within : {b : List ℕ} {i end q stop : ℕ} → RunOf b i end → q ≤ stop → stop ≤ end → RunOf b q stop
 run-within r h l = record { upto = h; within = omega (arith, r .within); short = r .short }
 
-pub in-table : {b : List ℕ} {p end : ℕ} → RunOf b p end → p < end → InTable b p
+pub in-table : {b : List ℕ} {p end : ℕ} → RunOf b p end → p < end → RecordIn b p
 in-table r l = record { whole = omega (arith, r .within); short = r .short }
 
 -- A union at the addend at p, behind `last` and after `total`: what is left to check settles the whole union.

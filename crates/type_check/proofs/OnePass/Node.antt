@@ -20,7 +20,7 @@ use Rattle.counting_theory.proofs.Label.{kind-eq, compare-fields}
 use Rattle.counting_theory.proofs.WellFormed.Tests.{both}
 use Rattle.counting_theory.proofs.WellFormed.Fitting.{weight-addend}
 use Rattle.counting_theory.proofs.WellFormed.Record.{TypeRecord}
-use Rattle.counting_theory.proofs.WellFormed.Holds.{Holds, holds-first}
+use Rattle.counting_theory.proofs.WellFormed.RecordsHold.{RecordsHold, holds-first}
 use Rattle.type_arena.proofs.Nodes.{fitting-heads, node-in}
 use Rattle.type_check.proofs.OnePass.Fits.{isFields, depthOf, Follows}
 use Rattle.type_check.proofs.OnePass.Ruled.{NodeRuled, ruled-node, ruled-parts}
@@ -34,10 +34,10 @@ module _ (e : Equivalence) (b : List ℕ) (p end : ℕ) (l : Label) (a : Payload
     pub inside : Rest e b (p + 1) (content b p r) c
     pub behind : Rest e b (p + typeSpan b p) (after b p r) s
 
-  label-held : (depth : ℕ) → Holds e b p end false depth (node l a c s) → labelAt e b p ≡ l
+  label-held : (depth : ℕ) → RecordsHold e b p end false depth (node l a c s) → labelAt e b p ≡ l
   label-held depth h = node-in b p l a c s _ (fitting-heads _ (h .fitting)) (h .bytes) .label-is e false (h .tagged)
 
-  pub rest-node : (r : Run) → Holds e b p end (isFields r) (depthOf r) (node l a c s) → TypeRecord b p end (isFields r) (depthOf r) → Parts r → Rest e b p r (node l a c s)
+  pub rest-node : (r : Run) → RecordsHold e b p end (isFields r) (depthOf r) (node l a c s) → TypeRecord b p end (isFields r) (depthOf r) → Parts r → Rest e b p r (node l a c s)
   unfolding total fieldsOf
   rest-node (addends depth last sum) h g x =
       let n = holds-first e b p end false depth l a c s h .is-node in
@@ -75,7 +75,7 @@ module _ (e : Equivalence) (b : List ℕ) (p end : ℕ) (l : Label) (a : Payload
         );
       }
 
-  pub rest-parts : (r : Run) → Holds e b p end (isFields r) (depthOf r) (node l a c s) → Rest e b p r (node l a c s) → Parts r
+  pub rest-parts : (r : Run) → RecordsHold e b p end (isFields r) (depthOf r) (node l a c s) → Rest e b p r (node l a c s) → Parts r
   unfolding total fieldsOf
   rest-parts (addends depth last sum) h x =
       let n = holds-first e b p end false depth l a c s h .is-node in

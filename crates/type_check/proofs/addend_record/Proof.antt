@@ -8,22 +8,13 @@ use Rattle.counting_theory.specs.WellFormed.{typeRecord}
 use Rattle.type_check.proofs.addend_record.Statement.{statement}
 use Rattle.type_check.proofs.addend_record.Tie as tie
 
-placed-requires : tie.Need-placed-requires
-placed-requires c κs = search needs
-
 returns : tie.Need-returns
 unfolding typeRecord
 returns c = simp (sym (c .before .placed .ensures) ∙ not-true _ (c .if1 .taken))
 
-kind-fits-requires : tie.Need-kind-fits-requires
-kind-fits-requires c κs = search needs
-
 returns-2 : tie.Need-returns-2
 unfolding typeRecord
 returns-2 c = simp (sym (c .before .before .before .placed .ensures) ∙ not-false _ (c .before .before .if1 .left), sym (c .before .kind-fits .ensures) ∙ not-true _ (c .if2 .taken))
-
-key-at-requires : tie.Need-key-at-requires
-key-at-requires c κs = search needs
 
 returns-3 : tie.Need-returns-3
 unfolding typeRecord
@@ -33,9 +24,6 @@ returns-4 : tie.Need-returns-4
 unfolding typeRecord
 returns-4 c = simp (sym (c .before .before .before .before .before .before .placed .ensures) ∙ not-false _ (c .before .before .before .before .before .if1 .left), sym (c .before .before .before .before .kind-fits .ensures) ∙ not-false _ (c .before .before .before .if2 .left), ← (c .before .before .key-at .ensures), eq-eqb _ _ (c .before .if3 .left), c .if4 .taken)
 
-scalar-fits-requires : tie.Need-scalar-fits-requires
-scalar-fits-requires c κs = search needs
-
 returns-5 : tie.Need-returns-5
 unfolding typeRecord
 returns-5 c = simp (sym (c .before .before .before .before .before .before .before .placed .ensures) ∙ not-false _ (c .before .before .before .before .before .before .if1 .left), sym (c .before .before .before .before .before .kind-fits .ensures) ∙ not-false _ (c .before .before .before .before .if2 .left), ← (c .before .before .before .key-at .ensures), eq-eqb _ _ (c .before .before .if3 .left), le-leb (33 - c .before .before .before .before .before .before .before .before .before .args .left) 32 (omega arith), ← (c .scalar-fits .ensures))
@@ -44,12 +32,12 @@ pub addend-record-spec : {M : Type 1} → statement M
 addend-record-spec =
     tie.close
     (tie.spec
-    placed-requires
+    (λ c κs. search needs)
     returns
-    kind-fits-requires
+    (λ c κs. search needs)
     returns-2
-    key-at-requires
+    (λ c κs. search needs)
     returns-3
     returns-4
-    scalar-fits-requires
+    (λ c κs. search needs)
     returns-5)

@@ -17,17 +17,11 @@ leb-sub x t m h = go (leb (t + x) m) refl
     go true e = le-leb x (m - t) (omega (arith, leb-true (t + x) m e))
     go false e = lt-leb x (m - t) (omega (arith, leb-false (t + x) m e))
 
-count-at-requires : tie.Need-count-at-requires
-count-at-requires c κs = search needs
-
 returns : tie.Need-returns
 returns c = simp (← (c .before .count-at .ensures), lt-leb _ _ (c .if1 .taken))
-
-sub-result : tie.Need-sub-result
-sub-result c = search needs
 
 returns-2 : tie.Need-returns-2
 returns-2 c = simp (← (c .before .count-at .ensures), le-leb _ _ (c .if1 .left)) (leb-sub _ (c .before .before .before .args .total) maxTotal (c .before .before .before .pre .1))
 
 pub count-fits-spec : {M : Type 1} → statement M
-count-fits-spec = tie.close (tie.spec count-at-requires returns sub-result returns-2)
+count-fits-spec = tie.close (tie.spec (λ c κs. search needs) returns (λ c. search needs) returns-2)

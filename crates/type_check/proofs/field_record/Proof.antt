@@ -5,26 +5,14 @@ use borrow.Author.Needs.{needs}
 use Rattle.type_check.proofs.field_record.Statement.{statement}
 use Rattle.type_check.proofs.field_record.Tie as tie
 
-placed-requires : tie.Need-placed-requires
-placed-requires c κs = search needs
-
 returns : tie.Need-returns
 returns c = simp (sym (c .before .placed .ensures) ∙ not-true _ (c .if1 .taken))
-
-kind-at-requires : tie.Need-kind-at-requires
-kind-at-requires c κs = search needs
 
 returns-2 : tie.Need-returns-2
 returns-2 c = simp (sym (c .before .before .before .placed .ensures) ∙ not-false _ (c .before .before .if1 .left), ← (c .before .kind-at .ensures), ne-eqb _ _ (c .if2 .taken))
 
-key-at-requires : tie.Need-key-at-requires
-key-at-requires c κs = search needs
-
 returns-3 : tie.Need-returns-3
 returns-3 c = simp (sym (c .before .before .before .before .before .placed .ensures) ∙ not-false _ (c .before .before .before .before .if1 .left), ← (c .before .before .before .kind-at .ensures), eq-eqb _ _ (c .before .before .if2 .left), ← (c .before .key-at .ensures), lt-leb _ _ (c .if3 .taken))
-
-span-at-requires : tie.Need-span-at-requires
-span-at-requires c κs = search needs
 
 returns-4 : tie.Need-returns-4
 returns-4 c = simp (sym (c .before .before .before .before .before .before .placed .ensures) ∙ not-false _ (c .before .before .before .before .before .if1 .left), ← (c .before .before .before .before .kind-at .ensures), eq-eqb _ _ (c .before .before .before .if2 .left), ← (c .before .before .key-at .ensures), le-leb _ _ (c .before .if3 .left), ← (c .span-at .ensures .0))
@@ -33,11 +21,11 @@ pub field-record-spec : {M : Type 1} → statement M
 field-record-spec =
     tie.close
     (tie.spec
-    placed-requires
+    (λ c κs. search needs)
     returns
-    kind-at-requires
+    (λ c κs. search needs)
     returns-2
-    key-at-requires
+    (λ c κs. search needs)
     returns-3
-    span-at-requires
+    (λ c κs. search needs)
     returns-4)

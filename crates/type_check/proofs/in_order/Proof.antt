@@ -10,18 +10,6 @@ use Rattle.type_check.proofs.in_order.Tie as tie
 returns : tie.Need-returns
 returns c = simp (eq-eqb _ _ (c .if1 .taken))
 
-compare-labels-requires : tie.Need-compare-labels-requires
-compare-labels-requires c κs = search needs
-
-enum-told : tie.Need-enum-told
-enum-told c = search needs
-
-enum-told-2 : tie.Need-enum-told-2
-enum-told-2 c = search needs
-
-enum-told-3 : tie.Need-enum-told-3
-enum-told-3 c = search needs
-
 returns-2 : tie.Need-returns-2
 returns-2 c = simp (ne-eqb _ _ (c .before .before .before .if1 .left)) (ap isLt (ap orderingOf (sym (c .enum-told .given .1)) ∙ c .before .before .compare-labels .ensures))
 
@@ -36,10 +24,10 @@ in-order-spec =
     tie.close
     (tie.spec
     returns
-    compare-labels-requires
-    enum-told
-    enum-told-2
-    enum-told-3
+    (λ c κs. search needs)
+    (λ c. search needs)
+    (λ c. search needs)
+    (λ c. search needs)
     returns-2
     returns-3
     returns-4)

@@ -4,9 +4,6 @@ use borrow.Author.Needs.{needs}
 use Rattle.type_check.proofs.kind_fits.Statement.{statement}
 use Rattle.type_check.proofs.kind_fits.Tie as tie
 
-kind-at-requires : tie.Need-kind-at-requires
-kind-at-requires c κs = search needs
-
 returns : tie.Need-returns
 returns c = simp (← (c .before .kind-at .ensures), lt-leb _ _ (c .if1 .taken))
 
@@ -14,4 +11,4 @@ returns-2 : tie.Need-returns-2
 returns-2 c = simp (← (c .before .kind-at .ensures), le-leb _ _ (c .if1 .left))
 
 pub kind-fits-spec : {M : Type 1} → statement M
-kind-fits-spec = tie.close (tie.spec kind-at-requires returns returns-2)
+kind-fits-spec = tie.close (tie.spec (λ c κs. search needs) returns returns-2)

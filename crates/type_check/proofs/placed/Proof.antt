@@ -4,24 +4,15 @@ use borrow.Author.Needs.{needs}
 use Rattle.type_check.proofs.placed.Statement.{statement}
 use Rattle.type_check.proofs.placed.Tie as tie
 
-zero-at-requires : tie.Need-zero-at-requires
-zero-at-requires c κs = search needs
-
 returns : tie.Need-returns
 returns c = simp (← (c .before .zero-at .ensures), ne-eqb _ _ (c .if1 .taken))
 
-span-at-requires : tie.Need-span-at-requires
-span-at-requires c κs = search needs
-
 returns-2 : tie.Need-returns-2
 returns-2 c = simp (← (c .before .before .before .zero-at .ensures), eq-eqb _ _ (c .before .before .if1 .left), ← (c .before .span-at .ensures .0), lt-leb _ _ (c .if2 .taken))
-
-add-result : tie.Need-add-result
-add-result c = search needs
 
 returns-3 : tie.Need-returns-3
 returns-3 c = simp (← (c .before .before .before .zero-at .ensures), eq-eqb _ _ (c .before .before .if1 .left), ← (c .before .span-at .ensures .0), le-leb _ _ (c .if2 .left))
 
 pub placed-spec : {M : Type 1} → statement M
 placed-spec =
-    tie.close (tie.spec zero-at-requires returns span-at-requires returns-2 add-result returns-3)
+    tie.close (tie.spec (λ c κs. search needs) returns (λ c κs. search needs) returns-2 (λ c. search needs) returns-3)

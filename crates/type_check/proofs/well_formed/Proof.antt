@@ -4,8 +4,8 @@ use native.Mathlib.Omega.{arith}
 use lib.ListN.{length}
 use borrow.Author.Needs.{needs}
 use Rattle.type_check.specs.Inside.Checker.{checkedOf, isSome}
-use Rattle.type_check.proofs.OnePass.Whole.{check-well-formed}
-use Rattle.counting_theory.proofs.WellFormed.Whole.{type-length}
+use Rattle.type_check.proofs.OnePass.AcceptsExactly.{check-well-formed}
+use Rattle.counting_theory.proofs.WellFormed.AcceptsExactly.{type-length}
 use Rattle.type_check.proofs.well_formed.Statement.{statement}
 use Rattle.type_check.proofs.well_formed.Tie as tie
 
@@ -13,12 +13,6 @@ check-union-requires : tie.Need-check-union-requires
 check-union-requires c κs =
     let h = type-length (length (c .before .args .bytes .now)) (c .before .pre) in
     (record { upto = omega arith; within = omega arith; short = h .1 }, omega arith)
-
-enum-told : tie.Need-enum-told
-enum-told c = search needs
-
-enum-told-2 : tie.Need-enum-told-2
-enum-told-2 c = search needs
 
 returns : tie.Need-returns
 returns c = sym (check-well-formed _ _ (λ p. c .before .before .before .shared-slice-known .given p .fits) (c .before .before .before .before .pre) ∙ ap isSome (sym (c .before .before .check-union .ensures)) ∙ ap (λ x. isSome (checkedOf x)) (c .enum-told .given .1))
@@ -28,4 +22,4 @@ returns-2 c = sym (check-well-formed _ _ (λ p. c .before .before .before .share
 
 pub well-formed-spec : {M : Type 1} → statement M
 well-formed-spec =
-    tie.close (tie.spec check-union-requires enum-told enum-told-2 returns returns-2)
+    tie.close (tie.spec check-union-requires (λ c. search needs) (λ c. search needs) returns returns-2)

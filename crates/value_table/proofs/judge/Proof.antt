@@ -6,9 +6,6 @@ use Rattle.value_table.proofs.Fault.{length-fits}
 use Rattle.value_table.proofs.judge.Statement.{statement}
 use Rattle.value_table.proofs.judge.Tie as tie
 
-bad-length-requires : tie.Need-bad-length-requires
-bad-length-requires c κs = search needs
-
 returns : tie.Need-returns
 unfolding judged
 returns c = simp (sym (c .before .bad-length .ensures) ∙ c .if1 .taken)
@@ -21,4 +18,4 @@ unfolding judged
 returns-2 c = simp (sym (c .before .before .bad-length .ensures) ∙ c .before .if1 .left, c .walk-table .ensures)
 
 pub judge-spec : {M : Type 1} → statement M
-judge-spec = tie.close (tie.spec bad-length-requires returns walk-table-requires returns-2)
+judge-spec = tie.close (tie.spec (λ c κs. search needs) returns walk-table-requires returns-2)

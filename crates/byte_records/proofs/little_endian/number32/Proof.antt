@@ -5,21 +5,6 @@ use Rattle.byte_records.proofs.Number.{numberAt-add}
 use Rattle.byte_records.proofs.little_endian.number32.Statement.{statement}
 use Rattle.byte_records.proofs.little_endian.number32.Tie as tie
 
-number16-requires : tie.Need-number16-requires
-number16-requires c κs = search needs
-
-add-number16 : tie.Need-add-number16
-add-number16 c = search needs
-
-number16-requires-2 : tie.Need-number16-requires-2
-number16-requires-2 c κs = search needs
-
-mul-result : tie.Need-mul-result
-mul-result c = search needs
-
-add-result : tie.Need-add-result
-add-result c = search needs
-
 returns : tie.Need-returns
 returns c =
     let a = c .before .before .before .args in
@@ -28,4 +13,4 @@ returns c =
 pub number32-spec : {M : Type 1} → statement M
 number32-spec =
     tie.close
-    (tie.spec number16-requires add-number16 number16-requires-2 mul-result add-result returns)
+    (tie.spec (λ c κs. search needs) (λ c. search needs) (λ c κs. search needs) (λ c. search needs) (λ c. search needs) returns)

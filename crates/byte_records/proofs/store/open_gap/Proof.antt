@@ -18,28 +18,10 @@ abbrev μ-loop : tie.MeasureT-loop
 loop-holds : tie.Need-loop-holds Inv-loop μ-loop
 loop-holds c = (c .pre, le-refl _, refl, moved-start _ _ _ (c .pre))
 
-sub-i : tie.Need-sub-i Inv-loop μ-loop
-sub-i c = search needs
-
-slice-read-b : tie.Need-slice-read-b Inv-loop μ-loop
-slice-read-b c = search needs
-
-add-b : tie.Need-add-b Inv-loop μ-loop
-add-b c = search needs
-
-slice-write-b : tie.Need-slice-write-b Inv-loop μ-loop
-slice-write-b c = search needs
-
-loop-less : tie.Need-loop-less Inv-loop μ-loop
-loop-less c = search needs
-
 loop-again : tie.Need-loop-again Inv-loop μ-loop
 loop-again c =
     let v = c .before .before .loop .inv in
     (v .0, omega arith, simp length-set (v .2), moved-next _ _ _ (v .0) _ (c .before .before .loop .i) (c .before .before .loop .i - 1) (omega arith) (v .1) (v .2) (v .3))
-
-same-length : tie.Need-same-length Inv-loop μ-loop
-same-length c = search needs
 
 returns : tie.Need-returns Inv-loop μ-loop
 returns c = moved-end (c .before .before .args .b .now) _ (c .before .before .args .n) (c .before .before .args .gap) (c .before .loop .i) (omega arith) (c .before .loop .inv .3)
@@ -51,11 +33,11 @@ open-gap-spec =
     Inv-loop
     μ-loop
     loop-holds
-    sub-i
-    slice-read-b
-    add-b
-    slice-write-b
-    loop-less
+    (λ c. search needs)
+    (λ c. search needs)
+    (λ c. search needs)
+    (λ c. search needs)
+    (λ c. search needs)
     loop-again
-    same-length
+    (λ c. search needs)
     returns)

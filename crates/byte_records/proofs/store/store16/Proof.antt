@@ -8,23 +8,8 @@ use borrow.Author.Needs.{needs}
 use Rattle.byte_records.proofs.store.store16.Statement.{statement}
 use Rattle.byte_records.proofs.store.store16.Tie as tie
 
-low-requires : tie.Need-low-requires
-low-requires c κs = search needs
-
-slice-write-out : tie.Need-slice-write-out
-slice-write-out c = search needs
-
-low-requires-2 : tie.Need-low-requires-2
-low-requires-2 c κs = search needs
-
-add-out : tie.Need-add-out
-add-out c = search needs
-
 slice-write-out-2 : tie.Need-slice-write-out-2
 slice-write-out-2 c = simp length-set (omega arith)
-
-same-length : tie.Need-same-length
-same-length c = search needs
 
 returns : tie.Need-returns
 unfolding bytesOf
@@ -34,10 +19,10 @@ pub store16-spec : {M : Type 1} → statement M
 store16-spec =
     tie.close
     (tie.spec
-    low-requires
-    slice-write-out
-    low-requires-2
-    add-out
+    (λ c κs. search needs)
+    (λ c. search needs)
+    (λ c κs. search needs)
+    (λ c. search needs)
     slice-write-out-2
-    same-length
+    (λ c. search needs)
     returns)

@@ -6,21 +6,6 @@ use Rattle.gathering.proofs.Waiting.SlotBytes.{slot-put}
 use Rattle.gathering.proofs.slots.put_slot.Statement.{statement}
 use Rattle.gathering.proofs.slots.put_slot.Tie as tie
 
-key-part-requires : tie.Need-key-part-requires
-key-part-requires c κs = search needs
-
-mul-o : tie.Need-mul-o
-mul-o c = search needs
-
-add-o : tie.Need-add-o
-add-o c = search needs
-
-store64-requires : tie.Need-store64-requires
-store64-requires c κs = search needs
-
-same-length : tie.Need-same-length
-same-length c = search needs
-
 returns : tie.Need-returns
 returns c n h l =
     let s = c .before .before .before .before .before .before in
@@ -29,4 +14,4 @@ returns c n h l =
 
 pub put-slot-spec : {M : Type 1} → statement M
 put-slot-spec =
-    tie.close (tie.spec key-part-requires mul-o add-o store64-requires same-length returns)
+    tie.close (tie.spec (λ c κs. search needs) (λ c. search needs) (λ c. search needs) (λ c κs. search needs) (λ c. search needs) returns)

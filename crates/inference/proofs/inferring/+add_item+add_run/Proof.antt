@@ -14,13 +14,13 @@ use Rattle.counting_theory.specs.Trie.{size, add}
 use Rattle.counting_theory.specs.Label.{Label, Counting, CountingType}
 use Rattle.counting_theory.specs.Raw.{raw}
 use Rattle.counting_theory.specs.Encoding.{typeSize, encode}
-use Rattle.type_arena.specs.Inside.Arena.{under}
+use Rattle.type_arena.specs.Inside.Arena.{byFlag}
 use Rattle.type_arena.specs.Inside.Payload.{itemPayload}
 use Rattle.counting_theory.specs.Inside.Times.{times}
-use Rattle.inference.specs.Inside.Inferring.{grown as grownTo, TableRun, Holds, split, Counted, Grown, labelFor, withItem, Weighed, AddedAt}
-use Rattle.inference.specs.Inside.ScalarFields.{Ran}
-use Rattle.inference.proofs.InPlace.Steps.{Task, step-length, step-within, step-span, step-empty, nothing-added, step-holds, step-full, step-grown, added-full, added-records, grown-length}
-use Rattle.inference.proofs.InPlace.Turns.{ran-start, ran-holds, ran-end, ran-first, below, below-run, turn-full, turn-room, turn-added, turn-order, turn-measure, turn-few, turn-weighed}
+use Rattle.inference.specs.Inside.Inferring.{grown as grownTo, TableRun, ArenaHolds, split, Counted, Grown, labelFor, withItem, Weighed, AddedAt}
+use Rattle.inference.specs.Inside.ScalarFields.{AddedSoFar}
+use Rattle.inference.proofs.InPlace.AddItem.{Task, step-length, step-within, step-span, step-empty, nothing-added, step-holds, step-full, step-grown, added-full, added-records, grown-length}
+use Rattle.inference.proofs.InPlace.RunLoop.{ran-start, ran-holds, ran-end, ran-first, below, below-run, turn-full, turn-room, turn-added, turn-order, turn-measure, turn-few, turn-weighed}
 use Rattle.inference.proofs.InPlace.Runs.{whole-records}
 use borrow.Fn.Kinds.{In}
 use borrow.Fn.PlainCycle.{Measures, is, falls, and}
@@ -68,7 +68,7 @@ module _ (t : ℕ) where
     begun = c .before .before .before .before .before .before .before .before .before .before .before .before .before
 
     abbrev Asked : Type 0
-    Asked = Task (under (begun .args .label)) (begun .args .kind) (begun .args .from) (begun .args .n) (begun .args .rest) (begun .args .a .now) (begun .args .t .now)
+    Asked = Task (byFlag (begun .args .label)) (begun .args .kind) (begun .args .from) (begun .args .n) (begun .args .rest) (begun .args .a .now) (begun .args .t .now)
 
     asked : Asked
     asked =
@@ -76,7 +76,7 @@ module _ (t : ℕ) where
         record { field = g .0 .field; f = g .0 .f; q = g .0 .q; free = g .0 .free; vs = g .1 .values; holds = g .0 .holds; starts = g .0 .starts; run = g .1 .run }
 
     abbrev label : Asked → Label
-    label x = labelFor (under (begun .args .label)) (begun .args .kind) (begun .args .key) (x .vs)
+    label x = labelFor (byFlag (begun .args .label)) (begun .args .kind) (begun .args .key) (x .vs)
 
     abbrev place : ℕ
     place = c .before .p .given .0 .0
@@ -118,12 +118,12 @@ module _ (t : ℕ) where
     numbers : (1 ≤ c .span-at .result) × (place at + c .span-at .result ≤ records at)
     numbers = let x = asked at in omega (arith, span x, step-within (x .f) _ (x .holds .used) (short at) (counted at x))
 
-    inner : (x : Asked at) → Holds (under (begun at .args .label)) (eqb (begun at .args .kind) recordKind) (take (length (arena at) - (typeSize * place at + typeSize)) (drop (typeSize * place at + typeSize) (arena at)))
+    inner : (x : Asked at) → ArenaHolds (byFlag (begun at .args .label)) (eqb (begun at .args .kind) recordKind) (take (length (arena at) - (typeSize * place at + typeSize)) (drop (typeSize * place at + typeSize) (arena at)))
         (c .span-at .result - 1) (records at + begun at .args .rest - place at - c .span-at .result) (split (label at x) (x .f) .content) (encode (split (label at x) (x .f) .after) ++ x .q) (counted at x .free)
     inner x = step-holds (x .f) _ (x .holds .used) (short at) (counted at x) _ (span x) _ (x .field) (x .holds .siblings)
 
     abbrev material : Asked at → CountingType
-    material x = times (begun at .args .weight) (raw (under (begun at .args .label)) (eqb (begun at .args .kind) recordKind) (x .vs))
+    material x = times (begun at .args .weight) (raw (byFlag (begun at .args .label)) (eqb (begun at .args .kind) recordKind) (x .vs))
 
   -- what is below it has been added
   module _ (c : add-item-lts.After-store-span-arg (add-item-calls t) (add-item-at t) add-item.Post) where
@@ -263,7 +263,7 @@ module _ (t : ℕ) where
       (step-grown f _ (h .used) (short j) (counted j x) _ (span (sp i) x) (payload j x) refl (add Counting (material (sp i) x)) _ _ _ (grown i x) (c .before .before .store-span .ensures), counted j x .place)
 
 abbrev add-run-Inv-loop : add-run-lts.InvT-loop
-add-run-Inv-loop a₀ n rest weight t field label work₀ end m₀ i₀ from₀ a work m i from = (end ≡ length t / recordSize) × (length a ≡ length a₀) × (length work ≡ length work₀) × ((f : CountingType) (q free : List ℕ) (vs : Values) → Holds (under label) field a₀ n rest f q free → TableRun field t vs → Ran (under label) field weight vs f q a t m i from)
+add-run-Inv-loop a₀ n rest weight t field label work₀ end m₀ i₀ from₀ a work m i from = (end ≡ length t / recordSize) × (length a ≡ length a₀) × (length work ≡ length work₀) × ((f : CountingType) (q free : List ℕ) (vs : Values) → ArenaHolds (byFlag label) field a₀ n rest f q free → TableRun field t vs → AddedSoFar (byFlag label) field weight vs f q a t m i from)
 
 abbrev add-run-μ-loop : add-run-lts.MeasureT-loop
 add-run-μ-loop a₀ n rest weight t field label work₀ end m₀ i₀ from₀ a work m i from = end - i
@@ -297,12 +297,12 @@ module _ (t : ℕ) where
     same-arena-at : length arena-at ≡ length (start head .args .a .now)
     same-arena-at = c .count-standing .kept .0 ∙ state head .loop .inv .1
 
-    ran : (f : CountingType) (q free : List ℕ) (vs : Values) → Holds (under (start head .args .label)) (start head .args .field) (start head .args .a .now) (start head .args .n) (start head .args .rest) f q free →
+    ran : (f : CountingType) (q free : List ℕ) (vs : Values) → ArenaHolds (byFlag (start head .args .label)) (start head .args .field) (start head .args .a .now) (start head .args .n) (start head .args .rest) f q free →
         TableRun (start head .args .field) (start head .args .t .now) vs →
-        Ran (under (start head .args .label)) (start head .args .field) (start head .args .weight) vs f q arena-at (start head .args .t .now) (state head .loop .m) next (c .count-standing .result .from)
+        AddedSoFar (byFlag (start head .args .label)) (start head .args .field) (start head .args .weight) vs f q arena-at (start head .args .t .now) (state head .loop .m) next (c .count-standing .result .from)
     ran f q free vs h r = c .count-standing .ensures .1 (start head .args .label) vs f q (start head .args .rest) (h .used) (state head .loop .inv .3 f q free vs h r)
 
-    one : Ran (under (start head .args .label)) (start head .args .field) (start head .args .weight) (start head .pre .1 .1 .values) (start head .pre .1 .0 .f) (start head .pre .1 .0 .q) arena-at (start head .args .t .now) (state head .loop .m) next (c .count-standing .result .from)
+    one : AddedSoFar (byFlag (start head .args .label)) (start head .args .field) (start head .args .weight) (start head .pre .1 .1 .values) (start head .pre .1 .0 .f) (start head .pre .1 .0 .q) arena-at (start head .args .t .now) (state head .loop .m) next (c .count-standing .result .from)
     one = let g = start head .pre .1 .0 in ran (g .f) (g .q) (g .free) (start head .pre .1 .1 .values) (g .holds) (start head .pre .1 .1 .run)
 
   -- the item behind them
@@ -354,12 +354,12 @@ module _ (t : ℕ) where
     abbrev known : add-run-lts.After-count-standing (add-run-calls t) (add-run-at t) add-run.Post add-run-Inv-loop add-run-μ-loop
     known = standing behind
 
-    added : (f : CountingType) (q free : List ℕ) (vs : Values) (h : Holds (under (asked-of behind .args .label)) (asked-of behind .args .field) (asked-of behind .args .a .now) (asked-of behind .args .n) (asked-of behind .args .rest) f q free)
+    added : (f : CountingType) (q free : List ℕ) (vs : Values) (h : ArenaHolds (byFlag (asked-of behind .args .label)) (asked-of behind .args .field) (asked-of behind .args .a .now) (asked-of behind .args .n) (asked-of behind .args .rest) f q free)
         (r : TableRun (asked-of behind .args .field) (asked-of behind .args .t .now) vs) →
         let x = ran known f q free vs h r in
         let under-item = below x (r .short) (more behind) (read .read-item .ensures) in
         let kind = read .read-item .result .kind in let key = read .read-item .result .key in
-        AddedAt (withItem (under (asked-of behind .args .label)) kind key (weight group) under-item (x .g)) (size (split (labelFor (under (asked-of behind .args .label)) kind key under-item) (x .g) .before))
+        AddedAt (withItem (byFlag (asked-of behind .args .label)) kind key (weight group) under-item (x .g)) (size (split (labelFor (byFlag (asked-of behind .args .label)) kind key under-item) (x .g) .before))
         q (asked-of behind .args .rest) (c .add-item .result) (c .add-item .last .0)
     added f q free vs h r =
         let x = ran known f q free vs h r in

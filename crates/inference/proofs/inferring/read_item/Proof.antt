@@ -5,27 +5,6 @@ use borrow.Author.Needs.{needs}
 use Rattle.inference.proofs.inferring.read_item.Statement.{statement}
 use Rattle.inference.proofs.inferring.read_item.Tie as tie
 
-span-at-requires : tie.Need-span-at-requires
-span-at-requires c κs = search needs
-
-add-next : tie.Need-add-next
-add-next c = search needs
-
-key-at-requires : tie.Need-key-at-requires
-key-at-requires c κs = search needs
-
-mul-t9 : tie.Need-mul-t9
-mul-t9 c = search needs
-
-kind-at-requires : tie.Need-kind-at-requires
-kind-at-requires c κs = search needs
-
-add-t11 : tie.Need-add-t11
-add-t11 c = search needs
-
-mul-t12 : tie.Need-mul-t12
-mul-t12 c = search needs
-
 returns : tie.Need-returns
 returns c =
     record {
@@ -48,12 +27,12 @@ pub read-item-spec : {M : Type 1} → statement M
 read-item-spec =
     tie.close
     (tie.spec
-    span-at-requires
-    add-next
-    key-at-requires
-    mul-t9
-    kind-at-requires
-    add-t11
-    mul-t12
+    (λ c κs. search needs)
+    (λ c. search needs)
+    (λ c κs. search needs)
+    (λ c. search needs)
+    (λ c κs. search needs)
+    (λ c. search needs)
+    (λ c. search needs)
     returns
     returns-2)

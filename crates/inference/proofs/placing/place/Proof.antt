@@ -6,9 +6,9 @@ use Prim.Native.Nat.{ℕ, _+_, _*_, _≤_}
 use native.Mathlib.Omega.{arith}
 use lib.ListN.{length, length-take, length-drop}
 use borrow.Author.Needs.{needs}
-use Rattle.inference.specs.Inside.Inferring.{wanted, Holds, Starts, StandsAt, split}
+use Rattle.inference.specs.Inside.Inferring.{wanted, ArenaHolds, Starts, StandsAt, split}
 use Rattle.counting_theory.specs.Encoding.{typeSize}
-use Rattle.type_arena.specs.Inside.Arena.{under}
+use Rattle.type_arena.specs.Inside.Arena.{byFlag}
 use Rattle.counting_theory.specs.Label.{Label, CountingType}
 use Rattle.inference.proofs.InPlace.Placing.{holds-length, here-within, here-counted, missing-within, missing-full, missing-counted}
 use Rattle.inference.proofs.InPlace.Splits.{MissingAt, here-at, missing-at}
@@ -18,12 +18,12 @@ use Rattle.inference.proofs.placing.place.Tie as tie
 -- where the label stands, and its room
 module _ (c : tie.After-known-told) where
   abbrev found-label : Label
-  found-label = wanted (under (c .before .before .before .before .before .before .before .args .label)) (c .before .before .before .before .before .before .before .args .kind) (c .before .before .before .before .before .before .before .args .key) (c .before .before .before .before .before .before .before .args .keys) (c .before .before .before .before .before .before .before .args .work .now)
+  found-label = wanted (byFlag (c .before .before .before .before .before .before .before .args .label)) (c .before .before .before .before .before .before .before .args .kind) (c .before .before .before .before .before .before .before .args .key) (c .before .before .before .before .before .before .before .args .keys) (c .before .before .before .before .before .before .before .args .work .now)
 
   abbrev found-place : ℕ
   found-place = c .before .p .given .0 .0
 
-  stands : (field : Bool) (f : CountingType) (q free : List ℕ) → Holds (under (c .before .before .before .before .before .before .before .args .label)) field (c .before .before .before .before .before .before .before .args .a .now) (c .before .before .before .before .before .before .before .args .n) (c .before .before .before .before .before .before .before .args .rest) f q free →
+  stands : (field : Bool) (f : CountingType) (q free : List ℕ) → ArenaHolds (byFlag (c .before .before .before .before .before .before .before .args .label)) field (c .before .before .before .before .before .before .before .args .a .now) (c .before .before .before .before .before .before .before .args .n) (c .before .before .before .before .before .before .before .args .rest) f q free →
       Starts (c .before .before .before .before .before .before .before .args .from) f → StandsAt found-label f found-place
   stands field f q free h s = sym (c .before .p .given .1) ∙ c .before .before .before .search .ensures field _ f q free h s
 
@@ -35,12 +35,12 @@ module _ (c : tie.After-known-told) where
 -- where it would stand
 module _ (c : tie.After-known-told2) where
   abbrev missed-label : Label
-  missed-label = wanted (under (c .before .before .before .before .before .before .before .args .label)) (c .before .before .before .before .before .before .before .args .kind) (c .before .before .before .before .before .before .before .args .key) (c .before .before .before .before .before .before .before .args .keys) (c .before .before .before .before .before .before .before .args .work .now)
+  missed-label = wanted (byFlag (c .before .before .before .before .before .before .before .args .label)) (c .before .before .before .before .before .before .before .args .kind) (c .before .before .before .before .before .before .before .args .key) (c .before .before .before .before .before .before .before .args .keys) (c .before .before .before .before .before .before .before .args .work .now)
 
   abbrev missed-place : ℕ
   missed-place = c .before .p2 .given .0 .0
 
-  missed : (field : Bool) (f : CountingType) (q free : List ℕ) → Holds (under (c .before .before .before .before .before .before .before .args .label)) field (c .before .before .before .before .before .before .before .args .a .now) (c .before .before .before .before .before .before .before .args .n) (c .before .before .before .before .before .before .before .args .rest) f q free →
+  missed : (field : Bool) (f : CountingType) (q free : List ℕ) → ArenaHolds (byFlag (c .before .before .before .before .before .before .before .args .label)) field (c .before .before .before .before .before .before .before .args .a .now) (c .before .before .before .before .before .before .before .args .n) (c .before .before .before .before .before .before .before .args .rest) f q free →
       Starts (c .before .before .before .before .before .before .before .args .from) f → MissingAt (split missed-label f) 0 f missed-place
   missed field f q free h s =
       missing-at missed-label 0 missed-place f (sym (c .before .p2 .given .1) ∙ c .before .before .before .search .ensures field _ f q free h s)
@@ -53,14 +53,8 @@ module _ (c : tie.After-known-told2) where
 search-requires : tie.Need-search-requires
 search-requires c κs = let g = c .before .before .before .pre in (record { rest = _; held = g .0 }, g .1)
 
-enum-known-p : tie.Need-enum-known-p
-enum-known-p c = search needs
-
 join-payload-requires : tie.Need-join-payload-requires
 join-payload-requires c κs = found-room (c .before)
-
-enum-known-p-2 : tie.Need-enum-known-p-2
-enum-known-p-2 c = search needs
 
 add-used : tie.Need-add-used
 add-used c = omega (arith, missed-room c)
@@ -70,9 +64,6 @@ mul-used c = omega (arith, missed-room c)
 
 sub-if1 : tie.Need-sub-if1
 sub-if1 c = omega (arith, missed-room c)
-
-same-length : tie.Need-same-length
-same-length c = search needs
 
 returns : tie.Need-returns
 returns c field f q free h s =
@@ -87,28 +78,16 @@ sub-insert-record c = omega (arith, missed-room (c .before))
 part-insert-record-start : tie.Need-part-insert-record-start
 part-insert-record-start c = omega (arith, missed-room (c .before))
 
-part-insert-record-end : tie.Need-part-insert-record-end
-part-insert-record-end c = search needs
-
 sub-insert-record-2 : tie.Need-sub-insert-record-2
 sub-insert-record-2 c = omega (arith, missed-room (c .before .before))
 
 insert-record-requires : tie.Need-insert-record-requires
 insert-record-requires c κs = simp (length-take, length-drop) (omega (arith, missed-room (c .before .before), c .before .if1 .left))
 
-add-t22 : tie.Need-add-t22
-add-t22 c = search needs
-
-same-length-2 : tie.Need-same-length-2
-same-length-2 c = search needs
-
 returns-2 : tie.Need-returns-2
 returns-2 c field f q free h s =
     let k = c .before .before .before .before in
     here-counted h (found-label k) _ (found-place k) (here-at (found-label k) 0 (found-place k) f (stands k field f q free h s)) _ _ (c .before .before .join-payload .ensures)
-
-same-length-3 : tie.Need-same-length-3
-same-length-3 c = search needs
 
 returns-3 : tie.Need-returns-3
 returns-3 c field f q free h s =
@@ -119,22 +98,22 @@ place-spec =
     tie.close
     (tie.spec
     search-requires
-    enum-known-p
+    (λ c. search needs)
     join-payload-requires
-    enum-known-p-2
+    (λ c. search needs)
     add-used
     mul-used
     sub-if1
-    same-length
+    (λ c. search needs)
     returns
     mul-o
     sub-insert-record
     part-insert-record-start
-    part-insert-record-end
+    (λ c. search needs)
     sub-insert-record-2
     insert-record-requires
-    add-t22
-    same-length-2
+    (λ c. search needs)
+    (λ c. search needs)
     returns-2
-    same-length-3
+    (λ c. search needs)
     returns-3)

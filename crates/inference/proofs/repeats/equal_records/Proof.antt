@@ -17,26 +17,8 @@ abbrev μ-loop : tie.MeasureT-loop
 loop-holds : tie.Need-loop-holds Inv-loop μ-loop
 loop-holds c = let s = c .before .pre in equal-none (omega (arith, s .1, s .2))
 
-add-loop : tie.Need-add-loop Inv-loop μ-loop
-add-loop c = search needs
-
-add-same-record : tie.Need-add-same-record Inv-loop μ-loop
-add-same-record c = search needs
-
-add-same-record-2 : tie.Need-add-same-record-2 Inv-loop μ-loop
-add-same-record-2 c = search needs
-
-same-record-requires : tie.Need-same-record-requires Inv-loop μ-loop
-same-record-requires c κs = search needs
-
 returns : tie.Need-returns Inv-loop μ-loop
 returns c = c .before .before .before .loop .inv
-
-add-n : tie.Need-add-n Inv-loop μ-loop
-add-n c = search needs
-
-loop-less : tie.Need-loop-less Inv-loop μ-loop
-loop-less c = search needs
 
 loop-again : tie.Need-loop-again Inv-loop μ-loop
 loop-again c =
@@ -53,12 +35,12 @@ equal-records-spec =
     Inv-loop
     μ-loop
     loop-holds
-    add-loop
-    add-same-record
-    add-same-record-2
-    same-record-requires
+    (λ c. search needs)
+    (λ c. search needs)
+    (λ c. search needs)
+    (λ c κs. search needs)
     returns
-    add-n
-    loop-less
+    (λ c. search needs)
+    (λ c. search needs)
     loop-again
     returns-2)

@@ -11,17 +11,17 @@ use Rattle.counting_theory.specs.Encoding.{typeSize}
 use Rattle.counting_theory.specs.Label.{Equivalence, CountingType}
 use Rattle.inference.specs.declared.scalar_fields.Sought.{Sought}
 use Rattle.inference.specs.declared.scalar_fields.Sought.the-variants.{Field}
-use Rattle.type_arena.specs.Inside.Arena.{under, InTable}
+use Rattle.type_arena.specs.Inside.Arena.{byFlag, RecordIn}
 use Rattle.inference.specs.Inside.Inferring.{resumed}
-use Rattle.inference.specs.Inside.ScalarFields.{Ran, FieldCounted}
-use Rattle.inference.proofs.InPlace.Turns.{ran-holds}
+use Rattle.inference.specs.Inside.ScalarFields.{AddedSoFar, FieldCounted}
+use Rattle.inference.proofs.InPlace.RunLoop.{ran-holds}
 use Rattle.inference.proofs.InPlace.Scalars.{scalar-room, scalar-turn, ran-from}
 use Rattle.inference.proofs.scalar_fields.count_fields.Statement.{statement}
 use Rattle.inference.proofs.scalar_fields.count_fields.Tie as tie
 
 abbrev Inv-loop : tie.InvT-loop
 Inv-loop a₀ from n t i weight end next₀ at₀ a next at = (end ≡ length t / recordSize) × (i ≤ next) × (length a ≡ length a₀) ×
-    ((label : Bool) (vs : Values) (f : CountingType) (q : List ℕ) (rest : ℕ) → length q ≡ typeSize * rest → Ran (under label) true weight vs f q a₀ t n i from → Ran (under label) true weight vs f q a t n next at)
+    ((label : Bool) (vs : Values) (f : CountingType) (q : List ℕ) (rest : ℕ) → length q ≡ typeSize * rest → AddedSoFar (byFlag label) true weight vs f q a₀ t n i from → AddedSoFar (byFlag label) true weight vs f q a t n next at)
 
 abbrev μ-loop : tie.MeasureT-loop
 μ-loop a₀ from n t i weight end next₀ at₀ a next at = end - next
@@ -70,15 +70,15 @@ module _ (c : tie.After-count-field Inv-loop μ-loop) where
   abbrev head : tie.In-loop Inv-loop μ-loop
   head = c .before .before .before .before .before
 
-  ran : (label : Bool) (vs : Values) (f : CountingType) (q : List ℕ) (rest : ℕ) → length q ≡ typeSize * rest → Ran (under label) true (start head .args .weight) vs f q (start head .args .a .now) (start head .args .t .now) (start head .args .n) (start head .args .i) (start head .args .from) →
-      Ran (under label) true (start head .args .weight) vs f q (loop head .loop .a) (start head .args .t .now) (start head .args .n) (loop head .loop .next) (loop head .loop .at)
+  ran : (label : Bool) (vs : Values) (f : CountingType) (q : List ℕ) (rest : ℕ) → length q ≡ typeSize * rest → AddedSoFar (byFlag label) true (start head .args .weight) vs f q (start head .args .a .now) (start head .args .t .now) (start head .args .n) (start head .args .i) (start head .args .from) →
+      AddedSoFar (byFlag label) true (start head .args .weight) vs f q (loop head .loop .a) (start head .args .t .now) (start head .args .n) (loop head .loop .next) (loop head .loop .at)
   ran = loop head .loop .inv .3
 
-  counted : (o : Sought) → c .count-field .result ≡ o → (label : Bool) (vs : Values) (f : CountingType) (q : List ℕ) (rest : ℕ) (u : length q ≡ typeSize * rest) (r : Ran (under label) true (start head .args .weight) vs f q (start head .args .a .now) (start head .args .t .now) (start head .args .n) (start head .args .i) (start head .args .from)) →
-      FieldCounted (under label) (keyAt (start head .args .t .now) (loop head .loop .next)) (kindAt (start head .args .t .now) (loop head .loop .next)) (start head .args .weight) (ran label vs f q rest u r .g) q (start head .args .n) (loop head .loop .a) o (c .count-field .last .0)
+  counted : (o : Sought) → c .count-field .result ≡ o → (label : Bool) (vs : Values) (f : CountingType) (q : List ℕ) (rest : ℕ) (u : length q ≡ typeSize * rest) (r : AddedSoFar (byFlag label) true (start head .args .weight) vs f q (start head .args .a .now) (start head .args .t .now) (start head .args .n) (start head .args .i) (start head .args .from)) →
+      FieldCounted (byFlag label) (keyAt (start head .args .t .now) (loop head .loop .next)) (kindAt (start head .args .t .now) (loop head .loop .next)) (start head .args .weight) (ran label vs f q rest u r .g) q (start head .args .n) (loop head .loop .a) o (c .count-field .last .0)
   counted o z label vs f q rest u r =
       let x = ran label vs f q rest u r in
-      recounted (under label) (start head .args .weight) (start head .args .n) (x .g) q (loop head .loop .a) (c .count-field .last .0) _ o (c .before .key-at .ensures) (c .before .before .before .before .kind-at .ensures) z (c .count-field .ensures label rest (x .g) q (x .free) (ran-holds x rest u (bounds head .2)) (x .starts))
+      recounted (byFlag label) (start head .args .weight) (start head .args .n) (x .g) q (loop head .loop .a) (c .count-field .last .0) _ o (c .before .key-at .ensures) (c .before .before .before .before .kind-at .ensures) z (c .count-field .ensures label rest (x .g) q (x .free) (ran-holds x rest u (bounds head .2)) (x .starts))
 
   short : length (c .count-field .last .0) ≤ 65536
   short = omega (arith, bounds head, c .count-field .kept .0)
@@ -91,18 +91,15 @@ module _ (c : tie.After-known-told2 Inv-loop μ-loop) where
   scalar : kindAt (start (head done) .args .t .now) (loop (head done) .loop .next) ≤ 4
   scalar = omega (arith, done .before .before .before .if1 .left, done .before .before .before .before .kind-at .ensures)
 
-  module _ (label : Bool) (vs : Values) (f : CountingType) (q : List ℕ) (rest : ℕ) (u : length q ≡ typeSize * rest) (r : Ran (under label) true (start (head done) .args .weight) vs f q (start (head done) .args .a .now) (start (head done) .args .t .now) (start (head done) .args .n) (start (head done) .args .i) (start (head done) .args .from)) where
-    counts : FieldCounted (under label) (keyAt (start (head done) .args .t .now) (loop (head done) .loop .next)) (kindAt (start (head done) .args .t .now) (loop (head done) .loop .next)) (start (head done) .args .weight) (ran done label vs f q rest u r .g) q (start (head done) .args .n) (loop (head done) .loop .a) (Field (c .before .p2 .given .0 .0)) (done .count-field .last .0)
+  module _ (label : Bool) (vs : Values) (f : CountingType) (q : List ℕ) (rest : ℕ) (u : length q ≡ typeSize * rest) (r : AddedSoFar (byFlag label) true (start (head done) .args .weight) vs f q (start (head done) .args .a .now) (start (head done) .args .t .now) (start (head done) .args .n) (start (head done) .args .i) (start (head done) .args .from)) where
+    counts : FieldCounted (byFlag label) (keyAt (start (head done) .args .t .now) (loop (head done) .loop .next)) (kindAt (start (head done) .args .t .now) (loop (head done) .loop .next)) (start (head done) .args .weight) (ran done label vs f q rest u r .g) q (start (head done) .args .n) (loop (head done) .loop .a) (Field (c .before .p2 .given .0 .0)) (done .count-field .last .0)
     counts = counted done _ (c .before .p2 .given .1) label vs f q rest u r
 
-    room : InTable (done .count-field .last .0) (c .before .p2 .given .0 .0)
+    room : RecordIn (done .count-field .last .0) (c .before .p2 .given .0 .0)
     room = scalar-room (ran done label vs f q rest u r) (bounds (head done) .1) (more (head done)) scalar rest _ _ (counts .0) (counts .1) (short done)
 
-    turned : Ran (under label) true (start (head done) .args .weight) vs f q (done .count-field .last .0) (start (head done) .args .t .now) (start (head done) .args .n) (loop (head done) .loop .next + 1) (resumed true (done .count-field .last .0) (c .before .p2 .given .0 .0) (start (head done) .args .n))
+    turned : AddedSoFar (byFlag label) true (start (head done) .args .weight) vs f q (done .count-field .last .0) (start (head done) .args .t .now) (start (head done) .args .n) (loop (head done) .loop .next + 1) (resumed true (done .count-field .last .0) (c .before .p2 .given .0 .0) (start (head done) .args .n))
     turned = scalar-turn (ran done label vs f q rest u r) (bounds (head done) .1) (more (head done)) scalar rest _ _ (counts .0) (counts .1) (short done) u
-
-enum-known-p : tie.Need-enum-known-p Inv-loop μ-loop
-enum-known-p c = search needs
 
 same-length-2 : tie.Need-same-length-2 Inv-loop μ-loop
 same-length-2 c = let k = c .before .before .before .before .before in k .count-field .kept .0 ∙ loop (head k) .loop .inv .2
@@ -111,9 +108,6 @@ returns-2 : tie.Need-returns-2 Inv-loop μ-loop
 returns-2 c =
     let k = c .before .before .before .before .before in
     (loop (head k) .loop .inv .1, λ label vs f q rest u r. let x = counted k _ (c .before .p .given .1) label vs f q rest u r in ran-from (ran k label vs f q rest u r) _ _ (x .0) (x .1))
-
-enum-known-p-2 : tie.Need-enum-known-p-2 Inv-loop μ-loop
-enum-known-p-2 c = search needs
 
 resume-at-requires : tie.Need-resume-at-requires Inv-loop μ-loop
 resume-at-requires c κs = let g = start (head (done (c .before))) .pre in room (c .before) (g .label) (g .vs) (g .f) (g .q) (g .rest) (g .used) (g .ran)
@@ -148,10 +142,10 @@ count-fields-spec =
     returns
     key-at-requires
     count-field-requires
-    enum-known-p
+    (λ c. search needs)
     same-length-2
     returns-2
-    enum-known-p-2
+    (λ c. search needs)
     resume-at-requires
     add-next
     loop-less

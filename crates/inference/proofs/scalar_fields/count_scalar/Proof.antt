@@ -9,9 +9,9 @@ use borrow.Author.Needs.{needs}
 use Rattle.counting_theory.specs.Label.{fieldKind, CountingType}
 use Rattle.counting_theory.specs.Encoding.{typeSize, typeSpan, encode}
 use Rattle.value_table.specs.Value.{none, value}
-use Rattle.type_arena.specs.Inside.Arena.{under}
+use Rattle.type_arena.specs.Inside.Arena.{byFlag}
 use Rattle.type_arena.specs.Inside.Payload.{itemPayload}
-use Rattle.inference.specs.Inside.Inferring.{grown, Holds, StandsAt, split, Counted}
+use Rattle.inference.specs.Inside.Inferring.{grown, ArenaHolds, StandsAt, split, Counted}
 use Rattle.inference.specs.Inside.ScalarFields.{plain}
 use Rattle.inference.proofs.InPlace.Placing.{holds-length, here-within, here-counted}
 use Rattle.inference.proofs.InPlace.Splits.{here-at}
@@ -42,24 +42,12 @@ sub-find-scalar c = omega (arith, bound (c .before .before .before))
 part-find-scalar-start : tie.Need-part-find-scalar-start
 part-find-scalar-start c = omega (arith, bound (c .before .before .before .before))
 
-part-find-scalar-end : tie.Need-part-find-scalar-end
-part-find-scalar-end c = search needs
-
 find-scalar-requires : tie.Need-find-scalar-requires
 find-scalar-requires c κs =
     let g = c .before .before .before .before .before .pre in
     let x = g .0 in
     let h = union-holds (x .holds) (x .key) _ (x .here) _ (c .before .before .span-at .ensures .0) in
-    (record { label = x .label; rest = _; f = _; q = _; free = _; holds = h; starts = begun-first h (plain (under (x .label)) 0 0) .starts }, g .1)
-
-enum-known-q : tie.Need-enum-known-q
-enum-known-q c = search needs
-
-enum-told : tie.Need-enum-told
-enum-told c = search needs
-
-same-length : tie.Need-same-length
-same-length c = search needs
+    (record { label = x .label; rest = _; f = _; q = _; free = _; holds = h; starts = begun-first h (plain (byFlag (x .label)) 0 0) .starts }, g .1)
 
 returns : tie.Need-returns
 returns c label n rest key f q free h o = refl
@@ -87,17 +75,17 @@ module _ (c : tie.After-slice-known2) where
   short : length arena ≤ 65536
   short = omega (arith, bound start, c .before .before .join-payload .kept .0)
 
-  module _ (label : Bool) (n rest key : ℕ) (f : CountingType) (q free : List ℕ) (h : Holds (under label) true (start .args .a .now) n rest f q free) (o : StandsAt (plain (under label) fieldKind key) f (start .args .p)) where
-    counted : Counted (split (plain (under label) fieldKind key) f) (plain (under label) fieldKind key) (grown (split (plain (under label) fieldKind key) f .payload) (itemPayload (start .args .weight) fieldKind (value (record { kind = start .args .kind }) key none none))) q (start .args .p) n arena
+  module _ (label : Bool) (n rest key : ℕ) (f : CountingType) (q free : List ℕ) (h : ArenaHolds (byFlag label) true (start .args .a .now) n rest f q free) (o : StandsAt (plain (byFlag label) fieldKind key) f (start .args .p)) where
+    counted : Counted (split (plain (byFlag label) fieldKind key) f) (plain (byFlag label) fieldKind key) (grown (split (plain (byFlag label) fieldKind key) f .payload) (itemPayload (start .args .weight) fieldKind (value (record { kind = start .args .kind }) key none none))) q (start .args .p) n arena
     counted = rw (c .before .before .before .given .ensures none) at (here-counted h _ _ _ (field-here h key _ o) _ _ (c .before .before .join-payload .ensures))
 
     abbrev union : CountingType
-    union = split (plain (under label) fieldKind key) f .content
+    union = split (plain (byFlag label) fieldKind key) f .content
 
-    stands : StandsAt (plain (under label) (start .args .kind) 0) union (c .before .before .before .before .before .before .q .given .0 .0)
+    stands : StandsAt (plain (byFlag label) (start .args .kind) 0) union (c .before .before .before .before .before .before .q .given .0 .0)
     stands = sym (c .before .before .before .before .before .before .q .given .1) ∙ found .find-scalar .ensures label _ union _ _ (union-holds h key _ o _ (found .before .before .before .span-at .ensures .0))
 
-    inner : Holds (under label) false (take (length arena - (typeSize * start .args .p + typeSize)) (drop (typeSize * start .args .p + typeSize) arena)) (span - 1) (n + rest - start .args .p - span) union (encode (split (plain (under label) fieldKind key) f .after) ++ q) (counted .free)
+    inner : ArenaHolds (byFlag label) false (take (length arena - (typeSize * start .args .p + typeSize)) (drop (typeSize * start .args .p + typeSize) arena)) (span - 1) (n + rest - start .args .p - span) union (encode (split (plain (byFlag label) fieldKind key) f .after) ++ q) (counted .free)
     inner = counted-union h key _ o span (found .before .before .before .span-at .ensures .0) (start .args .weight) (start .args .kind) counted short
 
 sub-join-payload : tie.Need-sub-join-payload
@@ -105,9 +93,6 @@ sub-join-payload c = omega (arith, bound (start c), c .before .before .join-payl
 
 part-join-payload-start : tie.Need-part-join-payload-start
 part-join-payload-start c = omega (arith, bound (start c), c .before .before .join-payload .kept .0)
-
-part-join-payload-end : tie.Need-part-join-payload-end
-part-join-payload-end c = search needs
 
 given-requires-2 : tie.Need-given-requires-2
 given-requires-2 c κs = tt
@@ -118,9 +103,6 @@ join-payload-requires-2 c κs =
     let g = start i .pre .0 in
     let h = inner i (g .label) (g .n) (g .rest) (g .key) (g .f) (g .q) (g .free) (g .holds) (g .here) in
     omega (arith, here-within h _ _ _ (here-at _ 0 _ _ (stands i (g .label) (g .n) (g .rest) (g .key) (g .f) (g .q) (g .free) (g .holds) (g .here))), holds-length h)
-
-same-length-2 : tie.Need-same-length-2
-same-length-2 c = search needs
 
 returns-2 : tie.Need-returns-2
 returns-2 c label n rest key f q free h o =
@@ -141,18 +123,18 @@ count-scalar-spec =
     sub-held
     sub-find-scalar
     part-find-scalar-start
-    part-find-scalar-end
+    (λ c. search needs)
     find-scalar-requires
-    enum-known-q
-    enum-told
-    same-length
+    (λ c. search needs)
+    (λ c. search needs)
+    (λ c. search needs)
     returns
     given-requires
     join-payload-requires
     sub-join-payload
     part-join-payload-start
-    part-join-payload-end
+    (λ c. search needs)
     given-requires-2
     join-payload-requires-2
-    same-length-2
+    (λ c. search needs)
     returns-2)

@@ -11,9 +11,6 @@ returns c = (omega arith, λ label vs f q rest u r. r)
 count-fields-requires : tie.Need-count-fields-requires
 count-fields-requires c κs = let s = c .before .before .before .before in rw (not-false (s .args .field) (c .before .if1 .left)) at (s .pre)
 
-same-length : tie.Need-same-length
-same-length c = search needs
-
 returns-2 : tie.Need-returns-2
 returns-2 c =
     let i = c .before .before .before .before in
@@ -22,4 +19,4 @@ returns-2 c =
     (x .0, λ label vs f q rest u r. rw z (x .1 label vs f q rest u (rw z at r)))
 
 pub count-standing-spec : {M : Type 1} → statement M
-count-standing-spec = tie.close (tie.spec returns count-fields-requires same-length returns-2)
+count-standing-spec = tie.close (tie.spec returns count-fields-requires (λ c. search needs) returns-2)

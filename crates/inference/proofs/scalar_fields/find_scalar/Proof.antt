@@ -5,8 +5,8 @@ use mathlib.Core.Path.{refl}
 use Prim.Native.Nat.{ℕ, _-_}
 use native.Mathlib.Omega.{arith}
 use Rattle.counting_theory.specs.Label.{CountingType}
-use Rattle.type_arena.specs.Inside.Arena.{under}
-use Rattle.inference.specs.Inside.Inferring.{Holds}
+use Rattle.type_arena.specs.Inside.Arena.{byFlag}
+use Rattle.inference.specs.Inside.Inferring.{ArenaHolds}
 use Rattle.inference.specs.Inside.ScalarFields.{plain}
 use Rattle.inference.proofs.InPlace.Seeking.{Stop, stop, seen-end, starts-next}
 use Rattle.inference.proofs.InPlace.Scalars.{Begun, begun-first, union-key, plain-equal, plain-kind-less, plain-kind-greater}
@@ -14,7 +14,7 @@ use Rattle.inference.proofs.scalar_fields.find_scalar.Statement.{statem
 use Rattle.inference.proofs.scalar_fields.find_scalar.Tie as tie
 
 abbrev Inv-loop : tie.InvT-loop
-Inv-loop b n kind at₀ at = (label : Bool) (rest : ℕ) (f : CountingType) (q free : List ℕ) → Holds (under label) false b n rest f q free → Begun (under label) b n (plain (under label) kind 0) f at
+Inv-loop b n kind at₀ at = (label : Bool) (rest : ℕ) (f : CountingType) (q free : List ℕ) → ArenaHolds (byFlag label) false b n rest f q free → Begun (byFlag label) b n (plain (byFlag label) kind 0) f at
 
 abbrev μ-loop : tie.MeasureT-loop
 μ-loop b n kind at₀ at = n - at
@@ -24,14 +24,14 @@ module _ (c : tie.In-loop Inv-loop μ-loop) where
   abbrev start : tie.Start Inv-loop μ-loop
   start = c .before .before .before
 
-  module _ (label : Bool) (rest : ℕ) (f : CountingType) (q free : List ℕ) (h : Holds (under label) false (start .args .b .now) (start .args .n) rest f q free) where
-    abbrev begun : Begun (under label) (start .args .b .now) (start .args .n) (plain (under label) (start .args .kind) 0) f (c .before .loop .at)
+  module _ (label : Bool) (rest : ℕ) (f : CountingType) (q free : List ℕ) (h : ArenaHolds (byFlag label) false (start .args .b .now) (start .args .n) rest f q free) where
+    abbrev begun : Begun (byFlag label) (start .args .b .now) (start .args .n) (plain (byFlag label) (start .args .kind) 0) f (c .before .loop .at)
     begun = c .before .loop .inv label rest f q free h
 
-    all : Stop (under label) (start .args .b .now) (start .args .n) (plain (under label) (start .args .kind) 0) f false (c .before .loop .at)
+    all : Stop (byFlag label) (start .args .b .now) (start .args .n) (plain (byFlag label) (start .args .kind) 0) f false (c .before .loop .at)
     all = stop (h .short) (begun .seen) (c .loop-test .taken)
 
-  one : let g = start .pre .0 in Stop (under (g .label)) (start .args .b .now) (start .args .n) (plain (under (g .label)) (start .args .kind) 0) (g .f) false (c .before .loop .at)
+  one : let g = start .pre .0 in Stop (byFlag (g .label)) (start .args .b .now) (start .args .n) (plain (byFlag (g .label)) (start .args .kind) 0) (g .f) false (c .before .loop .at)
   one = let g = start .pre .0 in all (g .label) (g .rest) (g .f) (g .q) (g .free) (g .holds)
 
 loop-holds : tie.Need-loop-holds Inv-loop μ-loop

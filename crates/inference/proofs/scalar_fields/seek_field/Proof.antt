@@ -4,8 +4,8 @@ use mathlib.Core.Bool.{Bool, true, false}
 use Prim.Native.Nat.{ℕ, _-_}
 use native.Mathlib.Omega.{arith}
 use Rattle.counting_theory.specs.Label.{fieldKind, CountingType}
-use Rattle.type_arena.specs.Inside.Arena.{under}
-use Rattle.inference.specs.Inside.Inferring.{Holds, Starts}
+use Rattle.type_arena.specs.Inside.Arena.{byFlag}
+use Rattle.inference.specs.Inside.Inferring.{ArenaHolds, Starts}
 use Rattle.inference.specs.Inside.ScalarFields.{plain}
 use Rattle.inference.proofs.InPlace.Seeking.{Stop, stop, starts-next}
 use Rattle.inference.proofs.InPlace.Scalars.{Begun, begun-start, table-at, field-kind, plain-equal, plain-key-greater}
@@ -13,8 +13,8 @@ use Rattle.inference.proofs.scalar_fields.seek_field.Statement.{stateme
 use Rattle.inference.proofs.scalar_fields.seek_field.Tie as tie
 
 abbrev Inv-loop : tie.InvT-loop
-Inv-loop b from n key at₀ before₀ at before = (label : Bool) (rest : ℕ) (f : CountingType) (q free : List ℕ) → Holds (under label) true b n rest f q free → Starts from f →
-    Begun (under label) b n (plain (under label) fieldKind key) f at × Starts before f
+Inv-loop b from n key at₀ before₀ at before = (label : Bool) (rest : ℕ) (f : CountingType) (q free : List ℕ) → ArenaHolds (byFlag label) true b n rest f q free → Starts from f →
+    Begun (byFlag label) b n (plain (byFlag label) fieldKind key) f at × Starts before f
 
 abbrev μ-loop : tie.MeasureT-loop
 μ-loop b from n key at₀ before₀ at before = n - at
@@ -24,14 +24,14 @@ module _ (c : tie.In-loop Inv-loop μ-loop) where
   abbrev start : tie.Start Inv-loop μ-loop
   start = c .before .before .before .before
 
-  module _ (label : Bool) (rest : ℕ) (f : CountingType) (q free : List ℕ) (h : Holds (under label) true (start .args .b .now) (start .args .n) rest f q free) (s : Starts (start .args .from) f) where
-    abbrev begun : Begun (under label) (start .args .b .now) (start .args .n) (plain (under label) fieldKind (start .args .key)) f (c .before .loop .at)
+  module _ (label : Bool) (rest : ℕ) (f : CountingType) (q free : List ℕ) (h : ArenaHolds (byFlag label) true (start .args .b .now) (start .args .n) rest f q free) (s : Starts (start .args .from) f) where
+    abbrev begun : Begun (byFlag label) (start .args .b .now) (start .args .n) (plain (byFlag label) fieldKind (start .args .key)) f (c .before .loop .at)
     begun = c .before .loop .inv label rest f q free h s .0
 
-    all : Stop (under label) (start .args .b .now) (start .args .n) (plain (under label) fieldKind (start .args .key)) f false (c .before .loop .at)
+    all : Stop (byFlag label) (start .args .b .now) (start .args .n) (plain (byFlag label) fieldKind (start .args .key)) f false (c .before .loop .at)
     all = stop (h .short) (begun .seen) (c .loop-test .taken)
 
-  one : let g = start .pre in Stop (under (g .label)) (start .args .b .now) (start .args .n) (plain (under (g .label)) fieldKind (start .args .key)) (g .f) false (c .before .loop .at)
+  one : let g = start .pre in Stop (byFlag (g .label)) (start .args .b .now) (start .args .n) (plain (byFlag (g .label)) fieldKind (start .args .key)) (g .f) false (c .before .loop .at)
   one = let g = start .pre in all (g .label) (g .rest) (g .f) (g .q) (g .free) (g .holds) (g .starts)
 
 field-start-requires : tie.Need-field-start-requires Inv-loop μ-loop

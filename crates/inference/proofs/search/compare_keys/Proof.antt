@@ -21,12 +21,6 @@ abbrev μ-loop : tie.MeasureT-loop
 span-at-requires : tie.Need-span-at-requires Inv-loop μ-loop
 span-at-requires c κs = omega (arith, chain-le (c .before .before .pre .0 .chain))
 
-add-end : tie.Need-add-end Inv-loop μ-loop
-add-end c = search needs
-
-add-j : tie.Need-add-j Inv-loop μ-loop
-add-j c = search needs
-
 loop-holds : tie.Need-loop-holds Inv-loop μ-loop
 loop-holds c =
     let s = c .before .before .before in
@@ -103,8 +97,8 @@ compare-keys-spec =
     Inv-loop
     μ-loop
     span-at-requires
-    add-end
-    add-j
+    (λ c. search needs)
+    (λ c. search needs)
     loop-holds
     mul-number16
     number16-requires

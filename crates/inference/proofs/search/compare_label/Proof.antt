@@ -5,20 +5,17 @@ use borrow.Author.Tests.{not-true, not-false}
 use borrow.Author.Needs.{needs}
 use Rattle.counting_theory.specs.Label.{Label}
 use Rattle.counting_theory.proofs.LabelOrder.{kind-less, kind-more, key-less, key-more, under-kind, no-record, by-lists}
-use Rattle.type_arena.specs.Inside.Arena.{under, labelAt}
+use Rattle.type_arena.specs.Inside.Arena.{byFlag, labelAt}
 use Rattle.inference.specs.Inside.Inferring.{wanted}
 use Rattle.inference.proofs.search.compare_label.Statement.{statement}
 use Rattle.inference.proofs.search.compare_label.Tie as tie
 
 -- the label that is looked for, and that of the record
 abbrev sought : tie.Start → Label
-sought s = wanted (under (s .args .label)) (s .args .kind) (s .args .key) (s .args .n) (s .args .work .now)
+sought s = wanted (byFlag (s .args .label)) (s .args .kind) (s .args .key) (s .args .n) (s .args .work .now)
 
 abbrev there : tie.Start → Label
-there s = labelAt (under (s .args .label)) (s .args .b .now) (s .args .p)
-
-kind-at-requires : tie.Need-kind-at-requires
-kind-at-requires c κs = search needs
+there s = labelAt (byFlag (s .args .label)) (s .args .b .now) (s .args .p)
 
 returns : tie.Need-returns
 unfolding labelAt
@@ -27,9 +24,6 @@ returns c = let s = c .before .before .before .before in kind-less (sought s) (t
 returns-2 : tie.Need-returns-2
 unfolding labelAt
 returns-2 c = let s = c .before .before .before .before .before in kind-more (sought s) (there s) (omega arith)
-
-key-at-requires : tie.Need-key-at-requires
-key-at-requires c κs = search needs
 
 returns-3 : tie.Need-returns-3
 unfolding labelAt
@@ -47,7 +41,7 @@ returns-5 : tie.Need-returns-5
 unfolding labelAt
 returns-5 c =
     let s = c .before .before .before .before .before .before .before .before .before in
-    under-kind _ (omega arith) (omega arith) _ _ (ap under (not-true (s .args .label) (c .if5 .taken)))
+    under-kind _ (omega arith) (omega arith) _ _ (ap byFlag (not-true (s .args .label) (c .if5 .taken)))
 
 returns-6 : tie.Need-returns-6
 unfolding labelAt
@@ -62,16 +56,16 @@ returns-7 : tie.Need-returns-7
 unfolding labelAt
 returns-7 c =
     let s = c .before .before .before .before .before .before .before .before .before .before .before in
-    c .compare-keys .ensures ∙ by-lists _ (omega arith) (omega arith) _ _ (ap under (not-false (s .args .label) (c .before .before .if5 .left))) (omega arith)
+    c .compare-keys .ensures ∙ by-lists _ (omega arith) (omega arith) _ _ (ap byFlag (not-false (s .args .label) (c .before .before .if5 .left))) (omega arith)
 
 pub compare-label-spec : {M : Type 1} → statement M
 compare-label-spec =
     tie.close
     (tie.spec
-    kind-at-requires
+    (λ c κs. search needs)
     returns
     returns-2
-    key-at-requires
+    (λ c κs. search needs)
     returns-3
     returns-4
     returns-5

@@ -6,8 +6,8 @@ use Prim.Native.Nat.{ℕ, _+_, _-_}
 use native.Mathlib.Omega.{arith}
 use borrow.Author.Tests.{not-true, not-false}
 use borrow.Author.Needs.{needs}
-use Rattle.inference.specs.Inside.Inferring.{wanted, Holds, Starts}
-use Rattle.type_arena.specs.Inside.Arena.{under}
+use Rattle.inference.specs.Inside.Inferring.{wanted, ArenaHolds, Starts}
+use Rattle.type_arena.specs.Inside.Arena.{byFlag}
 use Rattle.type_arena.specs.Inside.LabelOrder.{orderingOf}
 use Rattle.counting_theory.specs.Label.{Label, CountingType}
 use Rattle.inference.proofs.InPlace.Seeking.{Seen, Stop, seen-start, seen-resumed, stop, seen-end}
@@ -15,7 +15,7 @@ use Rattle.inference.proofs.search.search.Statement.{statement}
 use Rattle.inference.proofs.search.search.Tie as tie
 
 abbrev Inv-loop : tie.InvT-loop
-Inv-loop b from n kind key work keys label at₀ resumed₀ at resumed = (field : Bool) (rest : ℕ) (f : CountingType) (q free : List ℕ) → Holds (under label) field b n rest f q free → Starts from f → Seen (under label) b n (wanted (under label) kind key keys work) f resumed at
+Inv-loop b from n kind key work keys label at₀ resumed₀ at resumed = (field : Bool) (rest : ℕ) (f : CountingType) (q free : List ℕ) → ArenaHolds (byFlag label) field b n rest f q free → Starts from f → Seen (byFlag label) b n (wanted (byFlag label) kind key keys work) f resumed at
 
 abbrev μ-loop : tie.MeasureT-loop
 μ-loop b from n kind key work keys label at₀ resumed₀ at resumed = cond resumed (n + 1) 0 + (n - at)
@@ -23,26 +23,20 @@ abbrev μ-loop : tie.MeasureT-loop
 -- the sibling at the loop's head
 module _ (c : tie.In-loop Inv-loop μ-loop) where
   abbrev l : Label
-  l = wanted (under (c .before .before .before .before .before .args .label)) (c .before .before .before .before .before .args .kind) (c .before .before .before .before .before .args .key) (c .before .before .before .before .before .args .keys) (c .before .before .before .before .before .args .work .now)
+  l = wanted (byFlag (c .before .before .before .before .before .args .label)) (c .before .before .before .before .before .args .kind) (c .before .before .before .before .before .args .key) (c .before .before .before .before .before .args .keys) (c .before .before .before .before .before .args .work .now)
 
-  all : (field : Bool) (rest : ℕ) (f : CountingType) (q free : List ℕ) → Holds (under (c .before .before .before .before .before .args .label)) field (c .before .before .before .before .before .args .b .now) (c .before .before .before .before .before .args .n) rest f q free →
-      Starts (c .before .before .before .before .before .args .from) f → Stop (under (c .before .before .before .before .before .args .label)) (c .before .before .before .before .before .args .b .now) (c .before .before .before .before .before .args .n) l f (c .before .loop .resumed) (c .before .loop .at)
+  all : (field : Bool) (rest : ℕ) (f : CountingType) (q free : List ℕ) → ArenaHolds (byFlag (c .before .before .before .before .before .args .label)) field (c .before .before .before .before .before .args .b .now) (c .before .before .before .before .before .args .n) rest f q free →
+      Starts (c .before .before .before .before .before .args .from) f → Stop (byFlag (c .before .before .before .before .before .args .label)) (c .before .before .before .before .before .args .b .now) (c .before .before .before .before .before .args .n) l f (c .before .loop .resumed) (c .before .loop .at)
   all field rest f q free h s = stop (h .short) (c .before .loop .inv field rest f q free h s) (c .loop-test .taken)
 
-  one : Stop (under (c .before .before .before .before .before .args .label)) (c .before .before .before .before .before .args .b .now) (c .before .before .before .before .before .args .n) l (c .before .before .before .before .before .pre .0 .held .f) (c .before .loop .resumed) (c .before .loop .at)
+  one : Stop (byFlag (c .before .before .before .before .before .args .label)) (c .before .before .before .before .before .args .b .now) (c .before .before .before .before .before .args .n) l (c .before .before .before .before .before .pre .0 .held .f) (c .before .loop .resumed) (c .before .loop .at)
   one = let g = c .before .before .before .before .before .pre .0 .held in all (g .field) _ (g .f) (g .q) (g .free) (g .holds) (g .starts)
-
-search-start-requires : tie.Need-search-start-requires Inv-loop μ-loop
-search-start-requires c κs = search needs
 
 loop-holds : tie.Need-loop-holds Inv-loop μ-loop
 loop-holds c field rest f q free h s = rw (c .search-start .ensures) (seen-resumed h _ s)
 
 compare-label-requires : tie.Need-compare-label-requires Inv-loop μ-loop
 compare-label-requires c κs = (one c .here, c .before .before .before .before .before .pre .1)
-
-enum-told : tie.Need-enum-told Inv-loop μ-loop
-enum-told c = search needs
 
 returns : tie.Need-returns Inv-loop μ-loop
 returns c field rest f q free h s = all (c .before .before .before .before) field rest f q free h s .less (sym (ap orderingOf (sym (c .before .enum-told .given .1)) ∙ c .before .before .before .compare-label .ensures)) (not-true _ (c .if1 .taken))
@@ -53,14 +47,8 @@ loop-less c = rw (not-false (c .before .before .before .before .before .loop .re
 loop-again : tie.Need-loop-again Inv-loop μ-loop
 loop-again c field rest f q free h s = seen-start h _
 
-enum-told-2 : tie.Need-enum-told-2 Inv-loop μ-loop
-enum-told-2 c = search needs
-
 returns-2 : tie.Need-returns-2 Inv-loop μ-loop
 returns-2 c field rest f q free h s = all (c .before .before .before) field rest f q free h s .equal (sym (ap orderingOf (sym (c .enum-told2 .given .1)) ∙ c .before .before .compare-label .ensures))
-
-enum-told-3 : tie.Need-enum-told-3 Inv-loop μ-loop
-enum-told-3 c = search needs
 
 span-at-requires : tie.Need-span-at-requires Inv-loop μ-loop
 span-at-requires c κs = one (c .before .before .before) .here .whole
@@ -83,16 +71,16 @@ search-spec =
     (tie.spec
     Inv-loop
     μ-loop
-    search-start-requires
+    (λ c κs. search needs)
     loop-holds
     compare-label-requires
-    enum-told
+    (λ c. search needs)
     returns
     loop-less
     loop-again
-    enum-told-2
+    (λ c. search needs)
     returns-2
-    enum-told-3
+    (λ c. search needs)
     span-at-requires
     add-at
     loop-less-2

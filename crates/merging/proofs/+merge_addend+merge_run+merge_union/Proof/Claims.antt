@@ -5,7 +5,7 @@ use lib.ListN.{length}
 use borrow.Fn.Kinds.{In}
 use borrow.Fn.PlainCycle.{Measures, is, falls, and}
 use Rattle.merging.proofs.TypeMerge.Part.{rank}
-use Rattle.merging.proofs.TypeMerge.Turns.{State}
+use Rattle.merging.proofs.TypeMerge.MergeLoop.{State}
 use Rattle.merging.proofs.merge_addend.Reads as merge-addend
 use Rattle.merging.proofs.merge_addend.Kinds as merge-addend-kinds
 use Rattle.merging.proofs.+merge_addend+merge_run+merge_union.Lts-merge_addend as merge-addend-lts

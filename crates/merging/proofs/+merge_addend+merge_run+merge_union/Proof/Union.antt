@@ -2,8 +2,8 @@
 use mathlib.Core.Path.{_∙_}
 use Prim.Native.Nat.{ℕ}
 use native.Mathlib.Omega.{arith}
-use Rattle.merging.proofs.TypeMerge.Steps.{At, merged-le}
-use Rattle.merging.proofs.TypeMerge.Turns.{first-only, union-done}
+use Rattle.merging.proofs.TypeMerge.OneAddend.{At, merged-le}
+use Rattle.merging.proofs.TypeMerge.MergeLoop.{first-only, union-done}
 use Rattle.merging.proofs.merge_union.Reads as merge-union
 use Rattle.merging.proofs.+merge_addend+merge_run+merge_union.Lts-merge_union as merge-union-lts
 use Rattle.merging.proofs.+merge_addend+merge_run+merge_union.Proof.Claims.{union-at, union-calls}

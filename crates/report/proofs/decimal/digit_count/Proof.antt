@@ -3,7 +3,7 @@ use mathlib.Core.Path.{_≡_}
 use Prim.Native.Nat.{_+_, _-_, _^_, _≤_, _<_}
 use borrow.Author.Needs.{needs}
 use native.Mathlib.Omega.{arith}
-use Rattle.report.specs.Decimal.{maxDigits}
+use Rattle.report.specs.Inside.Room.{maxDigits}
 use Rattle.report.proofs.Powers.{digit-count}
 use Rattle.report.proofs.decimal.digit_count.Statement.{statement}
 use Rattle.report.proofs.decimal.digit_count.Tie as tie
@@ -14,22 +14,10 @@ Inv-loop n d₀ d = (1 ≤ d) × (d ≤ maxDigits) × (1 < d → 10 ^ (d - 1) �
 abbrev μ-loop : tie.MeasureT-loop
 μ-loop n d₀ d = maxDigits - d
 
-loop-holds : tie.Need-loop-holds Inv-loop μ-loop
-loop-holds c = search needs
-
-power-requires : tie.Need-power-requires Inv-loop μ-loop
-power-requires c κs = search needs
-
 returns : tie.Need-returns Inv-loop μ-loop
 returns c =
     let l = c .before .before .before .loop in
     (digit-count (l .d) _ (l .inv .0) (omega (arith, c .before .power .ensures)) (l .inv .2), l .inv .0, l .inv .1)
-
-add-d : tie.Need-add-d Inv-loop μ-loop
-add-d c = search needs
-
-loop-less : tie.Need-loop-less Inv-loop μ-loop
-loop-less c = search needs
 
 loop-again : tie.Need-loop-again Inv-loop μ-loop
 loop-again c =
@@ -49,10 +37,10 @@ digit-count-spec =
     (tie.spec
     Inv-loop
     μ-loop
-    loop-holds
-    power-requires
+    (λ c. search needs)
+    (λ c κs. search needs)
     returns
-    add-d
-    loop-less
+    (λ c. search needs)
+    (λ c. search needs)
     loop-again
     returns-2)

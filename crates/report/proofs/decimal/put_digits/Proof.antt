@@ -2,7 +2,8 @@
 use mathlib.Core.Path.{_≡_, ap}
 use Prim.Native.Nat.{ℕ, _-_, _≤_}
 use native.Mathlib.Nat.{one-le-pow}
-use Rattle.report.specs.Decimal.{maxDigits, digits}
+use Rattle.report.specs.Decimal.{digits}
+use Rattle.report.specs.Inside.Room.{maxDigits}
 use Rattle.report.proofs.Powers.{digits-first, length-digits}
 use Rattle.report.proofs.Storing.{Storing, storing-all, storing-next, storing-none}
 use borrow.Author.Needs.{needs}
@@ -19,20 +20,8 @@ abbrev μ-loop : tie.MeasureT-loop
 loop-holds : tie.Need-loop-holds Inv-loop μ-loop
 loop-holds c = (omega arith, storing-all _ _ _)
 
-sub-d : tie.Need-sub-d Inv-loop μ-loop
-sub-d c = search needs
-
-power-requires : tie.Need-power-requires Inv-loop μ-loop
-power-requires c κs = search needs
-
 div-out : tie.Need-div-out Inv-loop μ-loop
 div-out c = omega (arith, one-le-pow (c .before .before .loop .d - 1) 10 (omega arith), c .power .ensures)
-
-cast-out : tie.Need-cast-out Inv-loop μ-loop
-cast-out c = search needs
-
-add-out : tie.Need-add-out Inv-loop μ-loop
-add-out c = search needs
 
 slice-write-out : tie.Need-slice-write-out Inv-loop μ-loop
 slice-write-out c = let l = c .before .before .loop in omega (arith, length-digits (l .d) (c .before .before .before .before .args .n), length-digits (c .before .before .before .before .args .count) (c .before .before .before .before .args .n), l .inv .1 .behind, l .inv .1 .same)
@@ -40,16 +29,10 @@ slice-write-out c = let l = c .before .before .loop in omega (arith, length-digi
 add-p : tie.Need-add-p Inv-loop μ-loop
 add-p c = let l = c .before .before .loop in omega (arith, length-digits (l .d) (c .before .before .before .before .args .n), length-digits (c .before .before .before .before .args .count) (c .before .before .before .before .args .n), l .inv .1 .behind)
 
-loop-less : tie.Need-loop-less Inv-loop μ-loop
-loop-less c = search needs
-
 loop-again : tie.Need-loop-again Inv-loop μ-loop
 loop-again c =
     let l = c .before .before .loop in
     (omega arith, rw (c .power .ensures) (storing-next (digits-first (l .d) (c .before .before .before .before .args .n) (omega arith)) (l .inv .1)))
-
-same-length : tie.Need-same-length Inv-loop μ-loop
-same-length c = search needs
 
 returns : tie.Need-returns Inv-loop μ-loop
 unfolding digits
@@ -63,14 +46,14 @@ put-digits-spec =
     Inv-loop
     μ-loop
     loop-holds
-    sub-d
-    power-requires
+    (λ c. search needs)
+    (λ c κs. search needs)
     div-out
-    cast-out
-    add-out
+    (λ c. search needs)
+    (λ c. search needs)
     slice-write-out
     add-p
-    loop-less
+    (λ c. search needs)
     loop-again
-    same-length
+    (λ c. search needs)
     returns)

@@ -6,15 +6,6 @@ use Rattle.report.proofs.Powers.{length-digits}
 use Rattle.report.proofs.decimal.put_number.Statement.{statement}
 use Rattle.report.proofs.decimal.put_number.Tie as tie
 
-digit-count-requires : tie.Need-digit-count-requires
-digit-count-requires c κs = search needs
-
-put-digits-requires : tie.Need-put-digits-requires
-put-digits-requires c κs = search needs
-
-same-length : tie.Need-same-length
-same-length c = search needs
-
 returns : tie.Need-returns
 returns c =
     let n = c .before .before .before .before .before .before .args .n in
@@ -23,4 +14,4 @@ returns c =
     (h, omega (arith, h .behind, length-digits (digitCount n) n, d))
 
 pub put-number-spec : {M : Type 1} → statement M
-put-number-spec = tie.close (tie.spec digit-count-requires put-digits-requires same-length returns)
+put-number-spec = tie.close (tie.spec (λ c κs. search needs) (λ c κs. search needs) (λ c. search needs) returns)

@@ -9,20 +9,8 @@ use Rattle.report.proofs.Storing.{stored-then}
 use Rattle.report.proofs.decimal.put_padded.Statement.{statement}
 use Rattle.report.proofs.decimal.put_padded.Tie as tie
 
-digit-count-requires : tie.Need-digit-count-requires
-digit-count-requires c κs = search needs
-
-padding-requires : tie.Need-padding-requires
-padding-requires c κs = search needs
-
-put-spaces-requires : tie.Need-put-spaces-requires
-put-spaces-requires c κs = search needs
-
 put-digits-requires : tie.Need-put-digits-requires
 put-digits-requires c κs = let d = c .before .before .before .before .before .before .digit-count .ensures in omega (arith, d, c .before .before .before .before .padding .ensures, length-replicate {A = ℕ} (c .before .before .before .before .padding .result) 32, c .before .before .before .put-spaces .ensures .behind, c .before .before .before .before .before .before .before .before .pre)
-
-same-length : tie.Need-same-length
-same-length c = search needs
 
 returns : tie.Need-returns
 returns c =
@@ -37,9 +25,9 @@ pub put-padded-spec : {M : Type 1} → statement M
 put-padded-spec =
     tie.close
     (tie.spec
-    digit-count-requires
-    padding-requires
-    put-spaces-requires
+    (λ c κs. search needs)
+    (λ c κs. search needs)
+    (λ c κs. search needs)
     put-digits-requires
-    same-length
+    (λ c. search needs)
     returns)

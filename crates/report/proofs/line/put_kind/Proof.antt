@@ -9,35 +9,14 @@ use Rattle.report.proofs.line.put_kind.Tie as tie
 returns : tie.Need-returns
 returns c = (rw (no-word (c .before .before .args .kind) (omega arith)) (record { bytes = refl; behind = omega arith }), omega arith)
 
-slice-aggregate-words : tie.Need-slice-aggregate-words
-slice-aggregate-words c = search needs
-
-mul-from : tie.Need-mul-from
-mul-from c = search needs
-
-mul-to : tie.Need-mul-to
-mul-to c = search needs
-
-array-read-to : tie.Need-array-read-to
-array-read-to c = search needs
-
 add-to : tie.Need-add-to
 add-to c = omega (arith, word-at (c .before .before .before .args .kind) (search needs) .bytes)
-
-sub-put-text : tie.Need-sub-put-text
-sub-put-text c = search needs
-
-part-put-text-start : tie.Need-part-put-text-start
-part-put-text-start c = search needs
 
 part-put-text-end : tie.Need-part-put-text-end
 part-put-text-end c = omega (arith, word-at (c .before .before .before .before .args .kind) (search needs) .bytes)
 
 put-text-requires : tie.Need-put-text-requires
 put-text-requires c κs = omega (arith, word-at (c .before .before .before .before .before .args .kind) (search needs) .short)
-
-same-length : tie.Need-same-length
-same-length c = search needs
 
 returns-2 : tie.Need-returns-2
 returns-2 c =
@@ -50,14 +29,14 @@ put-kind-spec =
     tie.close
     (tie.spec
     returns
-    slice-aggregate-words
-    mul-from
-    mul-to
-    array-read-to
+    (λ c. search needs)
+    (λ c. search needs)
+    (λ c. search needs)
+    (λ c. search needs)
     add-to
-    sub-put-text
-    part-put-text-start
+    (λ c. search needs)
+    (λ c. search needs)
     part-put-text-end
     put-text-requires
-    same-length
+    (λ c. search needs)
     returns-2)

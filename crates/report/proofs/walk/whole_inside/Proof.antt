@@ -8,32 +8,8 @@ use Rattle.report.specs.Report.{programEquivalence}
 use Rattle.report.proofs.walk.whole_inside.Statement.{statement}
 use Rattle.report.proofs.walk.whole_inside.Tie as tie
 
-kind-at-requires : tie.Need-kind-at-requires
-kind-at-requires c κs = search needs
-
-count-at-requires : tie.Need-count-at-requires
-count-at-requires c κs = search needs
-
 returns : tie.Need-returns
 returns c = rw (eq-eqb _ _ (sym (c .before .before .kind-at .ensures) ∙ c .before .if1 .taken)) (c .count-at .ensures)
-
-add-from : tie.Need-add-from
-add-from c = search needs
-
-mul-from : tie.Need-mul-from
-mul-from c = search needs
-
-mul-to : tie.Need-mul-to
-mul-to c = search needs
-
-sub-union-total : tie.Need-sub-union-total
-sub-union-total c = search needs
-
-part-union-total-start : tie.Need-part-union-total-start
-part-union-total-start c = search needs
-
-part-union-total-end : tie.Need-part-union-total-end
-part-union-total-end c = search needs
 
 union-total-requires : tie.Need-union-total-requires
 union-total-requires c κs =
@@ -51,14 +27,14 @@ pub whole-inside-spec : {M : Type 1} → statement M
 whole-inside-spec =
     tie.close
     (tie.spec
-    kind-at-requires
-    count-at-requires
+    (λ c κs. search needs)
+    (λ c κs. search needs)
     returns
-    add-from
-    mul-from
-    mul-to
-    sub-union-total
-    part-union-total-start
-    part-union-total-end
+    (λ c. search needs)
+    (λ c. search needs)
+    (λ c. search needs)
+    (λ c. search needs)
+    (λ c. search needs)
+    (λ c. search needs)
     union-total-requires
     returns-2)

@@ -9,12 +9,6 @@ use native.Mathlib.Omega.{arith}
 use Rattle.type_arena.proofs.addend.front_of.Statement.{statement}
 use Rattle.type_arena.proofs.addend.front_of.Tie as tie
 
-span-at-requires : tie.Need-span-at-requires
-span-at-requires c κs = search needs
-
-mul-n : tie.Need-mul-n
-mul-n c = search needs
-
 slice-aggregate-result : tie.Need-slice-aggregate-result
 slice-aggregate-result c = sym (length-take-le _ _ (omega arith))
 
@@ -22,4 +16,4 @@ returns : tie.Need-returns
 returns c = front-is (c .before .before .before .args .x .now) _ (ap (λ n. typeSize * n) (c .before .span-at .ensures .0))
 
 pub front-of-spec : {M : Type 1} → statement M
-front-of-spec = tie.close (tie.spec span-at-requires mul-n slice-aggregate-result returns)
+front-of-spec = tie.close (tie.spec (λ c κs. search needs) (λ c. search needs) slice-aggregate-result returns)

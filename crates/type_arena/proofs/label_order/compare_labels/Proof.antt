@@ -5,22 +5,16 @@ use borrow.Author.Needs.{needs}
 use borrow.Author.Tests.{not-true, not-false}
 use Rattle.counting_theory.specs.Label.{Label}
 use Rattle.counting_theory.proofs.LabelOrder.{kind-less, kind-more, key-less, key-more, under-kind, no-record, by-lists}
-use Rattle.type_arena.specs.Inside.Arena.{under, labelAt}
+use Rattle.type_arena.specs.Inside.Arena.{byFlag, labelAt}
 use Rattle.type_arena.proofs.label_order.compare_labels.Statement.{statement}
 use Rattle.type_arena.proofs.label_order.compare_labels.Tie as tie
 
 -- the two labels
 abbrev first : tie.Start → Label
-first s = labelAt (under (s .args .label)) (s .args .b .now) (s .args .x)
+first s = labelAt (byFlag (s .args .label)) (s .args .b .now) (s .args .x)
 
 abbrev second : tie.Start → Label
-second s = labelAt (under (s .args .label)) (s .args .c .now) (s .args .y)
-
-kind-at-requires : tie.Need-kind-at-requires
-kind-at-requires c κs = search needs
-
-kind-at-requires-2 : tie.Need-kind-at-requires-2
-kind-at-requires-2 c κs = search needs
+second s = labelAt (byFlag (s .args .label)) (s .args .c .now) (s .args .y)
 
 returns : tie.Need-returns
 unfolding labelAt
@@ -29,12 +23,6 @@ returns c = let s = c .before .before .before .before .before .before in kind-le
 returns-2 : tie.Need-returns-2
 unfolding labelAt
 returns-2 c = let s = c .before .before .before .before .before .before in kind-more (first s) (second s) (omega arith)
-
-key-at-requires : tie.Need-key-at-requires
-key-at-requires c κs = search needs
-
-key-at-requires-2 : tie.Need-key-at-requires-2
-key-at-requires-2 c κs = search needs
 
 returns-3 : tie.Need-returns-3
 unfolding labelAt
@@ -52,7 +40,7 @@ returns-5 : tie.Need-returns-5
 unfolding labelAt
 returns-5 c =
     let s = c .before .before .before .before .before .before .before .before .before in
-    under-kind _ (omega arith) (omega arith) _ _ (ap under (not-true (s .args .label) (c .if5 .taken)))
+    under-kind _ (omega arith) (omega arith) _ _ (ap byFlag (not-true (s .args .label) (c .if5 .taken)))
 
 returns-6 : tie.Need-returns-6
 unfolding labelAt
@@ -67,18 +55,18 @@ returns-7 : tie.Need-returns-7
 unfolding labelAt
 returns-7 c =
     let s = c .before .before .before .before .before .before .before .before .before .before .before in
-    c .compare-keys .ensures ∙ by-lists _ (omega arith) (omega arith) _ _ (ap under (not-false (s .args .label) (c .before .before .if5 .left))) (omega arith)
+    c .compare-keys .ensures ∙ by-lists _ (omega arith) (omega arith) _ _ (ap byFlag (not-false (s .args .label) (c .before .before .if5 .left))) (omega arith)
 
 pub compare-labels-spec : {M : Type 1} → statement M
 compare-labels-spec =
     tie.close
     (tie.spec
-    kind-at-requires
-    kind-at-requires-2
+    (λ c κs. search needs)
+    (λ c κs. search needs)
     returns
     returns-2
-    key-at-requires
-    key-at-requires-2
+    (λ c κs. search needs)
+    (λ c κs. search needs)
     returns-3
     returns-4
     returns-5

@@ -5,12 +5,9 @@ use borrow.Author.Needs.{needs}
 use Rattle.type_arena.proofs.payload.join.Statement.{statement}
 use Rattle.type_arena.proofs.payload.join.Tie as tie
 
-wrapping-add-usize-requires : tie.Need-wrapping-add-usize-requires
-wrapping-add-usize-requires c κs = search needs
-
 returns : tie.Need-returns
 unfolding payloadOf
 returns c = wrapped-join (payloadOf (c .before .args .a)) (payloadOf (c .before .args .b)) (record { count = c .wrapping-add-usize .result }) (c .wrapping-add-usize .ensures)
 
 pub join-spec : {M : Type 1} → statement M
-join-spec = tie.close (tie.spec wrapping-add-usize-requires returns)
+join-spec = tie.close (tie.spec (λ c κs. search needs) returns)

@@ -7,18 +7,9 @@ use borrow.Author.Needs.{needs}
 use Rattle.type_arena.proofs.payload.store_payload.Statement.{statement}
 use Rattle.type_arena.proofs.payload.store_payload.Tie as tie
 
-add-store64 : tie.Need-add-store64
-add-store64 c = search needs
-
-store64-requires : tie.Need-store64-requires
-store64-requires c κs = search needs
-
-same-length : tie.Need-same-length
-same-length c = search needs
-
 returns : tie.Need-returns
 unfolding payloadOf payloadBytes numbers recordBytes
 returns c = rw append-nil (c .before .before .store64 .ensures)
 
 pub store-payload-spec : {M : Type 1} → statement M
-store-payload-spec = tie.close (tie.spec add-store64 store64-requires same-length returns)
+store-payload-spec = tie.close (tie.spec (λ c. search needs) (λ c κs. search needs) (λ c. search needs) returns)

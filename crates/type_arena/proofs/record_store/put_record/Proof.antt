@@ -12,33 +12,6 @@ use borrow.Author.Needs.{needs}
 use Rattle.type_arena.proofs.record_store.put_record.Statement.{statement}
 use Rattle.type_arena.proofs.record_store.put_record.Tie as tie
 
-add-if1 : tie.Need-add-if1
-add-if1 c = search needs
-
-store-record-requires : tie.Need-store-record-requires
-store-record-requires c κs = search needs
-
-same-length : tie.Need-same-length
-same-length c = search needs
-
-returns : tie.Need-returns
-returns c = search needs
-
-slice-aggregate-store-record : tie.Need-slice-aggregate-store-record
-slice-aggregate-store-record c = search needs
-
-store-record-requires-2 : tie.Need-store-record-requires-2
-store-record-requires-2 c κs = search needs
-
-slice-aggregate-put-bytes : tie.Need-slice-aggregate-put-bytes
-slice-aggregate-put-bytes c = search needs
-
-put-bytes-requires : tie.Need-put-bytes-requires
-put-bytes-requires c κs = search needs
-
-same-length-2 : tie.Need-same-length-2
-same-length-2 c = search needs
-
 returns-2 : tie.Need-returns-2
 returns-2 c =
     let a = c .before .before .before .before .before .before .before .before .before .before .args in
@@ -51,13 +24,13 @@ pub put-record-spec : {M : Type 1} → statement M
 put-record-spec =
     tie.close
     (tie.spec
-    add-if1
-    store-record-requires
-    same-length
-    returns
-    slice-aggregate-store-record
-    store-record-requires-2
-    slice-aggregate-put-bytes
-    put-bytes-requires
-    same-length-2
+    (λ c. search needs)
+    (λ c κs. search needs)
+    (λ c. search needs)
+    (λ c. search needs)
+    (λ c. search needs)
+    (λ c κs. search needs)
+    (λ c. search needs)
+    (λ c κs. search needs)
+    (λ c. search needs)
     returns-2)

@@ -6,27 +6,6 @@ use borrow.Author.Needs.{needs}
 use Rattle.type_arena.proofs.record_store.store_record.Statement.{statement}
 use Rattle.type_arena.proofs.record_store.store_record.Tie as tie
 
-store16-requires : tie.Need-store16-requires
-store16-requires c κs = search needs
-
-add-store16 : tie.Need-add-store16
-add-store16 c = search needs
-
-store16-requires-2 : tie.Need-store16-requires-2
-store16-requires-2 c κs = search needs
-
-add-store32 : tie.Need-add-store32
-add-store32 c = search needs
-
-store32-requires : tie.Need-store32-requires
-store32-requires c κs = search needs
-
-store-payload-requires : tie.Need-store-payload-requires
-store-payload-requires c κs = search needs
-
-same-length : tie.Need-same-length
-same-length c = search needs
-
 returns : tie.Need-returns
 returns c =
     let a = c .before .before .before .before .before .before .before .before .before .before .before .before .before .before .before .before .before .args in
@@ -36,11 +15,11 @@ pub store-record-spec : {M : Type 1} → statement M
 store-record-spec =
     tie.close
     (tie.spec
-    store16-requires
-    add-store16
-    store16-requires-2
-    add-store32
-    store32-requires
-    store-payload-requires
-    same-length
+    (λ c κs. search needs)
+    (λ c. search needs)
+    (λ c κs. search needs)
+    (λ c. search needs)
+    (λ c κs. search needs)
+    (λ c κs. search needs)
+    (λ c. search needs)
     returns)

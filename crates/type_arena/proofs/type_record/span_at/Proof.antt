@@ -5,18 +5,9 @@ use Rattle.counting_theory.specs.Encoding.{typeSpan}
 use Rattle.type_arena.proofs.type_record.span_at.Statement.{statement}
 use Rattle.type_arena.proofs.type_record.span_at.Tie as tie
 
-mul-number32 : tie.Need-mul-number32
-mul-number32 c = search needs
-
-add-number32 : tie.Need-add-number32
-add-number32 c = search needs
-
-number32-requires : tie.Need-number32-requires
-number32-requires c κs = search needs
-
 returns : tie.Need-returns
 unfolding typeSpan fieldAt
 returns c = search needs
 
 pub span-at-spec : {M : Type 1} → statement M
-span-at-spec = tie.close (tie.spec mul-number32 add-number32 number32-requires returns)
+span-at-spec = tie.close (tie.spec (λ c. search needs) (λ c. search needs) (λ c κs. search needs) returns)

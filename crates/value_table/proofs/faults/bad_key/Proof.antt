@@ -4,12 +4,6 @@ use Rattle.value_table.specs.Judged.{badKey}
 use Rattle.value_table.proofs.faults.bad_key.Statement.{statement}
 use Rattle.value_table.proofs.faults.bad_key.Tie as tie
 
-key-at-requires : tie.Need-key-at-requires
-key-at-requires c κs = search needs
-
-key-at-requires-2 : tie.Need-key-at-requires-2
-key-at-requires-2 c κs = search needs
-
 returns : tie.Need-returns
 unfolding badKey
 returns c = simp (c .before .if1 .taken, ← (c .key-at .ensures))
@@ -19,4 +13,4 @@ unfolding badKey
 returns-2 c = simp (c .before .if1 .left, ← (c .key-at2 .ensures))
 
 pub bad-key-spec : {M : Type 1} → statement M
-bad-key-spec = tie.close (tie.spec key-at-requires key-at-requires-2 returns returns-2)
+bad-key-spec = tie.close (tie.spec (λ c κs. search needs) (λ c κs. search needs) returns returns-2)

@@ -5,22 +5,13 @@ use Rattle.value_table.specs.Judged.{badSpan}
 use Rattle.value_table.proofs.faults.bad_span.Statement.{statement}
 use Rattle.value_table.proofs.faults.bad_span.Tie as tie
 
-span-at-requires : tie.Need-span-at-requires
-span-at-requires c κs = search needs
-
 returns : tie.Need-returns
 unfolding badSpan
 returns c = simp (← (c .before .span-at .ensures .0), eq-eqb _ _ (c .if1 .taken))
 
-add-if2 : tie.Need-add-if2
-add-if2 c = search needs
-
 returns-2 : tie.Need-returns-2
 unfolding badSpan
 returns-2 c = simp (← (c .before .before .span-at .ensures .0), ne-eqb _ _ (c .before .if1 .left), lt-ltb _ _ (c .if2 .taken))
-
-kind-at-requires : tie.Need-kind-at-requires
-kind-at-requires c κs = search needs
 
 returns-3 : tie.Need-returns-3
 unfolding badSpan
@@ -33,4 +24,4 @@ returns-4 c = simp (← (c .before .before .before .before .span-at .ensures .0)
 pub bad-span-spec : {M : Type 1} → statement M
 bad-span-spec =
     tie.close
-    (tie.spec span-at-requires returns add-if2 returns-2 kind-at-requires returns-3 returns-4)
+    (tie.spec (λ c κs. search needs) returns (λ c. search needs) returns-2 (λ c κs. search needs) returns-3 returns-4)

@@ -7,8 +7,8 @@ use Prim.Native.Nat.{ℕ}
 use borrow.Author.Needs.{needs}
 use borrow.Author.Tests.{lt-ltb, le-ltb, not-false}
 use Rattle.value_table.specs.Judged.{fault, badKind, badSpan, badKey, repeated, tooDeep}
-use Rattle.value_table.specs.Inside.Siblings.{Before}
-use Rattle.value_table.proofs.Siblings.{first-field}
+use Rattle.value_table.specs.Inside.EarlierFields.{FieldsBefore}
+use Rattle.value_table.proofs.EarlierFields.{first-field}
 use Rattle.value_table.proofs.faults.fault_at.Statement.{statement}
 use Rattle.value_table.proofs.faults.fault_at.Tie as tie
 
@@ -20,40 +20,25 @@ head-fine c =
     (λ w. let s = c .before .plain-scalar .ensures (not-false _ (w .left)) in (s .0, s .1 _ (c .before .before .before .pre .2)))
     (c .if1 .came)
 
-key-fine : (c : tie.Else4) → let a = c .before .before .before .before .before .args in (f : Bool) (ks : List ℕ) → Before (a .table .now) (a .i) (a .first) f ks → badKey (a .table .now) (a .i) f ≡ false
+key-fine : (c : tie.Else4) → let a = c .before .before .before .before .before .args in (f : Bool) (ks : List ℕ) → FieldsBefore (a .table .now) (a .i) (a .first) f ks → badKey (a .table .now) (a .i) f ≡ false
 key-fine c f ks h = sym (c .before .bad-key .ensures ∙ ap (badKey _ _) (first-field h)) ∙ c .if4 .left
 
-fresh : (c : tie.Else5) → let a = c .before .before .before .before .before .before .before .args in (f : Bool) (ks : List ℕ) → Before (a .table .now) (a .i) (a .first) f ks → repeated (a .table .now) (a .i) f ks ≡ false
+fresh : (c : tie.Else5) → let a = c .before .before .before .before .before .before .before .args in (f : Bool) (ks : List ℕ) → FieldsBefore (a .table .now) (a .i) (a .first) f ks → repeated (a .table .now) (a .i) f ks ≡ false
 fresh c f ks h = sym (c .before .repeats .ensures f ks h) ∙ c .if5 .left
-
-plain-scalar-requires : tie.Need-plain-scalar-requires
-plain-scalar-requires c κs = search needs
-
-bad-kind-requires : tie.Need-bad-kind-requires
-bad-kind-requires c κs = search needs
 
 returns : tie.Need-returns
 unfolding fault
 returns c = λ f ks h. simp (sym (c .before .bad-kind .ensures) ∙ c .if2 .taken)
 
-bad-span-requires : tie.Need-bad-span-requires
-bad-span-requires c κs = search needs
-
 returns-2 : tie.Need-returns-2
 unfolding fault
 returns-2 c = λ f ks h. simp (sym (c .before .bad-span .ensures) ∙ c .if3 .taken, sym (c .before .before .before .bad-kind .ensures) ∙ c .before .before .if2 .left)
-
-bad-key-requires : tie.Need-bad-key-requires
-bad-key-requires c κs = search needs
 
 returns-3 : tie.Need-returns-3
 unfolding fault
 returns-3 c =
     λ f ks h. let p = head-fine (c .before .before) in
     simp (sym (c .before .bad-key .ensures ∙ ap (badKey _ _) (first-field h)) ∙ c .if4 .taken, p .1, p .0)
-
-repeats-requires : tie.Need-repeats-requires
-repeats-requires c κs = search needs
 
 returns-4 : tie.Need-returns-4
 unfolding fault
@@ -80,14 +65,14 @@ pub fault-at-spec : {M : Type 1} → statement M
 fault-at-spec =
     tie.close
     (tie.spec
-    plain-scalar-requires
-    bad-kind-requires
+    (λ c κs. search needs)
+    (λ c κs. search needs)
     returns
-    bad-span-requires
+    (λ c κs. search needs)
     returns-2
-    bad-key-requires
+    (λ c κs. search needs)
     returns-3
-    repeats-requires
+    (λ c κs. search needs)
     returns-4
     returns-5
     returns-6)

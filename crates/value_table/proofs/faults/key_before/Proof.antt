@@ -6,7 +6,7 @@ use native.Mathlib.Omega.{arith}
 use borrow.Author.Needs.{needs}
 use Rattle.value_table.specs.Value.{keyAt, spanAt}
 use Rattle.value_table.specs.Inside.Chain.{Chain}
-use Rattle.value_table.proofs.Siblings.{Left, left-step, left-found, left-next, left-none}
+use Rattle.value_table.proofs.EarlierFields.{Left, left-step, left-found, left-next, left-none}
 use Rattle.value_table.proofs.faults.key_before.Statement.{statement}
 use Rattle.value_table.proofs.faults.key_before.Tie as tie
 
@@ -16,20 +16,11 @@ Inv-loop table i first key p₀ p = (all : List ℕ) → Chain (spanAt table) (k
 abbrev μ-loop : tie.MeasureT-loop
 μ-loop table i first key p₀ p = i - p
 
-key-at-requires : tie.Need-key-at-requires Inv-loop μ-loop
-key-at-requires c κs = search needs
-
 loop-holds : tie.Need-loop-holds Inv-loop μ-loop
 loop-holds c = λ all h. record { keys = all; chain = h; same = refl }
 
-key-at-requires-2 : tie.Need-key-at-requires-2 Inv-loop μ-loop
-key-at-requires-2 c κs = search needs
-
 returns : tie.Need-returns Inv-loop μ-loop
 returns c = λ all h. rw (← (c .before .before .before .before .key-at .ensures)) (left-found (c .before .before .before .loop .inv all h) (c .before .before .loop-test .taken) (sym (c .before .key-at2 .ensures) ∙ c .if1 .taken))
-
-span-at-requires : tie.Need-span-at-requires Inv-loop μ-loop
-span-at-requires c κs = search needs
 
 add-p : tie.Need-add-p Inv-loop μ-loop
 add-p c =
@@ -55,11 +46,11 @@ key-before-spec =
     (tie.spec
     Inv-loop
     μ-loop
-    key-at-requires
+    (λ c κs. search needs)
     loop-holds
-    key-at-requires-2
+    (λ c κs. search needs)
     returns
-    span-at-requires
+    (λ c κs. search needs)
     add-p
     loop-less
     loop-again

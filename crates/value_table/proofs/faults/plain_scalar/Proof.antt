@@ -9,20 +9,11 @@ use Rattle.value_table.proofs.Fault.{scalar-fine}
 use Rattle.value_table.proofs.faults.plain_scalar.Statement.{statement}
 use Rattle.value_table.proofs.faults.plain_scalar.Tie as tie
 
-span-at-requires : tie.Need-span-at-requires
-span-at-requires c κs = search needs
-
 returns : tie.Need-returns
 returns c = λ e. (cc, λ end h. cc)
 
-head-at-requires : tie.Need-head-at-requires
-head-at-requires c κs = search needs
-
 returns-2 : tie.Need-returns-2
 returns-2 c = λ e. (cc, λ end h. cc)
-
-cast-result : tie.Need-cast-result
-cast-result c = search needs
 
 returns-3 : tie.Need-returns-3
 returns-3 c =
@@ -32,4 +23,4 @@ returns-3 c =
 
 pub plain-scalar-spec : {M : Type 1} → statement M
 plain-scalar-spec =
-    tie.close (tie.spec span-at-requires returns head-at-requires returns-2 cast-result returns-3)
+    tie.close (tie.spec (λ c κs. search needs) returns (λ c κs. search needs) returns-2 (λ c. search needs) returns-3)

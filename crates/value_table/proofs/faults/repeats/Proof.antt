@@ -1,21 +1,12 @@
 -- `repeats` meets its contract.
 use borrow.Author.Needs.{needs}
-use Rattle.value_table.proofs.Siblings.{unrepeated, siblings, repeated-member}
+use Rattle.value_table.proofs.EarlierFields.{unrepeated, siblings, repeated-member}
 use Rattle.value_table.proofs.Latest.{unrepeated-latest}
 use Rattle.value_table.proofs.faults.repeats.Statement.{statement}
 use Rattle.value_table.proofs.faults.repeats.Tie as tie
 
 returns : tie.Need-returns
 returns c = λ f ks h. unrepeated (c .if1 .taken) h
-
-bucket-of-requires : tie.Need-bucket-of-requires
-bucket-of-requires c κs = search needs
-
-mul-if2 : tie.Need-mul-if2
-mul-if2 c = search needs
-
-element-copy-out-if2 : tie.Need-element-copy-out-if2
-element-copy-out-if2 c = search needs
 
 returns-2 : tie.Need-returns-2
 returns-2 c = λ f ks h. unrepeated-latest (c .before .before .before .before .before .pre .2) (rw (c .before .before .bucket-of .ensures .0) at (c .if2 .taken)) h
@@ -29,4 +20,4 @@ returns-3 c = λ f ks h. repeated-member (c .before .before .before .before .if1
 pub repeats-spec : {M : Type 1} → statement M
 repeats-spec =
     tie.close
-    (tie.spec returns bucket-of-requires mul-if2 element-copy-out-if2 returns-2 key-before-requires returns-3)
+    (tie.spec returns (λ c κs. search needs) (λ c. search needs) (λ c. search needs) returns-2 key-before-requires returns-3)

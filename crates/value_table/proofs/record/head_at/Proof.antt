@@ -9,12 +9,6 @@ use Rattle.byte_records.proofs.Number.{numberAt-add}
 use Rattle.value_table.proofs.record.head_at.Statement.{statement}
 use Rattle.value_table.proofs.record.head_at.Tie as tie
 
-mul-number16 : tie.Need-mul-number16
-mul-number16 c = search needs
-
-number16-requires : tie.Need-number16-requires
-number16-requires c κs = search needs
-
 returns : tie.Need-returns
 unfolding kindAt zeroAt fieldAt
 returns c =
@@ -23,4 +17,4 @@ returns c =
     rw add-zero (omega (arith, c .number16 .ensures .0, numberAt-add 1 1 t p (omega arith)))
 
 pub head-at-spec : {M : Type 1} → statement M
-head-at-spec = tie.close (tie.spec mul-number16 number16-requires returns)
+head-at-spec = tie.close (tie.spec (λ c. search needs) (λ c κs. search needs) returns)

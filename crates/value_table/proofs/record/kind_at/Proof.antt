@@ -7,15 +7,9 @@ use Rattle.byte_records.proofs.Number.{numberAt-one}
 use Rattle.value_table.proofs.record.kind_at.Statement.{statement}
 use Rattle.value_table.proofs.record.kind_at.Tie as tie
 
-mul-result : tie.Need-mul-result
-mul-result c = search needs
-
-shared-slice-read-result : tie.Need-shared-slice-read-result
-shared-slice-read-result c = search needs
-
 returns : tie.Need-returns
 unfolding kindAt fieldAt
 returns c = rw (numberAt-one, add-zero) (search needs)
 
 pub kind-at-spec : {M : Type 1} → statement M
-kind-at-spec = tie.close (tie.spec mul-result shared-slice-read-result returns)
+kind-at-spec = tie.close (tie.spec (λ c. search needs) (λ c. search needs) returns)

@@ -9,18 +9,6 @@ use Rattle.byte_records.proofs.Format.{part-same}
 use Rattle.value_table.proofs.record.same_record.Statement.{statement}
 use Rattle.value_table.proofs.record.same_record.Tie as tie
 
-mul-number64 : tie.Need-mul-number64
-mul-number64 c = search needs
-
-number64-requires : tie.Need-number64-requires
-number64-requires c κs = search needs
-
-mul-number64-2 : tie.Need-mul-number64-2
-mul-number64-2 c = search needs
-
-number64-requires-2 : tie.Need-number64-requires-2
-number64-requires-2 c κs = search needs
-
 returns : tie.Need-returns
 returns c e =
     let s = c .before .before .before in
@@ -29,4 +17,4 @@ returns c e =
 
 pub same-record-spec : {M : Type 1} → statement M
 same-record-spec =
-    tie.close (tie.spec mul-number64 number64-requires mul-number64-2 number64-requires-2 returns)
+    tie.close (tie.spec (λ c. search needs) (λ c κs. search needs) (λ c. search needs) (λ c κs. search needs) returns)

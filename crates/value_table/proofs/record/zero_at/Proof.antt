@@ -6,18 +6,9 @@ use Rattle.byte_records.proofs.Number.{numberAt-one}
 use Rattle.value_table.proofs.record.zero_at.Statement.{statement}
 use Rattle.value_table.proofs.record.zero_at.Tie as tie
 
-mul-result : tie.Need-mul-result
-mul-result c = search needs
-
-add-result : tie.Need-add-result
-add-result c = search needs
-
-shared-slice-read-result : tie.Need-shared-slice-read-result
-shared-slice-read-result c = search needs
-
 returns : tie.Need-returns
 unfolding zeroAt fieldAt
 returns c = rw numberAt-one (search needs)
 
 pub zero-at-spec : {M : Type 1} → statement M
-zero-at-spec = tie.close (tie.spec mul-result add-result shared-slice-read-result returns)
+zero-at-spec = tie.close (tie.spec (λ c. search needs) (λ c. search needs) (λ c. search needs) returns)

@@ -5,22 +5,13 @@ use Prim.Native.Nat.{ℕ, zero, suc, _-_}
 use native.Mathlib.Omega.{arith}
 use lib.ListN.{getD}
 use borrow.Author.Needs.{needs}
-use Rattle.value_table.specs.Inside.Siblings.{innermostOf}
+use Rattle.value_table.specs.Inside.EarlierFields.{innermostOf}
 use Rattle.value_table.proofs.walk.innermost.Statement.{statement}
 use Rattle.value_table.proofs.walk.innermost.Tie as tie
 
 inner : (levels : List ℕ) (depth outside : ℕ) → (depth ≡ 0 → ⊥) → getD levels (depth - 1) 0 ≡ innermostOf levels depth outside
 inner levels zero outside n = absurd (n refl)
 inner levels (suc depth) outside n = ap (λ d. getD levels d 0) (omega arith)
-
-sub-result : tie.Need-sub-result
-sub-result c = search needs
-
-mul-result : tie.Need-mul-result
-mul-result c = search needs
-
-element-copy-out-result : tie.Need-element-copy-out-result
-element-copy-out-result c = search needs
 
 returns : tie.Need-returns
 returns c = ap (λ d. innermostOf (c .before .args .levels .now) d (c .before .args .outside)) (sym (c .if1 .taken))
@@ -30,4 +21,4 @@ returns-2 c = inner _ _ _ (c .before .if1 .left)
 
 pub innermost-spec : {M : Type 1} → statement M
 innermost-spec =
-    tie.close (tie.spec sub-result mul-result element-copy-out-result returns returns-2)
+    tie.close (tie.spec (λ c. search needs) (λ c. search needs) (λ c. search needs) returns returns-2)

@@ -1,7 +1,7 @@
 -- `messages_at` meets its contract.
 use mathlib.Core.Path.{_≡_, refl, sym, ap}
 use Prim.Native.Nat.{ℕ, zero, suc}
-use Rattle.value_table.specs.Inside.Siblings.{messagesAt}
+use Rattle.value_table.specs.Inside.EarlierFields.{messagesAt}
 use Rattle.value_table.proofs.walk.messages_at.Statement.{statement}
 use Rattle.value_table.proofs.walk.messages_at.Tie as tie
 

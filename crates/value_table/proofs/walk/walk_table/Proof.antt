@@ -4,11 +4,11 @@ use Prim.Native.Nat.{_+_, _*_, _-_, _≤_, _<_}
 use native.Mathlib.Omega.{arith}
 use lib.ListN.{set}
 use borrow.Author.Needs.{needs}
-use Rattle.value_table.specs.Inside.Siblings.{numberOfFault, FaultIs, innermostOf, Latest}
+use Rattle.value_table.specs.Inside.EarlierFields.{numberOfFault, FaultIs, innermostOf, Latest}
 use Rattle.value_table.specs.Value.{maxDepth, records}
 use Rattle.byte_records.specs.Number.{Bytes}
 use Rattle.value_table.proofs.Latest.{latest-start, latest-next}
-use Rattle.value_table.proofs.Turns.{Walking, walking-start, walking-done, walking-close, walking-parent, walking-inside, walking-refused, walking-room, walking-skip, walking-enter, refusal-positive, messages-few}
+use Rattle.value_table.proofs.WalkLoop.{Walking, walking-start, walking-done, walking-close, walking-parent, walking-inside, walking-refused, walking-room, walking-skip, walking-enter, refusal-positive, messages-few}
 use Rattle.value_table.proofs.walk.walk_table.Statement.{statement}
 use Rattle.value_table.proofs.walk.walk_table.Tie as tie
 
@@ -49,9 +49,6 @@ latest-after c = rw (c .bucket-of .ensures .0) (latest-next (turn (c .before .be
 loop-holds : tie.Need-loop-holds Inv-loop μ-loop
 loop-holds c = (walking-start _ _ _ refl refl, latest-start _ _ refl)
 
-innermost-requires : tie.Need-innermost-requires Inv-loop μ-loop
-innermost-requires c κs = search needs
-
 -- the innermost open value ends at record i
 closing : (c : tie.Then1 Inv-loop μ-loop) → let v = c .before .before .before .before .before .loop in (1 ≤ v .walk .depth) × Walking (c .before .before .before .before .before .before .before .args .table .now) (v .walk .ends) (v .walk .fields) (v .walk .depth - 1) (v .messages) (v .i)
 closing c = walking-close (c .before .before .before .before .before .loop .inv .0) (c .before .before .before .before .loop-test .taken) (sym (c .before .innermost .ensures) ∙ c .if1 .taken)
@@ -65,12 +62,6 @@ loop-less c = omega (arith, closing c .0)
 loop-again : tie.Need-loop-again Inv-loop μ-loop
 loop-again c = (closing c .1, c .before .before .before .before .before .loop .inv .1)
 
-innermost-requires-2 : tie.Need-innermost-requires-2 Inv-loop μ-loop
-innermost-requires-2 c κs = search needs
-
-add-fault-at : tie.Need-add-fault-at Inv-loop μ-loop
-add-fault-at c = search needs
-
 fault-at-requires : tie.Need-fault-at-requires Inv-loop μ-loop
 fault-at-requires c κs =
     let v = turn c .before .loop in (
@@ -81,42 +72,15 @@ fault-at-requires c κs =
       v .inv .1,
     )
 
-enum-known-why : tie.Need-enum-known-why Inv-loop μ-loop
-enum-known-why c = search needs
-
 returns : tie.Need-returns Inv-loop μ-loop
 returns c =
     let p = c .before .before .before .before in
     walking-refused (turn p .before .loop .inv .0) (turn p .loop-test .taken) (inner p) (refusal-positive (c .before .why .given .0 .0)) (λ f ks h. sym (ap numberOfFault (c .before .why .given .1)) ∙ found (c .before .before .before) f ks h)
 
-enum-told : tie.Need-enum-told Inv-loop μ-loop
-enum-told c = search needs
-
-bucket-of-requires : tie.Need-bucket-of-requires Inv-loop μ-loop
-bucket-of-requires c κs = search needs
-
-mul-latest : tie.Need-mul-latest Inv-loop μ-loop
-mul-latest c = search needs
-
-array-write-latest : tie.Need-array-write-latest Inv-loop μ-loop
-array-write-latest c = search needs
-
-messages-at-requires : tie.Need-messages-at-requires Inv-loop μ-loop
-messages-at-requires c κs = search needs
-
 add-messages : tie.Need-add-messages Inv-loop μ-loop
 add-messages c =
     let v = turn (c .before .before .before .before .before) .before .loop in
     omega (arith, c .messages-at .ensures, messages-few (v .walk .depth), v .inv .0 .few)
-
-span-at-requires : tie.Need-span-at-requires Inv-loop μ-loop
-span-at-requires c κs = search needs
-
-add-i : tie.Need-add-i Inv-loop μ-loop
-add-i c = search needs
-
-loop-less-2 : tie.Need-loop-less-2 Inv-loop μ-loop
-loop-less-2 c = search needs
 
 loop-again-2 : tie.Need-loop-again-2 Inv-loop μ-loop
 loop-again-2 c =
@@ -126,32 +90,11 @@ loop-again-2 c =
       latest-after (c .before .before .before),
     )
 
-add-walk : tie.Need-add-walk Inv-loop μ-loop
-add-walk c = search needs
-
-mul-walk : tie.Need-mul-walk Inv-loop μ-loop
-mul-walk c = search needs
-
 element-write-walk : tie.Need-element-write-walk Inv-loop μ-loop
 element-write-walk c = room (c .before .before .before .before)
 
-first-of-requires : tie.Need-first-of-requires Inv-loop μ-loop
-first-of-requires c κs = search needs
-
-mul-walk-2 : tie.Need-mul-walk-2 Inv-loop μ-loop
-mul-walk-2 c = search needs
-
 element-write-walk-2 : tie.Need-element-write-walk-2 Inv-loop μ-loop
 element-write-walk-2 c = room (c .before .before .before .before .before)
-
-add-walk-2 : tie.Need-add-walk-2 Inv-loop μ-loop
-add-walk-2 c = search needs
-
-add-i-2 : tie.Need-add-i-2 Inv-loop μ-loop
-add-i-2 c = search needs
-
-loop-less-3 : tie.Need-loop-less-3 Inv-loop μ-loop
-loop-less-3 c = search needs
 
 loop-again-3 : tie.Need-loop-again-3 Inv-loop μ-loop
 loop-again-3 c =
@@ -171,33 +114,33 @@ walk-table-spec =
     Inv-loop
     μ-loop
     loop-holds
-    innermost-requires
+    (λ c κs. search needs)
     sub-walk
     loop-less
     loop-again
-    innermost-requires-2
-    add-fault-at
+    (λ c κs. search needs)
+    (λ c. search needs)
     fault-at-requires
-    enum-known-why
+    (λ c. search needs)
     returns
-    enum-told
-    bucket-of-requires
-    mul-latest
-    array-write-latest
-    messages-at-requires
+    (λ c. search needs)
+    (λ c κs. search needs)
+    (λ c. search needs)
+    (λ c. search needs)
+    (λ c κs. search needs)
     add-messages
-    span-at-requires
-    add-i
-    loop-less-2
+    (λ c κs. search needs)
+    (λ c. search needs)
+    (λ c. search needs)
     loop-again-2
-    add-walk
-    mul-walk
+    (λ c. search needs)
+    (λ c. search needs)
     element-write-walk
-    first-of-requires
-    mul-walk-2
+    (λ c κs. search needs)
+    (λ c. search needs)
     element-write-walk-2
-    add-walk-2
-    add-i-2
-    loop-less-3
+    (λ c. search needs)
+    (λ c. search needs)
+    (λ c. search needs)
     loop-again-3
     returns-2)

@@ -19,13 +19,13 @@ use Rattle.counting_theory.proofs.Tagged.Parts.{Shape, tagged-parts}
 use Rattle.counting_theory.proofs.Encoding.Header.{length-encode}
 use Rattle.counting_theory.proofs.WellFormed.Nodes.{counted-parts, fieldCounts-parts}
 use Rattle.counting_theory.proofs.WellFormed.Fitting.{weight-addend}
-use Rattle.counting_theory.proofs.WellFormed.Holds.{Holds}
-use Rattle.counting_theory.proofs.WellFormed.Whole.{type-holds}
+use Rattle.counting_theory.proofs.WellFormed.RecordsHold.{RecordsHold}
+use Rattle.counting_theory.proofs.WellFormed.AcceptsExactly.{type-holds}
 use Rattle.type_arena.specs.Inside.Addend.{Coded, Union}
 use Rattle.type_arena.proofs.FirstAddend.{type-coded}
 use Rattle.report.specs.Decimal.{digitCount}
 use Rattle.report.specs.Report.{linesOf, report}
-use Rattle.report.specs.Inside.Walk.{typeIn, largestFrom, Shares, Run}
+use Rattle.report.specs.Inside.Walk.{typeIn, largestFrom, Shares, PrintedRun}
 use Rattle.report.proofs.Runs.{typed, fields-inside}
 use Rattle.report.proofs.Largest.{largest-held, largest-below}
 
@@ -67,7 +67,7 @@ module _ {e : Equivalence} {b : List ℕ} (t : IsType e b (typeOf e b)) where
   abbrev f : CountingType
   f = typeOf e b
 
-  held : Holds e b 0 (typeRecords b) false 1 f
+  held : RecordsHold e b 0 (typeRecords b) false 1 f
   held = type-holds e b f t
 
   whole-type : f ≡ typeIn e b 0 (typeRecords b)
@@ -84,7 +84,7 @@ module _ {e : Equivalence} {b : List ℕ} (t : IsType e b (typeOf e b)) where
   pub whole-short : length b ≤ maxLength
   whole-short = rw (t .bytes) (omega (arith, length-encode f, t .room))
 
-  pub whole-run : Run e b 0 (typeRecords b) 1 (total Counting f)
+  pub whole-run : PrintedRun e b 0 (typeRecords b) 1 (total Counting f)
   whole-run =
       record {
         field = false;

@@ -24,8 +24,8 @@ use Rattle.counting_theory.proofs.Trie.Profile.{lookup-profile}
 use Rattle.counting_theory.proofs.Trie.Growth.{add-grows}
 use Rattle.inference.specs.declared.inferring.Inferred.{Inferred}
 use Rattle.inference.specs.declared.inferring.Inferred.the-variants.{Records, Full}
-use Rattle.inference.specs.Inside.Inferring.{Siblings, Holds, Grown, Added}
-use Rattle.gathering.specs.Inside.Gathering.{slotStart, slotCount, messageAt, gathered, slotRaw, waiting, SameMessage, MessageAt, Slot, Slots, Gathering, GatheredTo}
+use Rattle.inference.specs.Inside.Inferring.{InferredSiblings, ArenaHolds, Grown, Added}
+use Rattle.gathering.specs.Inside.Gathering.{slotStart, slotCount, messageAt, messageRaw, slotRaw, waiting, SameMessage, MessageAt, Slot, Slots, Gathering, GatheredTo}
 use Rattle.inference.proofs.InPlace.Runs.{FirstValue, first-of}
 use Rattle.inference.proofs.InPlace.Material.{times-siblings}
 use Rattle.gathering.proofs.Waiting.Messages.{message-is, message-at, same-message-at}
@@ -61,8 +61,8 @@ slots-set (u ∷ slots) (suc k) v s x zero l = s 0 (omega arith)
 slots-set (u ∷ slots) (suc k) v s x (suc q) l = slots-set slots k v (λ r h. s (suc r) (omega arith)) x q (omega arith)
 
 -- what waits in a slot keeps the order of f
-pub added-sibling : (e : Equivalence) (t : List ℕ) (i n : ℕ) (f : CountingType) → (1 ≤ n → MessageAt t i) → Siblings e false f → Siblings e false (add Counting (gathered e t i n) f)
-unfolding gathered add
+pub added-sibling : (e : Equivalence) (t : List ℕ) (i n : ℕ) (f : CountingType) → (1 ≤ n → MessageAt t i) → InferredSiblings e false f → InferredSiblings e false (add Counting (messageRaw e t i n) f)
+unfolding messageRaw add
 added-sibling e t i zero f m s = s
 added-sibling e t i (suc n) f m s =
     let r = m (omega arith) .run in
@@ -74,8 +74,8 @@ regroup s f w l =
 
 module _ {e : Equivalence} {t a : List ℕ} {m i : ℕ} {slots : List ℕ} (g : Gathering e t a m i slots) where
   -- the arena once it holds r more; `rest` has taken the place of the slots
-  pub grown-holds : (r : CountingType) (k : ℕ) (b : List ℕ) → length b ≤ maxLength → Siblings e false (add Counting r (g .f)) → (h : Grown (add Counting r (g .f)) [] k b) →
-      Holds e false b k 0 (add Counting r (g .f)) [] (h .free)
+  pub grown-holds : (r : CountingType) (k : ℕ) (b : List ℕ) → length b ≤ maxLength → InferredSiblings e false (add Counting r (g .f)) → (h : Grown (add Counting r (g .f)) [] k b) →
+      ArenaHolds e false b k 0 (add Counting r (g .f)) [] (h .free)
   grown-holds r k b short s h = record { bytes = h .bytes; count = h .count; used = refl; short = short; siblings = s }
 
   pub added-same : (v : ℕ) (rest : List ℕ) (l : List Label → Option Payload) (p : List Label) → slot-gives e t p v ⊞ waiting-gives e t p rest ≡ waiting-gives e t p slots →

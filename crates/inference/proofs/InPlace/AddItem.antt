@@ -21,7 +21,7 @@ use Rattle.counting_theory.specs.Encoding.{typeFormat, typeSize, typeSpan, reco
 use Rattle.counting_theory.specs.Inside.Times.{times}
 use Rattle.type_arena.specs.Inside.Arena.{spanOffset}
 use Rattle.type_arena.proofs.RecordBytes.{length-header}
-use Rattle.inference.specs.Inside.Inferring.{TableRun, Siblings, Holds, Starts, Split, split, grown, Counted, Grown, Added}
+use Rattle.inference.specs.Inside.Inferring.{TableRun, InferredSiblings, ArenaHolds, Starts, Split, split, grown, Counted, Grown, Added}
 use Rattle.counting_theory.proofs.Encoding.Header.{length-encode}
 use Rattle.inference.proofs.InPlace.Runs.{none-left}
 use Rattle.inference.proofs.InPlace.Part.{tail-drop, tail-part, tail-put}
@@ -45,7 +45,7 @@ pub record Task (e : Equivalence) (kind from n rest : ℕ) (a t : List ℕ) : Ty
   pub q : List ℕ
   pub free : List ℕ
   pub vs : Values
-  pub holds : Holds e field a n rest f q free
+  pub holds : ArenaHolds e field a n rest f q free
   pub starts : Starts from f
   pub run : TableRun (eqb kind recordKind) t vs
 
@@ -91,8 +91,8 @@ module _ {l : Label} {w : Payload} (f : CountingType) {q : List ℕ} (rest : ℕ
       }
 
   module _ (s : ℕ) (es : s ≡ 1 + size (x .content)) where
-    pub step-holds : (e : Equivalence) (field : Bool) → Siblings e field f →
-        Holds e (eqb (l .kind) recordKind) (take (length b - (typeSize * p + typeSize)) (drop (typeSize * p + typeSize) b)) (s - 1) (m + rest - p - s) (x .content) (encode (x .after) ++ q) (y .free)
+    pub step-holds : (e : Equivalence) (field : Bool) → InferredSiblings e field f →
+        ArenaHolds e (eqb (l .kind) recordKind) (take (length b - (typeSize * p + typeSize)) (drop (typeSize * p + typeSize) b)) (s - 1) (m + rest - p - s) (x .content) (encode (x .after) ++ q) (y .free)
     step-holds e field h =
         record {
           bytes = tail-part b head tail (typeSize * p + typeSize) head-tail head-length;

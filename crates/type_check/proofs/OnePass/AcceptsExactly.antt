@@ -17,7 +17,7 @@ use Rattle.counting_theory.specs.Encoding.{typeRecords, typeOf}
 use Rattle.counting_theory.specs.WellFormed.{wellFormed, measured, badTypeLength}
 use Rattle.type_check.specs.Inside.Checker.{Run, addends, checkRun, isSome}
 use Rattle.counting_theory.proofs.WellFormed.Rules.{Rules}
-use Rattle.counting_theory.proofs.WellFormed.Whole.{type-holds, type-rules, holds-type, type-unique, well-formed-type}
+use Rattle.counting_theory.proofs.WellFormed.AcceptsExactly.{type-holds, type-rules, holds-type, type-unique, well-formed-type}
 use Rattle.type_check.proofs.OnePass.Rest.{Rest}
 use Rattle.type_check.proofs.OnePass.Accepts.{check-complete, check-sound}
 

@@ -9,7 +9,7 @@ use lib.Dec.{ltb}
 use Rattle.value_table.specs.Value.{keyAt, spanAt, member}
 use Rattle.value_table.specs.Judged.{repeated}
 use Rattle.value_table.specs.Inside.Chain.{Chain}
-use Rattle.value_table.specs.Inside.Siblings.{Before, field, other, Siblings}
+use Rattle.value_table.specs.Inside.EarlierFields.{FieldsBefore, field, other, EarlierFields}
 use Rattle.value_table.proofs.Chain.{Sibling, chain-le, chain-sibling, chain-done}
 
 member-head : {key x : ℕ} (xs : List ℕ) → key ≡ x → member key (x ∷ xs) ≡ true
@@ -45,20 +45,20 @@ module _ {b : List ℕ} {i : ℕ} where
 
 -- `first` tells whether record i is a field
 module _ {b : List ℕ} {i first : ℕ} where
-  pub first-field : {f : Bool} {ks : List ℕ} → Before b i first f ks → ltb 0 first ≡ f
+  pub first-field : {f : Bool} {ks : List ℕ} → FieldsBefore b i first f ks → ltb 0 first ≡ f
   first-field (field l h) = lt-ltb 0 first l
   first-field (other e) = le-ltb 0 first (omega arith)
 
-  pub unrepeated : {f : Bool} {ks : List ℕ} → first ≡ 0 → Before b i first f ks → false ≡ repeated b i f ks
+  pub unrepeated : {f : Bool} {ks : List ℕ} → first ≡ 0 → FieldsBefore b i first f ks → false ≡ repeated b i f ks
   unfolding repeated
   unrepeated e (field l h) = absurd (omega arith)
   unrepeated e (other z) = refl
 
-  pub siblings : {f : Bool} {ks : List ℕ} → (first ≡ 0 → ⊥) → Before b i first f ks → Siblings b i first
+  pub siblings : {f : Bool} {ks : List ℕ} → (first ≡ 0 → ⊥) → FieldsBefore b i first f ks → EarlierFields b i first
   siblings n (field {ks} l h) = record { keys = ks; chain = h }
   siblings n (other z) = absurd (n z)
 
-  pub repeated-member : {r f : Bool} {ks : List ℕ} → (first ≡ 0 → ⊥) → Before b i first f ks → (Chain (spanAt b) (keyAt b) i first ks → r ≡ member (keyAt b i) ks) → r ≡ repeated b i f ks
+  pub repeated-member : {r f : Bool} {ks : List ℕ} → (first ≡ 0 → ⊥) → FieldsBefore b i first f ks → (Chain (spanAt b) (keyAt b) i first ks → r ≡ member (keyAt b i) ks) → r ≡ repeated b i f ks
   unfolding repeated
   repeated-member n (field l h) m = m h
   repeated-member n (other z) m = absurd (n z)

@@ -15,11 +15,11 @@ use Rattle.counting_theory.specs.WellFormed.{Shallow}
 use Rattle.counting_theory.proofs.Tagged.Parts.{holdsFields, Shape, listed-field, tagged-parts, parts-tagged}
 use Rattle.counting_theory.proofs.Encoding.Header.{typeKey-below, header-fits, header-written}
 use Rattle.counting_theory.proofs.Encoding.Node.{NodeAt, node-read}
-use Rattle.counting_theory.proofs.WellFormed.Nodes.{Placed, depthUnder, shallow-parts, parts-shallow}
+use Rattle.counting_theory.proofs.WellFormed.Nodes.{KeyOrDepth, depthUnder, shallow-parts, parts-shallow}
 use Rattle.counting_theory.proofs.WellFormed.Record.{OwnRecord, TypeRecord}
 
 -- records i to end of b hold f, a union or (field ≡ true) a run of fields at this depth
-pub record Holds (e : Equivalence) (b : List ℕ) (i end : ℕ) (field : Bool) (depth : ℕ) (f : CountingType) : Type 0 where
+pub record RecordsHold (e : Equivalence) (b : List ℕ) (i end : ℕ) (field : Bool) (depth : ℕ) (f : CountingType) : Type 0 where
   pub bytes : drop (typeSize * i) b ≡ encode f ++ drop (typeSize * end) b
   pub ends : i + size f ≡ end
   pub tagged : Tagged e field f
@@ -32,7 +32,7 @@ size-zero nil h = refl
 size-zero (node l a c s) h = absurd (omega arith)
 
 module _ (e : Equivalence) (b : List ℕ) (i end : ℕ) (field : Bool) (depth : ℕ) where
-  pub holds-nil : i ≡ end → Holds e b i end field depth nil
+  pub holds-nil : i ≡ end → RecordsHold e b i end field depth nil
   unfolding encode size Fitting
   holds-nil h = record { bytes = rw h refl; ends = omega arith; tagged = tt; shallow = tt; fitting = tt }
 
@@ -51,14 +51,14 @@ module _ (e : Equivalence) (b : List ℕ) (i : ℕ) (c : CountingType) where
         scalar = λ k. size-zero c (omega (arith, r .scalar k));
       }
 
-  record-placed : (field : Bool) (depth : ℕ) → OwnRecord b i field depth → typeKey b i < 65536 → Placed field depth labelWith
+  record-placed : (field : Bool) (depth : ℕ) → OwnRecord b i field depth → typeKey b i < 65536 → KeyOrDepth field depth labelWith
   record-placed true depth r n = (r .keyed, n)
   record-placed false depth r n = r .shallow
 
   module _ (end : ℕ) (field : Bool) (depth : ℕ) (s : CountingType) where
     pub holds-node : Bytes b → typeSize * end ≤ length b → TypeRecord b i end field depth →
-        Holds e b (i + 1) (i + typeSpan b i) (holdsFields field labelWith) (depthUnder field labelWith depth) c →
-        Holds e b (i + typeSpan b i) end field depth s → Holds e b i end field depth (node labelWith (typePayload b i) c s)
+        RecordsHold e b (i + 1) (i + typeSpan b i) (holdsFields field labelWith) (depthUnder field labelWith depth) c →
+        RecordsHold e b (i + typeSpan b i) end field depth s → RecordsHold e b i end field depth (node labelWith (typePayload b i) c s)
     unfolding encode size Fitting
     holds-node bytes room r children next =
         let n : typeSpan b i ≡ 1 + size c = omega (arith, children .ends) in
@@ -77,11 +77,11 @@ module _ (e : Equivalence) (b : List ℕ) (i : ℕ) (c : CountingType) where
 -- a type that is not empty: its first record, and what the records behind hold
 pub record First (e : Equivalence) (b : List ℕ) (i end : ℕ) (field : Bool) (depth : ℕ) (l : Label) (a : Payload) (c s : CountingType) : Type 0 where
   pub is-node : NodeAt b i end l a c s
-  pub in-children : Holds e b (i + 1) (i + typeSpan b i) (holdsFields field l) (depthUnder field l depth) c
-  pub in-next : Holds e b (i + typeSpan b i) end field depth s
+  pub in-children : RecordsHold e b (i + 1) (i + typeSpan b i) (holdsFields field l) (depthUnder field l depth) c
+  pub in-next : RecordsHold e b (i + typeSpan b i) end field depth s
 
 module _ (e : Equivalence) (b : List ℕ) (i end : ℕ) (field : Bool) (depth : ℕ) (l : Label) (a : Payload) (c s : CountingType) where
-  pub holds-first : Holds e b i end field depth (node l a c s) → First e b i end field depth l a c s
+  pub holds-first : RecordsHold e b i end field depth (node l a c s) → First e b i end field depth l a c s
   unfolding size Fitting
   holds-first h =
       let n = node-read b i end l a c s (h .fitting) (h .bytes) in

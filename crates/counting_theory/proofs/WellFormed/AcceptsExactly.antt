@@ -19,7 +19,7 @@ use Rattle.counting_theory.proofs.Encoding.Decode.{decode-run}
 use Rattle.counting_theory.proofs.WellFormed.Tests.{both}
 use Rattle.counting_theory.proofs.WellFormed.Rules.{Rules, obeys-rules, rules-obeys}
 use Rattle.counting_theory.proofs.WellFormed.Fitting.{type-fitting}
-use Rattle.counting_theory.proofs.WellFormed.Holds.{Holds}
+use Rattle.counting_theory.proofs.WellFormed.RecordsHold.{RecordsHold}
 use Rattle.counting_theory.proofs.WellFormed.LaidOut.{held-laid, laid-held}
 
 -- no refusal 1
@@ -32,7 +32,7 @@ type-length n h =
 module _ (e : Equivalence) (b : List ℕ) (f : CountingType) where
   -- the records of b hold f
   abbrev pub HoldsWhole : Type 0
-  HoldsWhole = Holds e b 0 (typeRecords b) false 1 f
+  HoldsWhole = RecordsHold e b 0 (typeRecords b) false 1 f
 
   decoded : HoldsWhole → typeOf e b ≡ f
   unfolding typeOf

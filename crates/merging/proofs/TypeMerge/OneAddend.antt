@@ -14,7 +14,7 @@ use Rattle.counting_theory.specs.Trie.{node, size, reduceStep, reduceNode, redu
 use Rattle.counting_theory.specs.Label.{Equivalence, compareLabel, Counting, CountingType}
 use Rattle.counting_theory.specs.Encoding.{typeSize, typeKind, typeKey, typePayload, header, encode, typeOf}
 use Rattle.counting_theory.specs.WellFormed.{maxTotal}
-use Rattle.type_arena.specs.Inside.Arena.{under, labelAt, headerOf}
+use Rattle.type_arena.specs.Inside.Arena.{byFlag, labelAt, headerOf}
 use Rattle.type_arena.specs.Inside.Addend.{front, body, rest, Coded}
 use Rattle.merging.specs.Inside.Merging.{Part, exceeds, exceedsBelow, both, mergedBytes, joinedBytes}
 use Rattle.counting_theory.proofs.Label.{label-order, kind-eq, counting-laws}
@@ -56,9 +56,9 @@ module _ (e : Equivalence) where
         is-over = rw (h, over-limit c) (max-over maxTotal (max (total Counting c) (largestBelow Counting c)) (largestBelow Counting (both e x′ y′)));
       }
 
--- the equivalence that a level is under
+-- the equivalence that a level is byFlag
 abbrev pub At : Level → Equivalence
-At level = under (level .label)
+At level = byFlag (level .label)
 
 -- how the first labels compare
 abbrev pub order : Equivalence → List ℕ → List ℕ → Ordering

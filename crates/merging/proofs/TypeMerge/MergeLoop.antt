@@ -16,14 +16,14 @@ use Rattle.counting_theory.specs.Encoding.{typePayload, typeSize, typeKind, typ
 use Rattle.counting_theory.specs.WellFormed.{maxTotal}
 use Rattle.type_arena.specs.Inside.Arena.{headerOf}
 use Rattle.type_arena.specs.Inside.Addend.{front, body, rest}
-use Rattle.merging.specs.Inside.Merging.{Part, insideOf, exceedsBelow, both, mergedBytes, joinedBytes, Kept, Ran, Stored, Joined}
+use Rattle.merging.specs.Inside.Merging.{Part, insideOf, exceedsBelow, both, mergedBytes, joinedBytes, Kept, MergedSoFar, MergeStored, Joined}
 use Rattle.type_arena.specs.Inside.Payload.{payloadBytes}
 use Rattle.type_arena.proofs.PayloadBytes.{header-same}
 use Rattle.byte_records.proofs.Sets.{sets-append, sets-last}
 use Rattle.type_arena.proofs.RecordBytes.{length-header}
 use Rattle.type_arena.proofs.FirstAddend.{body-rest, front-rest}
 use Rattle.merging.proofs.TypeMerge.Part.{Head}
-use Rattle.merging.proofs.TypeMerge.Steps.{Step, At, order, step-less, step-more, step-same, second-out, first-out, length-merged, length-joined, merged-le, union-over}
+use Rattle.merging.proofs.TypeMerge.OneAddend.{Step, At, order, step-less, step-more, step-same, second-out, first-out, length-merged, length-joined, merged-le, union-over}
 
 -- what is left to do: x and y are still to be merged into out from byte k on, as against a and b at the start
 pub record State (level : Level) (a b out₀ : List ℕ) (k₀ : ℕ) (over₀ : Bool) (x y out : List ℕ) (k : ℕ) (over : Bool) : Type 0 where
@@ -75,7 +75,7 @@ module _ {level : Level} {a b out₀ : List ℕ} {k₀ : ℕ} {over₀ : Bool} {
 
 -- no merge of two addends is longer than both together
 pub inside-fits : {level : Level} {x y v w out out₁ : List ℕ} {at n : ℕ} {p : Bool} → Head level x → Head level y → v ≡ body x → w ≡ body y →
-    Stored (At level) v w out at out₁ n p → n + typeSize ≤ length x + length y
+    MergeStored (At level) v w out at out₁ n p → n + typeSize ≤ length x + length y
 inside-fits {level} {x} {y} h g e f m =
     omega (
       arith,
@@ -87,7 +87,7 @@ inside-fits {level} {x} {y} h g e f m =
 
 -- either run has run out
 pub second-done : {level : Level} {a b out₀ : List ℕ} {k₀ : ℕ} {over₀ : Bool} {x y out : List ℕ} {k : ℕ} {over : Bool} →
-    State level a b out₀ k₀ over₀ x y out k over → length y ≤ 0 → Ran (At level) a b out₀ k₀ over₀ x out k over
+    State level a b out₀ k₀ over₀ x y out k over → length y ≤ 0 → MergedSoFar (At level) a b out₀ k₀ over₀ x out k over
 unfolding mergedBytes
 second-done {x = x} {y = []} {over = over} s h =
     let w = second-out x (s .first) in
@@ -99,7 +99,7 @@ second-done {x = x} {y = []} {over = over} s h =
 second-done {y = v ∷ y} s h = absurd (omega arith)
 
 pub first-done : {level : Level} {a b out₀ : List ℕ} {k₀ : ℕ} {over₀ : Bool} {x y out out′ : List ℕ} {k k′ : ℕ} {over : Bool} →
-    State level a b out₀ k₀ over₀ x y out k over → length x ≡ 0 → (out′ ≡ sets out k y) × (k′ ≡ k + length y) → Ran (At level) a b out₀ k₀ over₀ x out′ k′ over
+    State level a b out₀ k₀ over₀ x y out k over → length x ≡ 0 → (out′ ≡ sets out k y) × (k′ ≡ k + length y) → MergedSoFar (At level) a b out₀ k₀ over₀ x out′ k′ over
 unfolding mergedBytes
 first-done {x = []} {y = y} {over = over} s h e =
     let w = first-out y (s .second) in
@@ -112,7 +112,7 @@ first-done {x = v ∷ x} s h e = absurd (omega arith)
 
 -- the second is empty from the start
 pub first-only : {level : Level} {a b out out′ : List ℕ} {at : ℕ} → Part level a → length b ≡ 0 → out′ ≡ sets out at a →
-    Stored (At level) a b out at out′ (length a) false
+    MergeStored (At level) a b out at out′ (length a) false
 unfolding mergedBytes
 first-only {a = a} {b = []} {out = out} {at = at} p h e =
     let w = second-out a p in
@@ -120,16 +120,16 @@ first-only {a = a} {b = []} {out = out} {at = at} p h e =
 first-only {b = v ∷ b} p h e = absurd (omega arith)
 
 pub stored-inside : (level : Level) (kind : ℕ) {inner : Level} {v w out out₁ : List ℕ} {at n : ℕ} {p : Bool} → inner ≡ insideOf level kind →
-    Stored (At inner) v w out at out₁ n p → Stored (At level) v w out at out₁ n p
+    MergeStored (At inner) v w out at out₁ n p → MergeStored (At level) v w out at out₁ n p
 stored-inside level kind e m = rw e at m
 
 -- the merge inside, and then the header before it
 pub addend-done : {e : Equivalence} {x y v w out out₁ out₂ : List ℕ} {at n kind key : ℕ} {over p q : Bool} (i j k : Payload) → v ≡ body x → w ≡ body y →
-    Stored e v w out (at + typeSize) out₁ n p → kind ≡ typeKind x 0 → key ≡ typeKey x 0 → i ≡ typePayload x 0 → j ≡ typePayload y 0 → payloadBytes k ≡ payloadBytes (join i j) →
+    MergeStored e v w out (at + typeSize) out₁ n p → kind ≡ typeKind x 0 → key ≡ typeKey x 0 → i ≡ typePayload x 0 → j ≡ typePayload y 0 → payloadBytes k ≡ payloadBytes (join i j) →
     out₂ ≡ sets out₁ at (headerOf kind key (n / typeSize + 1) k) → q ≡ (over || p) → Joined e x y out at over out₂ (at + typeSize + n) q
 unfolding joinedBytes
 addend-done {e} {x} {y} {v} {w} {out} {out₁} {at = at} {n = n} {over = over} {p = p} i j u f g m a b c d h z t =
-    let r : Stored e (body x) (body y) out (at + typeSize) out₁ n p = rw (f, g) at m in
+    let r : MergeStored e (body x) (body y) out (at + typeSize) out₁ n p = rw (f, g) at m in
     let span : ℕ = 1 + size (both e (body x) (body y)) in
     let l : n / typeSize + 1 ≡ span = omega (arith, r .counted, length-merged e (body x) (body y)) in
     let H : List ℕ = headerOf (typeKind x 0) (typeKey x 0) span (join (typePayload x 0) (typePayload y 0)) in
@@ -141,8 +141,8 @@ addend-done {e} {x} {y} {v} {w} {out} {out₁} {at = at} {n = n} {over = over} {
     }
 
 pub union-done : {e : Equivalence} {a b out out₁ out₂ t : List ℕ} {at k : ℕ} {o p : Bool} →
-    o ≡ ltb maxTotal (total Counting (typeOf e a) + total Counting (typeOf e b)) → Ran e a b out at o t out₁ k p → out₂ ≡ sets out₁ k t →
-    Stored e a b out at out₂ (k + length t - at) p
+    o ≡ ltb maxTotal (total Counting (typeOf e a) + total Counting (typeOf e b)) → MergedSoFar e a b out at o t out₁ k p → out₂ ≡ sets out₁ k t →
+    MergeStored e a b out at out₂ (k + length t - at) p
 union-done {e} {a} {b} z r h =
     record {
       bytes = h ∙ r .bytes;

@@ -13,7 +13,7 @@ use Rattle.counting_theory.specs.Label.{Equivalence, Counting}
 use Rattle.counting_theory.specs.Raw.{raw, profileOf}
 use Rattle.counting_theory.specs.Encoding.{encode}
 use Rattle.counting_theory.specs.Inside.Times.{times}
-use Rattle.inference.specs.Inside.Inferring.{TableRun, Holds, Weighed}
+use Rattle.inference.specs.Inside.Inferring.{TableRun, ArenaHolds, Weighed}
 use Rattle.counting_theory.proofs.Times.{times-one}
 
 pub table-run : {t : List ℕ} {ms : Values} {n : ℕ} → Table t ms n → TableRun false t ms
@@ -28,7 +28,7 @@ table-run {t} {ms} x =
       distinct = λ w. absurd (true≢false (sym w));
     }
 
-pub holds-nothing : (e : Equivalence) (a : List ℕ) → length a ≤ maxLength → Holds e false a 0 0 nil [] a
+pub holds-nothing : (e : Equivalence) (a : List ℕ) → length a ≤ maxLength → ArenaHolds e false a 0 0 nil [] a
 unfolding encode size
 holds-nothing e a h = record { bytes = refl; count = refl; used = refl; short = h; siblings = record { tagged = tt; sorted = tt; keyed = tt } }
 

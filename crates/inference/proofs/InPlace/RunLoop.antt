@@ -20,11 +20,11 @@ use Rattle.counting_theory.specs.Label.{Equivalence, fieldKind, Counting, Count
 use Rattle.counting_theory.specs.Raw.{ascending, classOf, raw}
 use Rattle.counting_theory.specs.Encoding.{typeSize}
 use Rattle.counting_theory.specs.Encoding as bytes
-use Rattle.type_arena.specs.Inside.Arena.{InTable}
+use Rattle.type_arena.specs.Inside.Arena.{RecordIn}
 use Rattle.counting_theory.specs.Inside.Times.{times}
 use Rattle.type_arena.specs.Inside.Payload.{itemPayload}
-use Rattle.inference.specs.Inside.Inferring.{TableRun, Siblings, Holds, Starts, split, Grown, AddedAt, labelFor, withItem, Weighed, ItemAt, EqualRecords, resumed}
-use Rattle.inference.specs.Inside.ScalarFields.{Ran}
+use Rattle.inference.specs.Inside.Inferring.{TableRun, InferredSiblings, ArenaHolds, Starts, split, Grown, AddedAt, labelFor, withItem, Weighed, ItemAt, EqualRecords, resumed}
+use Rattle.inference.specs.Inside.ScalarFields.{AddedSoFar}
 use Rattle.counting_theory.proofs.Label.{counting-laws}
 use Rattle.counting_theory.proofs.Trie.Growth.{add-grows}
 use Rattle.counting_theory.proofs.Tagged.Parts.{listed-field}
@@ -32,7 +32,7 @@ use Rattle.inference.proofs.InPlace.Runs.{FirstValue, first-of, none-le
 use Rattle.inference.proofs.InPlace.Splits.{insert-split}
 use Rattle.inference.proofs.InPlace.Seeking.{starts-resumed}
 use Rattle.inference.proofs.InPlace.Items.{insert-size}
-use Rattle.inference.proofs.InPlace.Steps.{grown-length}
+use Rattle.inference.proofs.InPlace.AddItem.{grown-length}
 use Rattle.inference.proofs.InPlace.Material.{times-siblings}
 use Rattle.inference.proofs.InPlace.Repeats.{Copied, copied, add-copies}
 
@@ -74,7 +74,7 @@ bit-small true = omega arith
 bit-small false = omega arith
 
 module _ {e : Equivalence} {field : Bool} {w : ℕ} {vs : Values} {f : CountingType} {q t : List ℕ} where
-  pub ran-start : {a free : List ℕ} {n rest : ℕ} → Holds e field a n rest f q free → TableRun field t vs → 1 ≤ w → Ran e field w vs f q a t n 0 0
+  pub ran-start : {a free : List ℕ} {n rest : ℕ} → ArenaHolds e field a n rest f q free → TableRun field t vs → 1 ≤ w → AddedSoFar e field w vs f q a t n 0 0
   unfolding append size
   ran-start {free = free} h r o =
       record {
@@ -94,8 +94,8 @@ module _ {e : Equivalence} {field : Bool} {w : ℕ} {vs : Values} {f : CountingT
         same = refl;
       }
 
-  module _ {a : List ℕ} {m i from : ℕ} (x : Ran e field w vs f q a t m i from) where
-    pub ran-holds : (rest : ℕ) → length q ≡ typeSize * rest → length a ≤ maxLength → Holds e field a m rest (x .g) q (x .free)
+  module _ {a : List ℕ} {m i from : ℕ} (x : AddedSoFar e field w vs f q a t m i from) where
+    pub ran-holds : (rest : ℕ) → length q ≡ typeSize * rest → length a ≤ maxLength → ArenaHolds e field a m rest (x .g) q (x .free)
     ran-holds rest u short = record { bytes = x .held; count = x .count; used = u; short = short; siblings = x .siblings }
 
     pub ran-end : length t ≤ recordSize * i → Grown (add Counting (times w (raw e field vs)) f) q m a
@@ -202,7 +202,7 @@ module _ {e : Equivalence} {field : Bool} {w : ℕ} {vs : Values} {f : CountingT
           unfolding raw times add
           grown-is = ap (λ r. add Counting r (x .g)) (material heavy)
 
-          grown-siblings : Siblings e field grown
+          grown-siblings : InferredSiblings e field grown
           unfolding ValidAt
           grown-siblings =
               rw grown-is at
@@ -222,7 +222,7 @@ module _ {e : Equivalence} {field : Bool} {w : ℕ} {vs : Values} {f : CountingT
               omega (arith, add-grows counting-laws (times w (raw e field (again .rest))) grown .sizes, ap size grown-same)
 
           turn-next : (p k : ℕ) (a′ : List ℕ) → Grown grown q k a′ → Starts p grown →
-              Ran e field w vs f q a′ t k (item .next + (item .next - i) * n) p
+              AddedSoFar e field w vs f q a′ t k (item .next + (item .next - i) * n) p
           turn-next p k a′ h o =
               record {
                 asFields = x .asFields;
@@ -247,12 +247,12 @@ module _ {e : Equivalence} {field : Bool} {w : ℕ} {vs : Values} {f : CountingT
             placed = rw o at h
 
             -- the item has its record
-            pub turn-room : InTable a′ p
+            pub turn-room : RecordIn a′ p
             turn-room = record { whole = omega (arith, grown-length (placed .0), placed .0 .count, insert-size (labelFor e (item .kind) (item .key) below) (itemPayload heavy (item .kind) below) (add Counting (times heavy (raw e (eqb (item .kind) recordKind) below))) (x .g), placed .1); short = small }
 
-            pub turn-added : length q ≡ typeSize * rest → (from′ : ℕ) → from′ ≡ resumed field a′ p k → Ran e field w vs f q a′ t k (item .next + (item .next - i) * n) from′
+            pub turn-added : length q ≡ typeSize * rest → (from′ : ℕ) → from′ ≡ resumed field a′ p k → AddedSoFar e field w vs f q a′ t k (item .next + (item .next - i) * n) from′
             turn-added used from′ z =
-                let held : Holds e field a′ k rest grown q (placed .0 .free) = record { bytes = placed .0 .bytes; count = placed .0 .count; used = used; short = small; siblings = grown-siblings } in
+                let held : ArenaHolds e field a′ k rest grown q (placed .0 .free) = record { bytes = placed .0 .bytes; count = placed .0 .count; used = used; short = small; siblings = grown-siblings } in
                 let here : Starts p grown = record { first = _; last = _; whole = insert-split _ (itemPayload heavy (item .kind) below) _ (x .g); count = placed .1 } in
                 turn-next from′ k a′ (placed .0) (rw z (starts-resumed held field p here))
 

@@ -13,18 +13,18 @@ use Rattle.value_table.specs.declared.faults.Fault.the-variants.{Nothing
 use Rattle.value_table.specs.Outcome.{numberOfRefusal}
 
 -- `first` is the first field of a record that has had these keys before record i, or 0 outside records
-pub data Before (b : List ℕ) (i first : ℕ) : Bool → List ℕ → Type 0 where
-  field : {ks : List ℕ} → 1 ≤ first → Chain (spanAt b) (keyAt b) i first ks → Before b i first true ks
-  other : {ks : List ℕ} → first ≡ 0 → Before b i first false ks
+pub data FieldsBefore (b : List ℕ) (i first : ℕ) : Bool → List ℕ → Type 0 where
+  field : {ks : List ℕ} → 1 ≤ first → Chain (spanAt b) (keyAt b) i first ks → FieldsBefore b i first true ks
+  other : {ks : List ℕ} → first ≡ 0 → FieldsBefore b i first false ks
 
-pub record Siblings (b : List ℕ) (i first : ℕ) : Type 0 where
+pub record EarlierFields (b : List ℕ) (i first : ℕ) : Type 0 where
   pub keys : List ℕ
   pub chain : Chain (spanAt b) (keyAt b) i first keys
 
 pub record Parent (b : List ℕ) (i first : ℕ) : Type 0 where
   pub isField : Bool
   pub keys : List ℕ
-  pub before : Before b i first isField keys
+  pub before : FieldsBefore b i first isField keys
 
 -- how many buckets the keys are spread over, by their remainders
 abbrev pub keyBuckets : ℕ
@@ -37,7 +37,7 @@ pub record Latest (b : List ℕ) (i : ℕ) (latest : List ℕ) : Type 0 where
 
 -- x is the fault of record i at this depth, whose parent ends at `end`
 abbrev pub FaultIs : List ℕ → ℕ → ℕ → ℕ → ℕ → ℕ → Type 0
-FaultIs b i end first depth x = (isField : Bool) (ks : List ℕ) → Before b i first isField ks → x ≡ fault b i end isField ks depth
+FaultIs b i end first depth x = (isField : Bool) (ks : List ℕ) → FieldsBefore b i first isField ks → x ≡ fault b i end isField ks depth
 
 -- what the innermost of some levels holds, or what stands outside them
 abbrev pub innermostOf : List ℕ → ℕ → ℕ → ℕ

@@ -18,7 +18,7 @@ use Rattle.type_arena.specs.Inside.Arena.{Labelled}
 use Rattle.type_check.specs.Inside.Checker.{addends, fields, fits, ordered, agrees, checkRun, isSome, hasTotal, addendRight, RunOf}
 use Rattle.counting_theory.proofs.WellFormed.Record.{type-record}
 use Rattle.type_check.proofs.OnePass.Fits.{fits-record}
-use Rattle.type_check.proofs.OnePass.Steps.{check-end, check-step}
+use Rattle.type_check.proofs.OnePass.OneRecord.{check-end, check-step}
 
 -- the tests of one addend, in the order in which they are made
 regroup : (t o c d s : Bool) → (t && o && c && d && s) ≡ ((t && s) && (c && d && o))
