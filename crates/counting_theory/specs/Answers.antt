@@ -3,9 +3,10 @@
 use mathlib.Core.Bool.{cond, not, _||_}
 use mathlib.Core.List.{List, [], _++_}
 use mathlib.Core.Option.{Option, none, some}
-use Prim.Native.Nat.{ℕ, zero, suc, _*_, _-_}
+use Prim.Native.Nat.{ℕ, zero, suc, _*_, _-_, _/_}
 use lib.Dec.{eqb, ltb}
 use lib.ListN.{length, replicate}
+use Rattle.value_table.specs.Value.{maxLength}
 use Rattle.value_table.specs.Outcome.{Outcome, accepted, refused}
 use Rattle.value_table.specs.Judged.{badLength, judged, messages}
 use Rattle.counting_theory.specs.Trie.{size, reduce}
@@ -54,6 +55,10 @@ leaves w arena work = record { outcome = w .outcome; arena = arenaWith (length a
 -- 11: the resulting type has more records than the arena of n bytes
 abbrev pub stored : ℕ → CountingType → Written
 stored n f = cond (ltb n (typeSize * size f)) (turnedDown 11 0) (record { outcome = accepted (size f); bytes = encode f })
+
+-- the largest allowed arena: as many whole records as the limit on lengths has room for
+abbrev pub largestArena : ℕ
+largestArena = typeSize * (maxLength / typeSize)
 
 -- Call 4: 1, 2, then 8.
 abbrev pub judgedUnder : Option Equivalence → List ℕ → Outcome

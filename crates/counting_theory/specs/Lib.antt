@@ -1,4 +1,4 @@
--- The statements about counting types: generic tries, then labels, values and bytes over them.
+-- The statements about counting types: generic tries; then those of document 01, in its order; then those of document 000.
 pub mod Order
 pub mod Trie
 pub mod Payload
@@ -6,10 +6,10 @@ pub mod Label
 pub mod Raw
 pub mod Place
 pub mod Encoding
-pub mod Published
-pub mod Meaning
 pub mod WellFormed
 pub mod Answers
 pub mod Ways
 pub mod Trials
+pub mod Published
+pub mod Meaning
 pub mod Inside

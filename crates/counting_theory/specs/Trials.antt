@@ -1,11 +1,11 @@
 -- 'Trials at the edges' of document 01: the ten trials marked with a star as one table, and one claim over the table.
 use mathlib.Core.Path.{_≡_}
 use mathlib.Core.List.{List, [], _∷_, flatMap}
-use Prim.Native.Nat.{ℕ, _*_, _/_}
+use Prim.Native.Nat.{ℕ, _*_}
 use Rattle.value_table.specs.Value as table
 use Rattle.counting_theory.specs.Payload.{ofNumbers}
 use Rattle.counting_theory.specs.Encoding.{typeSize, header}
-use Rattle.counting_theory.specs.Answers.{Written, inferred, merged}
+use Rattle.counting_theory.specs.Answers.{Written, largestArena, inferred, merged}
 
 -- a value record by kind, key and span; a type record by kind, key, span and the numbers of its payload (zero where none is given)
 abbrev pub ValueRecord : Type 0
@@ -41,7 +41,7 @@ abbrev pub underBoth : List ℕ
 underBoth = 0 ∷ 1 ∷ []
 
 abbrev pub largest : List ℕ
-largest = typeSize * (table.maxLength / typeSize) ∷ []
+largest = largestArena ∷ []
 
 abbrev pub roomFor : ℕ → List ℕ
 roomFor records = typeSize * records ∷ []

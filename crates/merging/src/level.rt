@@ -1,4 +1,4 @@
-// What a run of type records is.
+// The level at which a merge stands in both types.
 use value_table::record;
 ghost use mathlib.Core.Path.{_≡_};
 ghost use mathlib.Core.Bool.{cond};

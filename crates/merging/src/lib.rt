@@ -18,18 +18,15 @@ use type_arena::type_record::key_at;
 use type_arena::type_record::kind_at;
 use value_table::record;
 ghost use mathlib.Core.Path.{_≡_};
-ghost use mathlib.Core.Bool.{not, _||_};
+ghost use mathlib.Core.Bool.{_||_};
 ghost use Prim.Native.Nat.{_+_, _^_, _<_};
-ghost use lib.Dec.{ltb};
 ghost use lib.ListN.{length};
 ghost use lib.Seq.{sets};
-ghost use Rattle.counting_theory.specs.Trie.{reduce, total};
-ghost use Rattle.counting_theory.specs.Label.{Counting};
-ghost use Rattle.counting_theory.specs.Encoding.{typeKind, encode, typeOf};
-ghost use Rattle.counting_theory.specs.WellFormed.{maxTotal, withinLimit, IsType};
+ghost use Rattle.counting_theory.specs.Encoding.{typeKind, typeOf};
+ghost use Rattle.counting_theory.specs.WellFormed.{IsType};
 ghost use Rattle.type_arena.specs.Inside.Arena.{byFlag};
 ghost use Rattle.type_arena.specs.Inside.Addend.{Headed};
-ghost use Rattle.merging.specs.Inside.Merging.{Part, Kept, MergedSoFar, MergeStored, Joined};
+ghost use Rattle.merging.specs.Inside.Merging.{Part, exceedsHere, Kept, MergedSoFar, MergeStored, Joined};
 
 // How many bytes a merge has, and whether a union in it totals above the limit.
 pub struct Merged {
@@ -50,8 +47,7 @@ fn either(a: bool, b: bool) -> bool
 // Whether the merge of two unions totals above the limit; fields have no total.
 fn total_over(a: &[u8], b: &[u8], level: Level) -> bool
     requires { ⌜ Part level (now a) × Part level (now b) ⌝ }
-    ensures { λ r. ⌜ r
-        ≡ ltb maxTotal (total Counting (typeOf (byFlag (level .label)) (now (a .entry))) + total Counting (typeOf (byFlag (level .label)) (now (b .entry)))) ⌝ }
+    ensures { λ r. ⌜ r ≡ exceedsHere (byFlag (level .label)) (now (a .entry)) (now (b .entry)) ⌝ }
 {
     if level.field {
         return false;
@@ -165,11 +161,7 @@ fn merge_union(a: &[u8], b: &[u8], out: &mut [u8], at: usize, level: Level) -> M
 pub fn merge_types(first: &[u8], second: &[u8], label: bool, arena: &mut [u8]) -> Merged
     requires { ⌜ IsType (byFlag label) (now first) (typeOf (byFlag label) (now first)) ⌝ }
     requires { ⌜ IsType (byFlag label) (now second) (typeOf (byFlag label) (now second)) ⌝ }
-    ensures { λ r. ⌜ now (arena .exit)
-        ≡ sets (now (arena .entry)) 0 (encode (reduce Counting (typeOf (byFlag label) (now (first .entry))) (typeOf (byFlag label) (now (second .entry))))) ⌝ }
-    ensures { λ r. ⌜ r .bytes ≡ length (encode (reduce Counting (typeOf (byFlag label) (now (first .entry))) (typeOf (byFlag label) (now (second .entry))))) ⌝ }
-    ensures { λ r. ⌜ r .over
-        ≡ not (withinLimit (reduce Counting (typeOf (byFlag label) (now (first .entry))) (typeOf (byFlag label) (now (second .entry))))) ⌝ }
+    ensures { λ r. ⌜ MergeStored (byFlag label) (now (first .entry)) (now (second .entry)) (now (arena .entry)) 0 (now (arena .exit)) (r .bytes) (r .over) ⌝ }
 {
     let level = Level {
         left: record::MAX_DEPTH,

@@ -1,6 +1,6 @@
 -- Document 01's example, byte by byte: what the program prints for its nine value records; for an empty and for a refused table.
 use mathlib.Core.Path.{_≡_, refl}
-use mathlib.Core.List.{List, [], _++_}
+use mathlib.Core.List.{List, [], _∷_, _++_}
 use Prim.Native.Nat.{ℕ}
 use Rattle.byte_records.specs.Number.{bytesOf, numberOf, numberAt}
 use Rattle.value_table.specs.Value.{header, keys, member, kindAt, zeroAt, keyAt, spanAt}
@@ -30,7 +30,7 @@ nine =
 
 -- one null in sixteen: padding, and halves rounded up
 abbrev pub sixteen : CountingType
-sixteen = node (labelOf byKind 1 0 []) (record { count = 1 }) nil (node (labelOf byKind 3 0 []) (record { count = 15 }) nil nil)
+sixteen = node (labelOf byKind 1 0 []) (ofNumbers (1 ∷ [])) nil (node (labelOf byKind 3 0 []) (ofNumbers (15 ∷ [])) nil nil)
 
 pub record Examples : Type 0 where
   pub seven-lines : printed nine

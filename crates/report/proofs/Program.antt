@@ -25,7 +25,7 @@ use Rattle.counting_theory.specs.Label.{Equivalence, CountingType}
 use Rattle.counting_theory.specs.Raw.{profileOf}
 use Rattle.counting_theory.specs.Encoding.{typeSize, encode, typeOf}
 use Rattle.counting_theory.specs.WellFormed.{badTypeLength, IsType}
-use Rattle.counting_theory.specs.Answers.{equivalenceNumber, houseDefault, Written, turnedDown, arenaWith, stored, inferredUnder, inferred, inferredDefault}
+use Rattle.counting_theory.specs.Answers.{equivalenceNumber, houseDefault, Written, turnedDown, arenaWith, stored, inferredUnder, inferred, inferredDefault, largestArena}
 use Rattle.answers.specs.declared.Answered.{Answered}
 use Rattle.answers.specs.declared.Answered.the-variants.{Accepted, Refused}
 use Rattle.answers.specs.declared.Refusal.the-variants as refusals
@@ -50,7 +50,7 @@ module _ (e : Equivalence) (b : List ℕ) (bytes : Bytes b) where
   f = profileOf e (messages b)
 
   abbrev accepted-type : Written
-  accepted-type = stored maxLength f
+  accepted-type = stored largestArena f
 
   accepted-table : judged b .number ≡ 0 → table.Table b (messages b) (judged b .count)
   accepted-table z = accepts b (judged b .count) bytes .0 (λ i. record { number = z i; place = placed b .0 z i; count = judged b .count })
@@ -62,11 +62,11 @@ module _ (e : Equivalence) (b : List ℕ) (bytes : Bytes b) where
       rw (← type-unique e (encode f) f g) g
 
   printed-stored : judged b .number ≡ 0 → Printed e accepted-type
-  printed-stored z = go (ltb maxLength (typeSize * size f)) refl
+  printed-stored z = go (ltb largestArena (typeSize * size f)) refl
     where
-      go : (t : Bool) → ltb maxLength (typeSize * size f) ≡ t → Printed e (cond t (turnedDown 11 0) (record { outcome = accepted (size f); bytes = encode f }))
+      go : (t : Bool) → ltb largestArena (typeSize * size f) ≡ t → Printed e (cond t (turnedDown 11 0) (record { outcome = accepted (size f); bytes = encode f }))
       go true h = printed-refusal 10 0 (omega arith)
-      go false h = record { formed = λ n. type-of-table z (omega (arith, ltb-false maxLength (typeSize * size f) h)); near = omega arith }
+      go false h = record { formed = λ n. type-of-table z (omega (arith, ltb-false largestArena (typeSize * size f) h)); near = omega arith }
 
   printed-from : badLength (length b) ≡ false → (k : ℕ) → judged b .number ≡ k →
       Printed e (elim k [ zero ↦ accepted-type | suc j ↦ turnedDown (suc j) (judged b .place) ])
@@ -79,7 +79,7 @@ unfolding inferred badTypeLength
 printed-profiled b bytes = go (badLength (length b)) refl
   where
     go : (t : Bool) → badLength (length b) ≡ t →
-        Printed programEquivalence (cond (t || badTypeLength maxLength || not (eqb maxLength maxLength)) (turnedDown 1 0) (inferredUnder (some programEquivalence) b maxLength))
+        Printed programEquivalence (cond (t || badTypeLength largestArena || not (eqb largestArena largestArena)) (turnedDown 1 0) (inferredUnder (some programEquivalence) b largestArena))
     go true h = printed-refusal 0 0 (omega arith)
     go false h = printed-from programEquivalence b bytes h (judged b .number) refl
 
@@ -88,19 +88,19 @@ pub record Told (b arena : List ℕ) (answer : Answer) : Type 0 where
   pub outcome : outcomeOfAnswer answer ≡ profiled b .outcome
   pub bytes : take (typeSize * answer .count) arena ≡ profiled b .bytes
   pub room : typeSize * answer .count ≤ length arena
-  pub whole : length arena ≡ maxLength
+  pub whole : length arena ≡ largestArena
 
-pub told : (b : List ℕ) (n m : ℕ) (arena : List ℕ) (answer : Answer) → maxLength ≡ n → maxLength ≡ m → length arena ≡ n →
+pub told : (b : List ℕ) (n m : ℕ) (arena : List ℕ) (answer : Answer) → largestArena ≡ n → largestArena ≡ m → length arena ≡ n →
     outcomeOfAnswer answer ≡ inferredDefault b n m .outcome → arena ≡ arenaWith n (inferredDefault b n m) → Told b arena answer
 told b n m arena answer l k whole outcome left =
     let w = profiled b in
     let o : outcomeOfAnswer answer ≡ w .outcome = rw (← l, ← k) at outcome in
-    let a : arena ≡ arenaWith maxLength w = rw (← l, ← k) at left in
-    let e : length (w .bytes) ≡ typeSize * answer .count = exact-inferred b (equivalenceNumber houseDefault) maxLength maxLength ∙ ap (λ x. typeSize * x .count) (sym o) in
+    let a : arena ≡ arenaWith largestArena w = rw (← l, ← k) at left in
+    let e : length (w .bytes) ≡ typeSize * answer .count = exact-inferred b (equivalenceNumber houseDefault) largestArena largestArena ∙ ap (λ x. typeSize * x .count) (sym o) in
     record {
       outcome = o;
       bytes = ap (take (typeSize * answer .count)) a ∙ take-at (w .bytes) _ (typeSize * answer .count) e;
-      room = omega (arith, e, ap length a, length-append (w .bytes) (replicate (maxLength - length (w .bytes)) 0));
+      room = omega (arith, e, ap length a, length-append (w .bytes) (replicate (largestArena - length (w .bytes)) 0));
       whole = omega arith;
     }
 

@@ -3,12 +3,12 @@ use mathlib.Core.Bool.{cond}
 use mathlib.Core.List.{List, [], _++_}
 use Prim.Native.Nat.{ℕ, zero, suc, max}
 use lib.Dec.{eqb}
-use Rattle.value_table.specs.Value.{maxLength, recordKind}
+use Rattle.value_table.specs.Value.{recordKind}
 use Rattle.counting_theory.specs.Trie.{nil, node, total}
 use Rattle.counting_theory.specs.Label.{Equivalence, Label, Counting, CountingType}
 use Rattle.counting_theory.specs.Encoding.{typeOf}
 use Rattle.counting_theory.specs.WellFormed.{depthInside}
-use Rattle.counting_theory.specs.Answers.{houseDefault, Written, inferredDefault}
+use Rattle.counting_theory.specs.Answers.{houseDefault, Written, largestArena, inferredDefault}
 use Rattle.report.specs.Decimal.{digitCount}
 use Rattle.report.specs.Line.{share, lineOf, refusalLine}
 
@@ -44,7 +44,7 @@ textOf (suc n) w = refusalLine (suc n) (w .outcome .place)
 -- The type of the program's input, inferred by the house default with the largest arena. Input above 65,536 bytes is refused by 1, as
 -- is any other wrong length.
 abbrev pub profiled : List ℕ → Written
-profiled input = inferredDefault input maxLength maxLength
+profiled input = inferredDefault input largestArena largestArena
 
 -- what the program prints for its input
 unfoldable pub printed : List ℕ → List ℕ

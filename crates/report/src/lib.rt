@@ -11,6 +11,7 @@ use line::LINE_LIMIT;
 use line::put_number_and;
 use type_arena::addend::union_total;
 use type_arena::type_record;
+use value_table::record;
 use walk::largest_count;
 use walk::put_run;
 ghost use Prim.Native.Nat.{_*_, _≤_};
@@ -23,7 +24,7 @@ ghost use Rattle.report.specs.Inside.Room.{lineLimit, refusalLimit};
 ghost use Rattle.report.specs.Report.{report, programEquivalence, printed};
 
 // The bytes of the largest arena.
-const ARENA_LENGTH: usize = 65536;
+const ARENA_LENGTH: usize = record::MAX_LENGTH / type_record::SIZE * type_record::SIZE;
 
 // The most bytes that are printed: a line for each record of the largest arena.
 pub const TEXT_LIMIT: usize = LINE_LIMIT * (ARENA_LENGTH / type_record::SIZE);

@@ -19,9 +19,9 @@ struct Extent {
 // The last of the numbers, which only a type record has.
 const COUNT: usize = 3;
 
-pub const RECORD: u64 = 5;
+pub const RECORD: u64 = record::RECORD as u64;
 
-const ARRAY: u64 = 6;
+const ARRAY: u64 = record::ARRAY as u64;
 
 // What a run repeats: null; a field with null in it; a record with such a field; or an array around the next, which ends before a
 // place.

@@ -16,9 +16,10 @@ use crate::text::part;
 use crate::text::word;
 use answers::Answered;
 use type_arena::type_record;
+use value_table::record;
 
 // The largest arena, which is lent where a line names none.
-const LARGEST: usize = 65536;
+const LARGEST: usize = record::MAX_LENGTH / type_record::SIZE * type_record::SIZE;
 
 // One type record more than a type may have.
 const ROOM: usize = LARGEST + type_record::SIZE;

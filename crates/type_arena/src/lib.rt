@@ -1,5 +1,4 @@
-// The bytes of type records: their fields, their payload, the order of their labels, their stores, the parts of a run, and buffers that
-// are cleared.
+// Type records: their fields, their payload, the order of their labels, their stores, and the parts of a run.
 pub mod addend;
 pub mod label_order;
 pub mod payload;

@@ -1,8 +1,8 @@
 // The faults of one value record, 3 to 7.
 use crate::TableRefusal;
 use crate::record;
-use crate::record::head_at;
 use crate::record::key_at;
+use crate::record::kind_and_zero_at;
 use crate::record::kind_at;
 use crate::record::span_at;
 use crate::record::zero_at;
@@ -64,7 +64,7 @@ fn plain_scalar(table: &[u8], i: usize) -> bool
     if span_at(table, i) != 1 {
         return false;
     }
-    let head = head_at(table, i);
+    let head = kind_and_zero_at(table, i);
     if head < 1 {
         return false;
     }

@@ -46,7 +46,7 @@ pub fn zero_at(table: &[u8], i: usize) -> u8
 }
 
 // The kind and the zero byte, as one number.
-pub fn head_at(table: &[u8], i: usize) -> usize
+pub fn kind_and_zero_at(table: &[u8], i: usize) -> usize
     requires { ⌜ recordSize * i + recordSize ≤ length (now table) ⌝ }
     ensures { λ r. ⌜ r ≡ kindAt (now (table .entry)) i + 256 * zeroAt (now (table .entry)) i ⌝ }
 {

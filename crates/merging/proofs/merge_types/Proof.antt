@@ -1,5 +1,4 @@
 -- `merge_types` meets its contract.
-use Rattle.merging.specs.Inside.Merging.{both, mergedBytes, exceeds}
 use Rattle.merging.proofs.TypeMerge.Part.{type-part, type-short}
 use borrow.Author.Needs.{needs}
 use native.Mathlib.Omega.{arith}
@@ -14,8 +13,7 @@ merge-union-requires c κs =
     ((type-part (s .args .label) _ p, type-part (s .args .label) _ q), omega (arith, type-short p, type-short q))
 
 returns : tie.Need-returns
-unfolding both mergedBytes exceeds
-returns c = let m = c .before .before .merge-union .ensures in (m .bytes, (m .counted, m .seen))
+returns c = c .before .before .merge-union .ensures
 
 pub merge-types-spec : {M : Type 1} → statement M
 merge-types-spec = tie.close (tie.spec merge-union-requires (λ c. search needs) returns)

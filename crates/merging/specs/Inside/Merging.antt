@@ -9,7 +9,7 @@ use lib.Seq.{sets}
 use Rattle.value_table.specs.Value.{maxDepth, recordKind}
 use Rattle.merging.specs.declared.level.Level.{Level}
 use Rattle.counting_theory.specs.Payload.{join}
-use Rattle.counting_theory.specs.Trie.{size, reduce, largestBelow}
+use Rattle.counting_theory.specs.Trie.{size, reduce, total, largestBelow}
 use Rattle.counting_theory.specs.Label.{Equivalence, Counting, CountingType}
 use Rattle.counting_theory.specs.Encoding.{typeKind, typeKey, typePayload, encode, typeOf}
 use Rattle.counting_theory.specs.WellFormed.{maxTotal, withinLimit, Shallow}
@@ -38,6 +38,10 @@ exceeds f = not (withinLimit f)
 
 unfoldable pub exceedsBelow : CountingType → Bool
 exceedsBelow f = ltb maxTotal (largestBelow Counting f)
+
+-- the merge of two unions totals above the limit, whatever stands inside
+abbrev pub exceedsHere : Equivalence → List ℕ → List ℕ → Bool
+exceedsHere e x y = ltb maxTotal (total Counting (typeOf e x) + total Counting (typeOf e y))
 
 -- the merge of two runs, and its bytes
 unfoldable pub both : Equivalence → List ℕ → List ℕ → CountingType

@@ -17,9 +17,9 @@ returns-2 c = λ e. (cc, λ end h. cc)
 
 returns-3 : tie.Need-returns-3
 returns-3 c =
-    λ e. let h : c .before .head-at .result ≤ lastScalar = leb-true _ _ e in
+    λ e. let h : c .before .kind-and-zero-at .result ≤ lastScalar = leb-true _ _ e in
     let s = sym (c .before .before .before .span-at .ensures .0) ∙ c .before .before .if1 .left in
-    scalar-fine _ _ s (omega (arith, c .before .head-at .ensures)) (omega (arith, c .before .head-at .ensures)) (omega (arith, c .before .head-at .ensures))
+    scalar-fine _ _ s (omega (arith, c .before .kind-and-zero-at .ensures)) (omega (arith, c .before .kind-and-zero-at .ensures)) (omega (arith, c .before .kind-and-zero-at .ensures))
 
 pub plain-scalar-spec : {M : Type 1} → statement M
 plain-scalar-spec =

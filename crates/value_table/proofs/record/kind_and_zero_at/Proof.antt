@@ -1,4 +1,4 @@
--- `head_at` meets its contract.
+-- `kind_and_zero_at` meets its contract.
 use Prim.Native.Nat.{_*_}
 use native.Mathlib.Nat.{add-zero}
 use native.Mathlib.Omega.{arith}
@@ -6,8 +6,8 @@ use borrow.Author.Needs.{needs}
 use Rattle.byte_records.specs.Format.{fieldAt}
 use Rattle.value_table.specs.Value.{recordSize, kindAt, zeroAt}
 use Rattle.byte_records.proofs.Number.{numberAt-add}
-use Rattle.value_table.proofs.record.head_at.Statement.{statement}
-use Rattle.value_table.proofs.record.head_at.Tie as tie
+use Rattle.value_table.proofs.record.kind_and_zero_at.Statement.{statement}
+use Rattle.value_table.proofs.record.kind_and_zero_at.Tie as tie
 
 returns : tie.Need-returns
 unfolding kindAt zeroAt fieldAt
@@ -16,5 +16,5 @@ returns c =
     let p = recordSize * c .before .before .args .i in
     rw add-zero (omega (arith, c .number16 .ensures .0, numberAt-add 1 1 t p (omega arith)))
 
-pub head-at-spec : {M : Type 1} → statement M
-head-at-spec = tie.close (tie.spec (λ c. search needs) (λ c κs. search needs) returns)
+pub kind-and-zero-at-spec : {M : Type 1} → statement M
+kind-and-zero-at-spec = tie.close (tie.spec (λ c. search needs) (λ c κs. search needs) returns)
