@@ -1,4 +1,5 @@
-//! Brings the messages of one log together in several ways, and says whether all of them end in the same bytes.
+//! Brings the messages of one log together in several ways, and says whether all of them end in the same bytes. `tests/ways.py` says
+//! which bytes.
 //!
 //! Argument: the file with the log, a value table.
 

@@ -1,6 +1,7 @@
 -- What inference leaves to the profile program: a well-formed type, or a refusal whose place can be printed.
 use mathlib.Core.Path.{_≡_, refl, sym, ap, _∙_}
 use mathlib.Core.Bool.{Bool, true, false, cond, not, _||_}
+use mathlib.Core.Logic.{⊎-elim}
 use mathlib.Core.List.{List}
 use mathlib.Core.Option.{some}
 use Prim.Native.Nat.{ℕ, zero, suc, _*_, _-_, _≤_}
@@ -71,7 +72,7 @@ module _ (e : Equivalence) (b : List ℕ) (bytes : Bytes b) where
   printed-from : badLength (length b) ≡ false → (k : ℕ) → judged b .number ≡ k →
       Printed e (elim k [ zero ↦ accepted-type | suc j ↦ turnedDown (suc j) (judged b .place) ])
   printed-from l zero h = printed-stored h
-  printed-from l (suc j) h = printed-refusal j (judged b .place) (omega (arith, placed b .1, length-fits (length b) .0 l .1))
+  printed-from l (suc j) h = printed-refusal j (judged b .place) (⊎-elim (λ z. omega arith) (λ z. omega (arith, length-fits (length b) .0 l .1)) (placed b .1))
 
 -- the type that the program reports
 printed-profiled : (b : List ℕ) → Bytes b → Printed programEquivalence (profiled b)

@@ -1,9 +1,9 @@
 -- Call 1 accepts exactly the encodings of valid messages, a table has no other messages, and a place is one of its records.
 use mathlib.Core.Path.{_≡_, refl, sym, ap, _∙_}
-use mathlib.Core.Logic.{_↔_, Iff·trans}
+use mathlib.Core.Logic.{_↔_, Iff·trans, _⊎_, inl, inr}
 use mathlib.Core.Bool.{Bool, true, false, cond, true≢false, false≢true}
 use mathlib.Core.List.{List, [], append-nil}
-use Prim.Native.Nat.{ℕ, zero, suc, _+_, _*_, _%_, _≤_}
+use Prim.Native.Nat.{ℕ, zero, suc, _+_, _*_, _%_, _≤_, _<_}
 use native.Mathlib.Omega.{arith}
 use lib.ListN.{length, drop, drop-of-length-le}
 use Rattle.value_table.specs.Value.{maxLength, recordSize, records, Values, encode, size, count}
@@ -66,15 +66,15 @@ accepts b n bytes = go (badLength (length b)) refl
 
 -- a place of records 0 to end
 abbrev Within : ℕ → Outcome → Type 0
-Within end o = (o .number ≡ 0 → o .place ≡ 0) × (o .place ≤ end)
+Within end o = (o .number ≡ 0 → o .place ≡ 0) × ((o .place ≡ 0) ⊎ (o .place < end))
 
-within-decide : (f i end : ℕ) (later : Outcome) → i ≤ end → Within end later → Within end (decide f i later)
+within-decide : (f i end : ℕ) (later : Outcome) → i < end → Within end later → Within end (decide f i later)
 within-decide zero i end later h r = r
-within-decide (suc f) i end later h r = (λ e. absurd (omega arith), h)
+within-decide (suc f) i end later h r = (λ e. absurd (omega arith), inr h)
 
 within-walk : (b : List ℕ) (k i end : ℕ) (around : List Open) (n : ℕ) → i + k ≤ end → Within end (walk b k i around n)
 unfolding walk
-within-walk b zero i end around n h = (λ e. refl, omega arith)
+within-walk b zero i end around n h = (λ e. refl, inl refl)
 within-walk b (suc k) i end around n h =
     within-decide (faultIn b i (close i around)) i end _ (omega arith) (within-walk b k (i + 1) end (enter b i (close i around)) (n + messagesIn (close i around)) (omega arith))
 
@@ -83,5 +83,5 @@ unfolding judged
 placed b = go (badLength (length b))
   where
     go : (t : Bool) → Within (records b) (cond t (refused 1 0) (walk b (records b) 0 [] 0))
-    go true = (λ e. refl, omega arith)
+    go true = (λ e. refl, inl refl)
     go false = within-walk b (records b) 0 (records b) [] 0 (omega arith)

@@ -1,8 +1,8 @@
 -- What the lower library promises the upper one, and nothing else: call 1 accepts exactly the encodings of valid messages.
 use mathlib.Core.Path.{_≡_}
-use mathlib.Core.Logic.{_↔_}
+use mathlib.Core.Logic.{_↔_, _⊎_}
 use mathlib.Core.List.{List}
-use Prim.Native.Nat.{ℕ, _*_, _≤_}
+use Prim.Native.Nat.{ℕ, _*_, _≤_, _<_}
 use Rattle.byte_records.specs.Number.{Bytes}
 use Rattle.value_table.specs.Value.{records, Values, Valid, encode, size, count, recordSize, maxLength}
 use Rattle.value_table.specs.Outcome.{accepted}
@@ -23,6 +23,6 @@ Accepts = (b : List ℕ) (n : ℕ) → Bytes b → (judged b ≡ accepted n) ↔
 abbrev pub Unique : Type 0
 Unique = (b : List ℕ) (ms : Values) (n : ℕ) → Table b ms n → ms ≡ messages b
 
--- accepted, the place is 0; refused, it is a record of b, or 0
+-- accepted, the place is 0; refused, it is 0 or a record of b
 abbrev pub PlaceInTable : Type 0
-PlaceInTable = (b : List ℕ) → (judged b .number ≡ 0 → judged b .place ≡ 0) × (judged b .place ≤ records b)
+PlaceInTable = (b : List ℕ) → (judged b .number ≡ 0 → judged b .place ≡ 0) × ((judged b .place ≡ 0) ⊎ (judged b .place < records b))

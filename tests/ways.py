@@ -1,0 +1,50 @@
+"""What sample/ways.rs must print for a log, from the map of places to counts (inferences.py): every way ends in the log's profile.
+
+Run by tests/run: python3 tests/ways.py sample/log.table
+"""
+import struct
+import sys
+from pathlib import Path
+
+from counting_types import KIND, LABEL, bytes_of
+from inferences import infer, runs
+from merges import LARGEST
+
+# The ways, with the most messages of a table.
+WAYS = {
+    "one table": None,
+    "one message a table": 1,
+    "tables of 7, the last merged first": 7,
+    "backwards, tables of 25, in pairs": 25,
+    "shortest first, tables of 60": 60,
+    "sorted by bytes, tables of 3, in pairs": 3,
+}
+
+
+def digest(data):
+    """FNV-1a, of 64 bits."""
+    out = 0xCBF29CE484222325
+    for byte in data:
+        out = (out ^ byte) * 0x100000001B3 % 2**64
+    return out
+
+
+def lines(log, count, name, equivalence, arena):
+    number, _, rows = infer(log, equivalence, arena, arena)
+    left = 0 if number else digest(bytes_of(rows).ljust(arena, b"\0"))
+    yield f"{name}, arenas of {arena} bytes"
+    for way, most in WAYS.items():
+        tables = -(-count // (most or count))
+        yield f"{way:<40}{tables:>5} tables   answer {number:>2}{len(rows):>6} records   {left:016x}"
+    yield "refused each time" if number else "the same bytes each time"
+    yield ""
+
+
+if __name__ == "__main__":
+    path = sys.argv[1]
+    log = Path(path).read_bytes()
+    records = list(struct.iter_unpack("<BBHI", log))
+    count = len(list(runs(records, 0, len(records))))
+    print(f"{path}: {count} messages\n")
+    for name, equivalence, arena in ("Kind", KIND, LARGEST), ("Label", LABEL, LARGEST), ("Label", LABEL, 16 * 64):
+        print("\n".join(lines(log, count, name, equivalence, arena)))
