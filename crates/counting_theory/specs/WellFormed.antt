@@ -8,10 +8,12 @@ use Prim.Native.Nat.{ℕ, zero, suc, _+_, _*_, _%_, _≤_, _<_, Ordering, Orderi
 use lib.Dec.{eqb, leb, ltb}
 use lib.ListN.{length}
 use Rattle.byte_records.specs.Number.{Bytes}
-use Rattle.value_table.specs.Value.{maxLength, maxDepth, recordKind, arrayKind, lastScalar}
+use Rattle.value_table.specs.Value.{recordSize, maxLength, maxDepth, recordKind, arrayKind, lastScalar, Values, none, value, Valid}
+use Rattle.value_table.specs.Value as table
 use Rattle.counting_theory.specs.Payload.{Payload, proper}
 use Rattle.counting_theory.specs.Trie.{nil, node, size, lookup, reduce, Sorted, total, largestTotal}
 use Rattle.counting_theory.specs.Label.{Equivalence, byKind, byLabel, Label, fieldKind, compareLabel, Counting, CountingType}
+use Rattle.counting_theory.specs.Raw.{profileOf}
 use Rattle.counting_theory.specs.Place.{_⊞_, countOf, FieldTotals}
 use Rattle.counting_theory.specs.Encoding.{typeSize, typeRecords, typeKind, typeZero, typeKey, typeSpan, encode, typeOf, Tagged}
 
@@ -143,6 +145,16 @@ TypeUnique = (e : Equivalence) (b : List ℕ) (f : CountingType) → IsType e b 
 abbrev pub OneOrder : Type 0
 OneOrder = (e : Equivalence) (b c : List ℕ) (f g : CountingType) → IsType e b f → IsType e c g →
     ((place : List Label) → lookup Counting f place ≡ lookup Counting g place) → b ≡ c
+
+-- each message fits a table
+abbrev pub EachFits : Values → Type 0
+EachFits none = Unit {0}
+EachFits (value head key content next) = (recordSize * (1 + table.size content) ≤ maxLength) × EachFits next
+
+-- within the limits the profile of such messages, if they are valid, is well formed
+abbrev pub ProfileIsType : Type 0
+ProfileIsType = (e : Equivalence) (messages : Values) → Valid messages → EachFits messages → typeSize * size (profileOf e messages) ≤ maxLength →
+    withinLimit (profileOf e messages) ≡ true → IsType e (encode (profileOf e messages)) (profileOf e messages)
 
 -- within the limits the reduced type of two is well formed again
 abbrev pub ReduceIsType : Type 0
