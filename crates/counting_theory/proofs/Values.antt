@@ -1,4 +1,5 @@
 -- The laws of the type of some values.
+pub mod Join
 pub mod Every
 pub mod Tally
 pub mod Labels

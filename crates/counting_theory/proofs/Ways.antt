@@ -1,7 +1,6 @@
 -- Every way of bringing messages together ends as the profile of all the messages says.
 pub mod Weights
 pub mod Parts
-pub mod Join
 pub mod AllMessages
 pub mod Pull
 pub mod Calls

@@ -6,6 +6,7 @@ pub mod Fields
 pub mod Reduce
 pub mod Profile
 pub mod Closed
+pub mod Places
 pub mod Rules
 pub mod Fitting
 pub mod Record

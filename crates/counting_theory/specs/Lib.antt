@@ -11,5 +11,6 @@ pub mod Answers
 pub mod Ways
 pub mod Trials
 pub mod Published
+pub mod Inferred
 pub mod Meaning
 pub mod Inside

@@ -14,7 +14,7 @@ use Rattle.value_table.specs.Value as table
 use Rattle.value_table.specs.Judged.{judged, messages}
 use Rattle.counting_theory.specs.Trie.{size, lookup}
 use Rattle.counting_theory.specs.Label.{Equivalence, Label, Counting, CountingType}
-use Rattle.counting_theory.specs.Raw.{profileOf}
+use Rattle.counting_theory.specs.Raw.{joinValues, profileOf}
 use Rattle.counting_theory.specs.Place.{valuesOf, payloadAt}
 use Rattle.counting_theory.specs.Encoding.{typeSize, encode}
 use Rattle.counting_theory.specs.WellFormed.{withinLimit, badTypeLength}
@@ -83,10 +83,6 @@ pub record Way (e : Equivalence) (n : ℕ) (plan : List Call) : Type 0 where
   pub leaves-one : atHand plan 0 ≡ some 1
 
 -- the messages of all its tables, reached or not: as values, and each by the bytes of all its records
-unfoldable pub joinValues : Values → Values → Values
-joinValues table.none ys = ys
-joinValues (value head key content next) ys = value head key content (joinValues next ys)
-
 unfoldable pub planMessages : List Call → Values
 planMessages [] = table.none
 planMessages (infer source arena work ∷ calls) = joinValues (messages source) (planMessages calls)

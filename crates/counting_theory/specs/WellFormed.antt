@@ -1,17 +1,20 @@
 -- Which bytes are a well-formed type: 'Type arena' of document 01, rule by rule in its order, on any bytes.
 use mathlib.Core.Path.{_≡_}
-use mathlib.Core.Logic.{_↔_}
+use mathlib.Core.Logic.{_⊎_, _↔_}
+use mathlib.Core.Option.{some}
 use mathlib.Core.Bool.{Bool, true, false, cond, not, _&&_, _||_}
 use mathlib.Core.List.{List}
 use Prim.Native.Nat.{ℕ, zero, suc, _+_, _*_, _%_, _≤_, _<_, Ordering, Ordering·lt as lt, Ordering·eq as eq, Ordering·gt as gt}
 use lib.Dec.{eqb, leb, ltb}
 use lib.ListN.{length}
 use Rattle.byte_records.specs.Number.{Bytes}
-use Rattle.value_table.specs.Value.{maxLength, maxDepth, recordKind, arrayKind, lastScalar}
-use Rattle.counting_theory.specs.Payload.{proper}
-use Rattle.counting_theory.specs.Trie.{nil, node, size, reduce, Sorted, total, largestTotal}
+use Rattle.value_table.specs.Value.{recordSize, maxLength, maxDepth, recordKind, arrayKind, lastScalar, Values, none, value, Valid}
+use Rattle.value_table.specs.Value as table
+use Rattle.counting_theory.specs.Payload.{Payload, proper}
+use Rattle.counting_theory.specs.Trie.{nil, node, size, lookup, reduce, Sorted, total, largestTotal}
 use Rattle.counting_theory.specs.Label.{Equivalence, byKind, byLabel, Label, fieldKind, compareLabel, Counting, CountingType}
-use Rattle.counting_theory.specs.Place.{FieldTotals}
+use Rattle.counting_theory.specs.Raw.{profileOf}
+use Rattle.counting_theory.specs.Place.{_⊞_, countOf, FieldTotals}
 use Rattle.counting_theory.specs.Encoding.{typeSize, typeRecords, typeKind, typeZero, typeKey, typeSpan, encode, typeOf, Tagged}
 
 -- the most that the counts of one union may total
@@ -138,8 +141,42 @@ WellFormedIsType = (e : Equivalence) (b : List ℕ) → Bytes b → badTypeLengt
 abbrev pub TypeUnique : Type 0
 TypeUnique = (e : Equivalence) (b : List ℕ) (f : CountingType) → IsType e b f → f ≡ typeOf e b
 
+-- types are written in one order: those with the same payloads at the same places have the same bytes
+abbrev pub OneOrder : Type 0
+OneOrder = (e : Equivalence) (b c : List ℕ) (f g : CountingType) → IsType e b f → IsType e c g →
+    ((place : List Label) → lookup Counting f place ≡ lookup Counting g place) → b ≡ c
+
+-- each message fits a table
+abbrev pub EachFits : Values → Type 0
+EachFits none = Unit {0}
+EachFits (value head key content next) = (recordSize * (1 + table.size content) ≤ maxLength) × EachFits next
+
+-- within the limits the profile of such messages, if they are valid, is well formed
+abbrev pub ProfileIsType : Type 0
+ProfileIsType = (e : Equivalence) (messages : Values) → Valid messages → EachFits messages → typeSize * size (profileOf e messages) ≤ maxLength →
+    withinLimit (profileOf e messages) ≡ true → IsType e (encode (profileOf e messages)) (profileOf e messages)
+
 -- within the limits the reduced type of two is well formed again
 abbrev pub ReduceIsType : Type 0
 ReduceIsType = (e : Equivalence) (a b : List ℕ) (f g : CountingType) → IsType e a f → IsType e b g →
     typeSize * size (reduce Counting f g) ≤ maxLength → withinLimit (reduce Counting f g) ≡ true →
     IsType e (encode (reduce Counting f g)) (reduce Counting f g)
+
+-- a place stands in f, with some payload
+abbrev pub Stands : CountingType → List Label → Type 0
+Stands f place = (a : Payload) × (lookup Counting f place ≡ some a)
+
+-- A place stands in the reduced type of f and g exactly if it stands in one of the two, with what they have there together; its count is
+-- the sum of theirs, where a type without the place counts 0.
+pub record MergedAt (f g : CountingType) (place : List Label) : Type 0 where
+  pub stands : Stands (reduce Counting f g) place ↔ (Stands f place ⊎ Stands g place)
+  pub payload : lookup Counting (reduce Counting f g) place ≡ lookup Counting f place ⊞ lookup Counting g place
+  pub count : countOf (lookup Counting (reduce Counting f g) place) ≡ countOf (lookup Counting f place) + countOf (lookup Counting g place)
+
+abbrev pub MergedPlaces : Type 0
+MergedPlaces = (f g : CountingType) (place : List Label) → MergedAt f g place
+
+-- a type merged with itself has the same places, each with twice its count
+abbrev pub MergedTwice : Type 0
+MergedTwice = (f : CountingType) (place : List Label) →
+    (Stands (reduce Counting f f) place ↔ Stands f place) × (countOf (lookup Counting (reduce Counting f f) place) ≡ 2 * countOf (lookup Counting f place))

@@ -19,7 +19,7 @@ use Rattle.counting_theory.proofs.Published.Labels.{labels-relate}
 
 module _ (eq : Equivalence) where
   -- the labels of sorted siblings differ, so no two are related
-  sorted-reduced : (field : Bool) (f : CountingType) → Tagged eq field f → Sorted Counting f → EReduced eq f
+  pub sorted-reduced : (field : Bool) (f : CountingType) → Tagged eq field f → Sorted Counting f → EReduced eq f
   sorted-reduced field nil p u = tt
   sorted-reduced field (node l a c s) p u =
       let r = tagged-parts eq field l a c s p in

@@ -31,7 +31,7 @@ module _ (eq : Equivalence) where
     pub is-tagged : Tagged eq field f
     pub has-keys : field ≡ true → Distinct (keys vs) → siblingKeys f ≡ ascending (keys vs)
 
-  shape-class : (field : Bool) (depth : ℕ) (head : Head) (key : ℕ) (content : Values) (f : CountingType) → Proper field depth head key content →
+  pub shape-class : (field : Bool) (depth : ℕ) (head : Head) (key : ℕ) (content : Values) (f : CountingType) → Proper field depth head key content →
       (content ≡ none → f ≡ nil) → Inferred (eqb (head .kind) recordKind) content f → AddendShape eq (classOf eq (head .kind) content) f
   shape-class field depth head key content f p empty i =
       let e = listed-cong eq (head .kind) (ascending (keys content)) (siblingKeys f) (λ t. sym (i .has-keys t (p .distinct (eqb-true (head .kind) recordKind t)))) in

@@ -6,12 +6,11 @@ use Rattle.value_table.specs.Value.{Values, none}
 use Rattle.counting_theory.specs.Trie.{nil, profile}
 use Rattle.counting_theory.specs.Inside.TrieLaws.{append, concat, NoLarger}
 use Rattle.counting_theory.specs.Label.{Equivalence, Counting, CountingType}
-use Rattle.counting_theory.specs.Raw.{raw, profileOf}
-use Rattle.counting_theory.specs.Ways.{joinValues}
+use Rattle.counting_theory.specs.Raw.{raw, profileOf, joinValues}
 use Rattle.counting_theory.proofs.Label.{counting-laws}
 use Rattle.counting_theory.proofs.Trie.Profile.{profile-perm, profile-append-comm}
 use Rattle.counting_theory.proofs.Ways.Parts.{concat-pair, profile-swap, part-noLarger}
-use Rattle.counting_theory.proofs.Ways.Join.{raw-join}
+use Rattle.counting_theory.proofs.Values.Join.{raw-join}
 
 pub profile-only : (e : Equivalence) (ms : Values) → profile Counting (concat (raw e false ms ∷ [])) ≡ profileOf e ms
 unfolding concat append profileOf
@@ -24,13 +23,13 @@ module _ (e : Equivalence) (t : CountingType) where
 
   pub whole-read : (ms rest : Values) (rs : List CountingType) → Whole (joinValues ms rest) rs → Whole rest (raw e false ms ∷ rs)
   whole-read ms rest rs h =
-      rw (profile-swap counting-laws (raw e false rest) (raw e false ms) rs, ← concat-pair (raw e false ms) (raw e false rest) rs, ← raw-join e ms rest) h
+      rw (profile-swap counting-laws (raw e false rest) (raw e false ms) rs, ← concat-pair (raw e false ms) (raw e false rest) rs, ← raw-join e false ms rest) h
 
   pub whole-merged : (rest x y : Values) (rs qs : List CountingType) → List·Permᴰ rs (raw e false x ∷ raw e false y ∷ qs) →
       Whole rest rs → Whole rest (raw e false (joinValues x y) ∷ qs)
   unfolding concat
   whole-merged rest x y rs qs p h =
-      ap (λ r. profile Counting (append (raw e false rest) r)) (rw (raw-join e x y) (concat-pair (raw e false x) (raw e false y) qs))
+      ap (λ r. profile Counting (append (raw e false rest) r)) (rw (raw-join e false x y) (concat-pair (raw e false x) (raw e false y) qs))
       ∙ profile-perm counting-laws (List·Permᴰ·cons refl (Permᴰ·symm p)) ∙ h
 
   pub whole-last : (x : Values) → Whole none (raw e false x ∷ []) → profileOf e x ≡ t

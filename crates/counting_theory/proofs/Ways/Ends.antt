@@ -11,17 +11,17 @@ use borrow.Author.Tests.{ltb-true}
 use Rattle.value_table.specs.Value.{Values, Valid}
 use Rattle.value_table.specs.Judged.{messages}
 use Rattle.counting_theory.specs.Label.{Equivalence, CountingType}
-use Rattle.counting_theory.specs.Raw.{raw, profileOf}
+use Rattle.counting_theory.specs.Raw.{raw, profileOf, joinValues}
 use Rattle.counting_theory.specs.Encoding.{encode}
-use Rattle.counting_theory.specs.WellFormed.{badTypeLength, IsType}
+use Rattle.counting_theory.specs.WellFormed.{badTypeLength, IsType, EachFits}
 use Rattle.counting_theory.specs.Answers.{Left, leaves, equivalenceNumber, merged, mergedTypes}
-use Rattle.counting_theory.specs.Ways.{Call, infer, inferDefault, merge, pull, goOn, run, atHand, Accepted, AllAllowed, Way, joinValues, planMessages, WithinLimits, Ends}
+use Rattle.counting_theory.specs.Ways.{Call, infer, inferDefault, merge, pull, goOn, run, atHand, Accepted, AllAllowed, Way, planMessages, WithinLimits, Ends}
 use Rattle.counting_theory.proofs.Trie.Canonical.{some-none}
 use Rattle.counting_theory.proofs.WellFormed.Closed.{profile-type}
 use Rattle.counting_theory.proofs.WellFormed.AcceptsExactly.{type-length}
-use Rattle.counting_theory.proofs.WellFormed.Profile.{EachFits, fits-run}
+use Rattle.counting_theory.proofs.WellFormed.Profile.{fits-run}
 use Rattle.counting_theory.proofs.Ways.Same.{fits-join}
-use Rattle.counting_theory.proofs.Ways.Join.{reduce-join, valid-join}
+use Rattle.counting_theory.proofs.Values.Join.{reduce-join, valid-join}
 use Rattle.counting_theory.proofs.Ways.Pull.{Pulled, pulled}
 use Rattle.counting_theory.proofs.Ways.Calls.{accepted-table, inferred-profile, default-profile, merged-types}
 use Rattle.counting_theory.proofs.Ways.AllMessages.{profile-only, Whole, whole-read, whole-merged, whole-last, whole-part}

@@ -10,12 +10,13 @@ use Rattle.value_table.specs.Judged.{messages}
 use Rattle.value_table.proofs.Acceptance.{unique}
 use Rattle.counting_theory.specs.Inside.TrieLaws.{append, concat}
 use Rattle.counting_theory.specs.Label.{Equivalence, CountingType}
-use Rattle.counting_theory.specs.Raw.{raw, profileOf}
-use Rattle.counting_theory.specs.Ways.{Call, infer, inferDefault, merge, AllAllowed, joinValues, planMessages, messageBytes, occurrences, Accepted}
+use Rattle.counting_theory.specs.Raw.{raw, profileOf, joinValues}
+use Rattle.counting_theory.specs.WellFormed.{EachFits}
+use Rattle.counting_theory.specs.Ways.{Call, infer, inferDefault, merge, AllAllowed, planMessages, messageBytes, occurrences, Accepted}
 use Rattle.counting_theory.proofs.Label.{counting-laws}
 use Rattle.counting_theory.proofs.Trie.Profile.{profile-perm}
-use Rattle.counting_theory.proofs.WellFormed.Profile.{EachFits, fits-run}
-use Rattle.counting_theory.proofs.Ways.Join.{valid-join}
+use Rattle.counting_theory.proofs.WellFormed.Profile.{fits-run}
+use Rattle.counting_theory.proofs.Values.Join.{valid-join}
 use Rattle.counting_theory.proofs.Ways.Calls.{accepted-table}
 use Rattle.counting_theory.proofs.Ways.Occurrences.{perm-occurs}
 

@@ -1,14 +1,12 @@
 -- Profiles and merges within the limits are well-formed types.
-use mathlib.Core.Path.{_≡_, refl}
-use mathlib.Core.Bool.{true, false}
+use mathlib.Core.Path.{refl}
+use mathlib.Core.Bool.{false}
 use mathlib.Core.List.{List}
-use Prim.Native.Nat.{ℕ, _*_, _≤_}
-use Rattle.value_table.specs.Value.{maxLength, Values, Valid}
-use Rattle.counting_theory.specs.Trie.{size, reduce}
+use Prim.Native.Nat.{ℕ}
+use Rattle.counting_theory.specs.Trie.{reduce}
 use Rattle.counting_theory.specs.Label.{Equivalence, Counting, CountingType}
 use Rattle.counting_theory.specs.Raw.{raw, profileOf}
-use Rattle.counting_theory.specs.Encoding.{typeSize, encode}
-use Rattle.counting_theory.specs.WellFormed.{withinLimit, IsType, ReduceIsType}
+use Rattle.counting_theory.specs.WellFormed.{IsType, ProfileIsType, ReduceIsType}
 use Rattle.counting_theory.proofs.Trie.Sorted.{sorted-profile, sorted-reduce}
 use Rattle.counting_theory.proofs.Label.{counting-laws}
 use Rattle.counting_theory.proofs.Tagged.Profile.{tagged-profile}
@@ -16,10 +14,9 @@ use Rattle.counting_theory.proofs.Tagged.Reduce.{tagged-reduce}
 use Rattle.counting_theory.proofs.Values.Totals.{profile-totals, reduce-totals}
 use Rattle.counting_theory.proofs.WellFormed.Nodes.{EachNode, each-node, each-shallow, each-counted, each-fieldCounts, each-measured}
 use Rattle.counting_theory.proofs.WellFormed.Reduce.{each-reduce}
-use Rattle.counting_theory.proofs.WellFormed.Profile.{EachFits, each-profile}
+use Rattle.counting_theory.proofs.WellFormed.Profile.{each-profile}
 
-pub profile-type : (e : Equivalence) (messages : Values) → Valid messages → EachFits messages → typeSize * size (profileOf e messages) ≤ maxLength →
-    withinLimit (profileOf e messages) ≡ true → IsType e (encode (profileOf e messages)) (profileOf e messages)
+pub profile-type : ProfileIsType
 unfolding profileOf
 profile-type e messages valid fits room limit =
     let each : EachNode e false 1 (profileOf e messages) = each-profile e messages valid fits in

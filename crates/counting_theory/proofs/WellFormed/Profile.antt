@@ -13,7 +13,7 @@ use Rattle.counting_theory.specs.Payload.{one, proper}
 use Rattle.counting_theory.specs.Trie.{nil, add, profile, total}
 use Rattle.counting_theory.specs.Label.{Equivalence, fieldKind, Counting, CountingType}
 use Rattle.counting_theory.specs.Raw.{classOf, addend, raw, profileOf}
-use Rattle.counting_theory.specs.WellFormed.{depthInside, fieldsOf}
+use Rattle.counting_theory.specs.WellFormed.{depthInside, fieldsOf, EachFits}
 use Rattle.counting_theory.proofs.Payload.{count-one, count-field, proper-one, proper-field}
 use Rattle.counting_theory.proofs.Label.{counting-laws}
 use Rattle.counting_theory.proofs.Trie.Growth.{total-add}
@@ -30,11 +30,6 @@ valueDepth field depth = cond field (suc depth) depth
 inner-depth : (fields : Bool) (depth : ℕ) → suc depth ≡ valueDepth fields (depthInside fields depth)
 inner-depth true depth = refl
 inner-depth false depth = omega arith
-
--- each value of a run fits a table
-abbrev pub EachFits : Values → Type 0
-EachFits none = Unit {0}
-EachFits (value head key content next) = (recordSize * (1 + table.size content) ≤ maxLength) × EachFits next
 
 pub fits-run : (vs : Values) → recordSize * table.size vs ≤ maxLength → EachFits vs
 unfolding table.size
