@@ -1,9 +1,9 @@
 // The text of the trials. A line "[call]" or "[call equivalences]" says how the lines after it are tried: "name lengths: records".
 // Lines without a colon are passed over.
-use crate::text::byte_at;
-use crate::text::find;
-use crate::text::part;
 use crate::trial::try_call;
+use trial_notation::text::byte_at;
+use trial_notation::text::find;
+use trial_notation::text::part;
 
 // Where the line begins that is being read; the call and the equivalences, by their first characters.
 struct Section {

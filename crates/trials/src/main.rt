@@ -1,9 +1,6 @@
 // Document 01's trials of the five calls, and every refusal of them: reads the trials, and prints the answer to each as a line.
 mod lines;
-mod notation;
 mod output;
-mod records;
-mod text;
 mod trial;
 
 fn main() {

@@ -1,7 +1,7 @@
 // What a line of the output says: the numbers of an answer, and what a call has left in the buffers lent to it.
-use crate::records::Layout;
-use crate::records::start_of;
-use crate::text::part;
+use trial_notation::records::Layout;
+use trial_notation::records::start_of;
+use trial_notation::text::part;
 use type_arena::type_record;
 use type_arena::type_record::count_at;
 use type_arena::type_record::key_at;

@@ -1,20 +1,20 @@
 // A trial builds tables or types, has a call work on them, and prints the answer as a line: name, refusal number, place, count. A call
 // that writes a type adds how many bytes behind it and in its working buffer are not zero, and the type.
-use crate::notation::build;
 use crate::output::behind_type;
 use crate::output::nonzero;
 use crate::output::print;
 use crate::output::print_answer;
 use crate::output::print_type;
 use crate::output::type_in;
-use crate::records::Layout;
-use crate::records::start_of;
-use crate::text::byte_at;
-use crate::text::find;
-use crate::text::number_or;
-use crate::text::part;
-use crate::text::word;
 use answers::Answered;
+use trial_notation::notation::build;
+use trial_notation::records::Layout;
+use trial_notation::records::start_of;
+use trial_notation::text::byte_at;
+use trial_notation::text::find;
+use trial_notation::text::number_or;
+use trial_notation::text::part;
+use trial_notation::text::word;
 use type_arena::type_record;
 use value_table::record;
 

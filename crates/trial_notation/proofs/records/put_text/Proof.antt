@@ -3,8 +3,8 @@ use Prim.Native.Nat.{_≤_, _<_, _-_}
 use mathlib.Core.Path.{_≡_}
 use borrow.Author.Needs.{needs}
 use lib.ListN.{length}
-use Rattle.trials.proofs.records.put_text.Statement.{statement}
-use Rattle.trials.proofs.records.put_text.Tie as tie
+use Rattle.trial_notation.proofs.records.put_text.Statement.{statement}
+use Rattle.trial_notation.proofs.records.put_text.Tie as tie
 
 abbrev Inv-loop : tie.InvT-loop
 Inv-loop bytes₀ layout i text at₀ number₀ n k₀ bytes at number k = (k ≤ n) × (at < 65536) × (length bytes ≡ length bytes₀)

@@ -1,8 +1,8 @@
 -- `word` is safe and ends: the loop takes so many turns.
 use Prim.Native.Nat.{_≤_, _-_}
 use borrow.Author.Needs.{needs}
-use Rattle.trials.proofs.text.word.Statement.{statement}
-use Rattle.trials.proofs.text.word.Tie as tie
+use Rattle.trial_notation.proofs.text.word.Statement.{statement}
+use Rattle.trial_notation.proofs.text.word.Tie as tie
 
 abbrev Inv-loop : tie.InvT-loop
 Inv-loop text k from₀ counter₀ from counter = counter ≤ k

@@ -3,8 +3,8 @@ use Prim.Native.Nat.{_-_}
 use mathlib.Core.Path.{_≡_}
 use borrow.Author.Needs.{needs}
 use lib.ListN.{length}
-use Rattle.trials.proofs.records.put_run.Statement.{statement}
-use Rattle.trials.proofs.records.put_run.Tie as tie
+use Rattle.trial_notation.proofs.records.put_run.Statement.{statement}
+use Rattle.trial_notation.proofs.records.put_run.Tie as tie
 
 abbrev Inv-loop : tie.InvT-loop
 Inv-loop bytes₀ layout item i run at₀ key₀ count counter₀ bytes at key counter = length bytes ≡ length bytes₀

@@ -1,8 +1,8 @@
 -- `find` is safe and ends: the loop stays within the text.
 use Prim.Native.Nat.{_≤_, _-_}
 use borrow.Author.Needs.{needs}
-use Rattle.trials.proofs.text.find.Statement.{statement}
-use Rattle.trials.proofs.text.find.Tie as tie
+use Rattle.trial_notation.proofs.text.find.Statement.{statement}
+use Rattle.trial_notation.proofs.text.find.Tie as tie
 
 abbrev Inv-loop : tie.InvT-loop
 Inv-loop text from c n k₀ k = from ≤ k

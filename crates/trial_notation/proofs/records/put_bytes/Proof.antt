@@ -3,8 +3,8 @@ use Prim.Native.Nat.{_≤_, _-_}
 use mathlib.Core.Path.{_≡_}
 use borrow.Author.Needs.{needs}
 use lib.ListN.{length}
-use Rattle.trials.proofs.records.put_bytes.Statement.{statement}
-use Rattle.trials.proofs.records.put_bytes.Tie as tie
+use Rattle.trial_notation.proofs.records.put_bytes.Statement.{statement}
+use Rattle.trial_notation.proofs.records.put_bytes.Tie as tie
 
 abbrev Inv-loop : tie.InvT-loop
 Inv-loop bytes₀ p width number rest₀ k₀ bytes rest k = (k ≤ width) × (length bytes ≡ length bytes₀)

@@ -1,8 +1,8 @@
 -- `number_of` is safe and ends: the loop stays within the text.
 use Prim.Native.Nat.{_≤_, _-_}
 use borrow.Author.Needs.{needs}
-use Rattle.trials.proofs.text.number_of.Statement.{statement}
-use Rattle.trials.proofs.text.number_of.Tie as tie
+use Rattle.trial_notation.proofs.text.number_of.Statement.{statement}
+use Rattle.trial_notation.proofs.text.number_of.Tie as tie
 
 abbrev Inv-loop : tie.InvT-loop
 Inv-loop text number₀ n k₀ number k = k ≤ n
