@@ -5,7 +5,7 @@ use Prim.Native.Nat.{ℕ, suc}
 use lib.Dec.{eqb}
 use Rattle.value_table.specs.Value.{Head, recordKind, Values, none, value, Proper, ValidAt}
 use Rattle.counting_theory.specs.Payload.{Payload, one}
-use Rattle.counting_theory.specs.Trie.{nil, insert, add, profile, reduce}
+use Rattle.counting_theory.specs.Trie.{nil, insert, add, profile}
 use Rattle.counting_theory.specs.Label.{Equivalence, Label, labelOf, Counting, CountingType}
 use Rattle.counting_theory.specs.Raw.{classOf, addend, raw, profileOf, joinValues}
 use Rattle.counting_theory.specs.Encoding.{siblingKeys}
