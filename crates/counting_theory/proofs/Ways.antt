@@ -3,6 +3,7 @@ pub mod Weights
 pub mod Parts
 pub mod AllMessages
 pub mod Pull
+pub mod Runs
 pub mod Calls
 pub mod Written
 pub mod Ends

@@ -15,7 +15,7 @@ abbrev pub OfKind : ℕ → List Value → Type 0
 OfKind kind [] = Unit {0}
 OfKind kind (v ∷ M) = (v .head .kind ≡ kind) × OfKind kind M
 
--- M belongs to the union f; or (field ≡ true) the records M have fieldValues each key of the fields f what belongs to its union
+-- M belongs to the union f; or (field ≡ true) the records M have under each key of the fields f what belongs to its union
 abbrev pub Means : Bool → CountingType → List Value → Type 0
 Means true nil M = Unit {0}
 Means true (node l a c s) M = Means false c (fieldValues (l .key) M) × Means true s M

@@ -33,7 +33,7 @@ elementsOf v = cond (eqb (v .head .kind) arrayKind) (valuesOf (v .content)) []
 unfoldable pub elements : List Value → List Value
 elements M = flatMap elementsOf M
 
--- M/k: the values that the records of M have fieldValues key k
+-- M/k: the values that the records of M have under key k
 abbrev pub fieldOf : ℕ → Value → List Value
 fieldOf k v = cond (eqb (v .head .kind) recordKind) (valuesWith k (v .content)) []
 
@@ -79,38 +79,50 @@ gathered give (v ∷ M) = some (give v) ⊞ gathered give M
 abbrev pub valuePayload : Value → Payload
 valuePayload v = one (v .head) (v .content)
 
+unfoldable pub followAll : Equivalence → Reached → List Label → Reached
+followAll eq r [] = r
+followAll eq r (l ∷ q) = followAll eq (follow eq r l) q
+
+-- where a place of the values M leads; the empty path is no place
+unfoldable pub reached : Equivalence → List Value → List Label → Reached
+reached eq M [] = values []
+reached eq M (l ∷ q) = followAll eq (values (ofClass eq l M)) q
+
 -- the values there, or the records there that have the field
+unfoldable pub valuesReached : Reached → List Value
+valuesReached (values M) = M
+valuesReached (field k M) = having k M
+
+abbrev pub valuesAt : Equivalence → List Value → List Label → List Value
+valuesAt eq M place = valuesReached (reached eq M place)
+
+-- what they give together: a value its own payload, a record that has the field one
 unfoldable pub payloadReached : Reached → Option Payload
 payloadReached (values M) = gathered valuePayload M
 payloadReached (field k M) = gathered (λ v. oneField) (having k M)
 
-unfoldable pub payloadFrom : Equivalence → Reached → List Label → Option Payload
-payloadFrom eq r [] = payloadReached r
-payloadFrom eq r (l ∷ q) = payloadFrom eq (follow eq r l) q
-
-unfoldable pub payloadAt : Equivalence → List Value → List Label → Option Payload
-payloadAt eq M [] = absent
-payloadAt eq M (l ∷ q) = payloadFrom eq (values (ofClass eq l M)) q
+abbrev pub payloadAt : Equivalence → List Value → List Label → Option Payload
+payloadAt eq M place = payloadReached (reached eq M place)
 
 -- the profile has a place exactly if some value of the messages has it, with what these values give together
 abbrev pub Counts : Type 0
 Counts = (eq : Equivalence) (messages : Values) → Valid messages → (place : List Label) →
     lookup Counting (profileOf eq messages) place ≡ payloadAt eq (valuesOf messages) place
 
--- a payload's count is the number of the values that it is gathered from
+-- the count at a place is the number of values there; a field's is the number of records there that have it
 abbrev pub countOf : Option Payload → ℕ
 countOf absent = 0
 countOf (some a) = a .count
 
-abbrev pub NumberGathered : Type 0
-NumberGathered = ((M : List Value) → countOf (gathered valuePayload M) ≡ length M) × ((M : List Value) → countOf (gathered (λ v. oneField) M) ≡ length M)
+abbrev pub CountIsNumber : Type 0
+CountIsNumber = (eq : Equivalence) (M : List Value) (place : List Label) → countOf (payloadAt eq M place) ≡ length (valuesAt eq M place)
 
 -- a field's count is the total of its union
 abbrev pub FieldTotals : CountingType → Type 0
 FieldTotals nil = Unit {0}
 FieldTotals (node l a c s) = (l .kind ≡ fieldKind → a .count ≡ total Counting c) × FieldTotals c × FieldTotals s
 
--- fieldValues label, two records have one class exactly if they have the same keys
+-- under label, two records have one class exactly if they have the same keys
 abbrev pub LabelsApart : Type 0
 LabelsApart = (c d : Values) → Distinct (keys c) → Distinct (keys d) →
     (classOf byLabel recordKind c ≡ classOf byLabel recordKind d) ↔ ((k : ℕ) → member k (keys c) ≡ member k (keys d))

@@ -6,7 +6,7 @@ use mathlib.Core.Logic.{_⊎_}
 use mathlib.Core.Option.{Option, none, some}
 use Prim.Native.Nat.{ℕ, zero, suc, _+_, _*_, _-_, _≤_, _<_, pred}
 use lib.Dec.{eqb, ltb}
-use lib.ListN.{length}
+use lib.ListN.{length, take}
 use Rattle.byte_records.specs.Number.{Bytes}
 use Rattle.value_table.specs.Outcome.{accepted, refused}
 use Rattle.value_table.specs.Value.{Values, value}
@@ -15,10 +15,10 @@ use Rattle.value_table.specs.Judged.{judged, messages}
 use Rattle.counting_theory.specs.Trie.{size, lookup}
 use Rattle.counting_theory.specs.Label.{Equivalence, Label, Counting, CountingType}
 use Rattle.counting_theory.specs.Raw.{joinValues, profileOf}
-use Rattle.counting_theory.specs.Place.{valuesOf, payloadAt}
-use Rattle.counting_theory.specs.Encoding.{typeSize, encode}
-use Rattle.counting_theory.specs.WellFormed.{withinLimit, badTypeLength}
-use Rattle.counting_theory.specs.Answers.{equivalenceNumber, houseDefault, Written, Left, leaves, zeros, inferred, inferredDefault, merged}
+use Rattle.counting_theory.specs.Place.{valuesOf, valuesAt, payloadAt, countOf}
+use Rattle.counting_theory.specs.Encoding.{typeSize, encode, typeOf}
+use Rattle.counting_theory.specs.WellFormed.{withinLimit, badTypeLength, IsType}
+use Rattle.counting_theory.specs.Answers.{equivalenceNumber, houseDefault, Left, leaves, zeros, inferred, inferredDefault, merged}
 
 -- One call of a plan, with the buffers lent to it as they are beforehand: call 2, call 3, or call 5 on the i-th type at hand, as the
 -- first, and the j-th of the others, as the second.
@@ -36,23 +36,27 @@ pull i [] = none
 pull zero (x ∷ xs) = some (x, xs)
 pull (suc i) (x ∷ xs) = keep x (pull i xs)
 
+-- just the records in use: as many bytes of the arena as the answered records take
+abbrev pub inUse : Left → List ℕ
+inUse l = take (typeSize * l .outcome .count) (l .arena)
+
 -- The run of a plan on the types at hand, each given as just its records in use: what each call leaves, up to the first refusal.
 -- A merge that names no type at hand has no meaning; a way has none.
-unfoldable pub goOn : Written → Left → (List ℕ → List Left) → List Left
-goOn w l rest = elim (w .outcome .number) [ zero ↦ l ∷ rest (w .bytes) | suc n ↦ l ∷ [] ]
+unfoldable pub goOn : Left → (List ℕ → List Left) → List Left
+goOn l rest = elim (l .outcome .number) [ zero ↦ l ∷ rest (inUse l) | suc n ↦ l ∷ [] ]
 
 unfoldable pub run : Equivalence → List Call → List (List ℕ) → List Left
 run e [] hand = []
 run e (infer source arena work ∷ calls) hand =
-    let w = inferred source (equivalenceNumber e) (length arena) (length work) in goOn w (leaves w arena work) (λ b. run e calls (b ∷ hand))
+    goOn (leaves (inferred source (equivalenceNumber e) (length arena) (length work)) arena work) (λ b. run e calls (b ∷ hand))
 run e (inferDefault source arena work ∷ calls) hand =
-    let w = inferredDefault source (length arena) (length work) in goOn w (leaves w arena work) (λ b. run e calls (b ∷ hand))
+    goOn (leaves (inferredDefault source (length arena) (length work)) arena work) (λ b. run e calls (b ∷ hand))
 run e (merge i j arena ∷ calls) hand =
     elim (pull i hand) [
       | none ↦ []
       | some first ↦ elim (pull j (first .1)) [
         | none ↦ []
-        | some second ↦ let w = merged (first .0) (second .0) (equivalenceNumber e) (length arena) in goOn w (leaves w arena []) (λ b. run e calls (b ∷ second .1))
+        | some second ↦ goOn (leaves (merged (first .0) (second .0) (equivalenceNumber e) (length arena)) arena []) (λ b. run e calls (b ∷ second .1))
       ]
     ]
 
@@ -128,25 +132,43 @@ Ends n t [] = ⊥
 Ends n t (l ∷ []) = (WithinLimits n t × Final n t l) ⊎ ((¬ WithinLimits n t) × RefusedCall n t l)
 Ends n t (l ∷ (m ∷ ls)) = (l .outcome .number ≡ 0) × Ends n t (m ∷ ls)
 
-abbrev pub WorkZero : List Left → Type 0
-WorkZero [] = Unit {0}
-WorkZero (l ∷ ls) = (l .work ≡ zeros (length (l .work))) × WorkZero ls
+-- the working buffer lent to a call, zero: of the fixed length, and none to a merge
+abbrev pub zeroWork : ℕ → Call → List ℕ
+zeroWork n (infer source arena work) = zeros n
+zeroWork n (inferDefault source arena work) = zeros n
+zeroWork n (merge i j arena) = []
 
--- the last calls of two runs have the same answer and bytes, or are both refused
-abbrev pub LastAlike : List Left → List Left → Type 0
-LastAlike [] ms = ⊥
-LastAlike (l ∷ (k ∷ ls)) ms = LastAlike (k ∷ ls) ms
-LastAlike (l ∷ []) [] = ⊥
-LastAlike (l ∷ []) (m ∷ (k ∷ ms)) = LastAlike (l ∷ []) (k ∷ ms)
-LastAlike (l ∷ []) (m ∷ []) = ((l .outcome ≡ m .outcome) × (l .arena ≡ m .arena)) ⊎ ((1 ≤ l .outcome .number) × (1 ≤ m .outcome .number))
+-- each call that ran left its working buffer so
+abbrev pub WorkZero : ℕ → List Call → List Left → Type 0
+WorkZero n calls [] = Unit {0}
+WorkZero n [] (l ∷ ls) = ⊥
+WorkZero n (c ∷ calls) (l ∷ ls) = (l .work ≡ zeroWork n c) × WorkZero n calls ls
 
--- Condition 3 of one way, with t the profile of all its messages.
+-- there is a last call, and P holds of what it left
+abbrev pub AtLast : (Left → Type 0) → List Left → Type 0
+AtLast P [] = ⊥
+AtLast P (l ∷ []) = P l
+AtLast P (l ∷ (m ∷ ls)) = AtLast P (m ∷ ls)
+
+-- the same answer and bytes, or both refused
+abbrev pub Alike : Left → Left → Type 0
+Alike l m = ((l .outcome ≡ m .outcome) × (l .arena ≡ m .arena)) ⊎ ((1 ≤ l .outcome .number) × (1 ≤ m .outcome .number))
+
+-- The records in use are a well-formed type, which is the profile of the messages. Each count in those bytes is the number of values
+-- at that place in all the messages; a field's is the number of records there that have it.
+pub record HoldsProfile (e : Equivalence) (messages : Values) (l : Left) : Type 0 where
+  pub is-type : IsType e (inUse l) (typeOf e (inUse l))
+  pub profile : typeOf e (inUse l) ≡ profileOf e messages
+  pub payloads : (place : List Label) → lookup Counting (typeOf e (inUse l)) place ≡ payloadAt e (valuesOf messages) place
+  pub counts : (place : List Label) → countOf (lookup Counting (typeOf e (inUse l)) place) ≡ length (valuesAt e (valuesOf messages) place)
+
+-- Condition 3 of one way. Within the limits every call of the plan has run.
 pub record Repeatable (e : Equivalence) (n : ℕ) (plan : List Call) : Type 0 where
   pub ends : Ends n (profileOf e (planMessages plan)) (run e plan [])
-  pub work-zero : WorkZero (run e plan [])
-  pub alike : (other : List Call) → Way e n other → SameMessages plan other → LastAlike (run e plan []) (run e other [])
-  pub counts : (place : List Label) →
-      lookup Counting (profileOf e (planMessages plan)) place ≡ payloadAt e (valuesOf (planMessages plan)) place
+  pub alike : (other : List Call) → Way e n other → SameMessages plan other → AtLast (λ l. AtLast (Alike l) (run e other [])) (run e plan [])
+  pub unrefused : WithinLimits n (profileOf e (planMessages plan)) →
+      (length (run e plan []) ≡ length plan) × AtLast (HoldsProfile e (planMessages plan)) (run e plan [])
+  pub work-zero : WorkZero n plan (run e plan [])
 
 -- the one claim, over every way
 abbrev pub EveryWay : Type 0

@@ -1,4 +1,4 @@
--- The profile has at each place the number of values that have it.
+-- The profile has at each place what the values there give together.
 use mathlib.Core.Path.{_≡_, refl, _∙_, ap}
 use mathlib.Core.Bool.{Bool, true, false, cond}
 use mathlib.Core.List.{List, [], _∷_}
@@ -6,7 +6,7 @@ use Rattle.counting_theory.specs.Payload.{oneField}
 use Rattle.counting_theory.specs.Trie.{lookup}
 use Rattle.counting_theory.specs.Label.{Equivalence, Label, fieldLabel, Counting, CountingType}
 use Rattle.counting_theory.specs.Raw.{raw, profileOf}
-use Rattle.counting_theory.specs.Place.{Value, valuesOf, elements, fieldValues, sameLabel, ofClass, Reached, values, field, follow, having, payloadReached, payloadFrom, payloadAt, Counts}
+use Rattle.counting_theory.specs.Place.{Value, valuesOf, elements, fieldValues, sameLabel, ofClass, Reached, values, field, follow, having, followAll, reached, gathered, payloadReached, payloadAt, Counts}
 use Rattle.counting_theory.proofs.Label.{counting-laws}
 use Rattle.counting_theory.proofs.Trie.Canonical.{lookup-root}
 use Rattle.counting_theory.proofs.Trie.Profile.{lookup-profile}
@@ -44,13 +44,13 @@ module _ (e : Equivalence) where
       )
       go false i = (valid-class e l (elements M) (valid-elements M h), λ q. contents-element e l q M h i ∙ lookup-class e l q (elements M))
 
-  counts-from : (q : List Label) (r : Reached) → ValidReached r → tally (payloadReached r) (lookup Counting (below r) q) q ≡ payloadFrom e r q
-  unfolding tally payloadFrom
+  counts-from : (q : List Label) (r : Reached) → ValidReached r → tally (payloadReached r) (lookup Counting (below r) q) q ≡ payloadReached (followAll e r q)
+  unfolding tally followAll
   counts-from [] r h = refl
   counts-from (l ∷ q) r h = let s = step r l h in s .1 q ∙ counts-from q (follow e r l) (s .0)
 
   counts-raw : (M : List Value) → EachValid M → (q : List Label) → lookup Counting (rawOf e M) q ≡ payloadAt e M q
-  unfolding payloadAt payloadReached
+  unfolding reached payloadReached gathered
   counts-raw M h [] = lookup-root counting-laws (rawOf e M)
   counts-raw M h (l ∷ q) = lookup-class e l q M ∙ counts-from q (values (ofClass e l M)) (valid-class e l M h)
 

@@ -24,7 +24,7 @@ use Rattle.counting_theory.proofs.Trie.Profile.{lookup-profile}
 use Rattle.counting_theory.proofs.Published.Addends.{addend-found}
 use Rattle.counting_theory.proofs.Values.Every.{EachValid, valid-class, valid-values, valid-elements, valid-under}
 use Rattle.counting_theory.proofs.Values.Labels.{same-refl, same-label, lookup-other}
-use Rattle.counting_theory.proofs.Values.Tally.{tally, some-joined, number-gathered}
+use Rattle.counting_theory.proofs.Values.Tally.{tally, some-joined, length-values}
 use Rattle.counting_theory.proofs.Values.Raw.{contents, rawOf, raw-values, rawOf-append, lookup-class}
 use Rattle.counting_theory.proofs.Values.Contents.{inside-other, contents-field, contents-element}
 use Rattle.counting_theory.proofs.Values.Others.{others, class-perm, valid-others, class-kind, others-same, others-other}
@@ -103,7 +103,7 @@ module _ (e : Equivalence) where
     class-count : length (ofClass e l M) ≡ a .count
     unfolding tally atEnd
     class-count =
-        sym (number-gathered .0 (ofClass e l M))
+        sym (length-values (ofClass e l M))
         ∙ ap countOf (sym (lookup-class e l [] M) ∙ sym (h (l ∷ [])) ∙ lookup-head counting-laws l a c s [] u)
 
     class-contents : SameMap Counting c (contents e (ofClass e l M))

@@ -7,7 +7,7 @@ use lib.ListN.{length}
 use Rattle.counting_theory.specs.Payload.{Payload, oneField, join}
 use Rattle.counting_theory.specs.Trie.{atEnd, _⊞_ as joinOption}
 use Rattle.counting_theory.specs.Label.{Label}
-use Rattle.counting_theory.specs.Place.{Value, _⊞_, gathered, valuePayload, countOf, NumberGathered}
+use Rattle.counting_theory.specs.Place.{Value, _⊞_, Reached, values, field, reached, having, gathered, valuePayload, valuesReached, payloadReached, countOf, CountIsNumber}
 use Rattle.counting_theory.proofs.Payload.{count-join, count-one, count-field}
 use Rattle.counting_theory.proofs.Label.{counting-laws}
 use Rattle.counting_theory.proofs.Trie.Join.{⊞-assoc}
@@ -61,5 +61,13 @@ gathered-same a [] (w ∷ N) h = absurd (omega arith)
 gathered-same a (v ∷ M) [] h = absurd (omega arith)
 gathered-same a (v ∷ M) (w ∷ N) h = ap (λ x. some a ⊞ x) (gathered-same a M N (omega arith))
 
-pub number-gathered : NumberGathered
-number-gathered = (count-gathered valuePayload (λ v. count-one (v .head) (v .content)), count-gathered (λ v. oneField) (λ v. count-field))
+pub length-values : (M : List Value) → countOf (gathered valuePayload M) ≡ length M
+length-values = count-gathered valuePayload (λ v. count-one (v .head) (v .content))
+
+count-reached : (r : Reached) → countOf (payloadReached r) ≡ length (valuesReached r)
+unfolding payloadReached valuesReached
+count-reached (values M) = length-values M
+count-reached (field k M) = count-gathered (λ v. oneField) (λ v. count-field) (having k M)
+
+pub count-is-number : CountIsNumber
+count-is-number e M place = count-reached (reached e M place)

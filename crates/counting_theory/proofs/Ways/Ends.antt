@@ -1,13 +1,11 @@
 -- A way ends as the profile of all its messages says: each type at hand is the profile of some of them.
-use mathlib.Core.Path.{_≡_, refl, sym, _∙_, ap}
-use mathlib.Core.Bool.{Bool, true, false, cond, _&&_}
+use mathlib.Core.Path.{_≡_, refl, _∙_, ap}
+use mathlib.Core.Bool.{false}
 use mathlib.Core.List.{List, [], _∷_, map, List·Permᴰ·cons, List·Permᴰ·trans, Permᴰ·map}
-use mathlib.Core.Option.{Option, none, some}
-use Prim.Native.Nat.{ℕ, suc, _<_, pred}
+use mathlib.Core.Option.{some}
+use Prim.Native.Nat.{ℕ, suc, pred}
 use native.Mathlib.Omega.{arith}
-use lib.Dec.{ltb}
 use lib.ListN.{length}
-use borrow.Author.Tests.{ltb-true}
 use Rattle.value_table.specs.Value.{Values, Valid}
 use Rattle.value_table.specs.Judged.{messages}
 use Rattle.counting_theory.specs.Label.{Equivalence, CountingType}
@@ -15,33 +13,17 @@ use Rattle.counting_theory.specs.Raw.{raw, profileOf, joinValues}
 use Rattle.counting_theory.specs.Encoding.{encode}
 use Rattle.counting_theory.specs.WellFormed.{badTypeLength, IsType, EachFits}
 use Rattle.counting_theory.specs.Answers.{Left, leaves, equivalenceNumber, merged, mergedTypes}
-use Rattle.counting_theory.specs.Ways.{Call, infer, inferDefault, merge, pull, goOn, run, atHand, Accepted, AllAllowed, Way, planMessages, WithinLimits, Ends}
-use Rattle.counting_theory.proofs.Trie.Canonical.{some-none}
+use Rattle.counting_theory.specs.Ways.{Call, infer, inferDefault, merge, goOn, run, atHand, Accepted, AllAllowed, Way, planMessages, WithinLimits, Ends}
 use Rattle.counting_theory.proofs.WellFormed.Closed.{profile-type}
 use Rattle.counting_theory.proofs.WellFormed.AcceptsExactly.{type-length}
 use Rattle.counting_theory.proofs.WellFormed.Profile.{fits-run}
 use Rattle.counting_theory.proofs.Ways.Same.{fits-join}
 use Rattle.counting_theory.proofs.Values.Join.{reduce-join, valid-join}
 use Rattle.counting_theory.proofs.Ways.Pull.{Pulled, pulled}
+use Rattle.counting_theory.proofs.Ways.Runs.{run-merge, merge-parts}
 use Rattle.counting_theory.proofs.Ways.Calls.{accepted-table, inferred-profile, default-profile, merged-types}
 use Rattle.counting_theory.proofs.Ways.AllMessages.{profile-only, Whole, whole-read, whole-merged, whole-last, whole-part}
 use Rattle.counting_theory.proofs.Ways.Written.{After, written-ends}
-
-run-merge : (e : Equivalence) (i j : ℕ) (arena : List ℕ) (calls : List Call) (hand others rest : List (List ℕ)) (first second : List ℕ) →
-    pull i hand ≡ some (first, others) → pull j others ≡ some (second, rest) →
-    let w = merged first second (equivalenceNumber e) (length arena) in
-    run e (merge i j arena ∷ calls) hand ≡ goOn w (leaves w arena []) (λ b. run e calls (b ∷ rest))
-unfolding run
-run-merge e i j arena calls hand others rest first second p q = rw (p, run, q, run) refl
-
--- a merge names two of the h types at hand
-merge-parts : (i j h : ℕ) (o : Option ℕ) → cond (ltb i h && ltb (suc j) h) o none ≡ some 1 → (i < h) × (suc j < h) × (o ≡ some 1)
-merge-parts i j h o e = go (ltb i h) (ltb (suc j) h) refl refl e
-  where
-    go : (a b : Bool) → ltb i h ≡ a → ltb (suc j) h ≡ b → cond (a && b) o none ≡ some 1 → (i < h) × (suc j < h) × (o ≡ some 1)
-    go true true x y z = (ltb-true i h x, ltb-true (suc j) h y, z)
-    go true false x y z = absurd (some-none (sym z))
-    go false b x y z = absurd (some-none (sym z))
 
 module _ (e : Equivalence) (n : ℕ) where
   -- a type at hand, by the messages that went into it
@@ -82,8 +64,7 @@ module _ (e : Equivalence) (n : ℕ) where
     -- a call that writes the profile of ms
     call-ends : (calls : List Call) (hand : List HandType) (ms : Values) (arena work : List ℕ) → Valid ms → EachFits ms → length arena ≡ n →
         Whole e t (planMessages calls) (raw e false ms ∷ map handRaw hand) → ((x : HandType) → RunEnds calls (x ∷ hand)) →
-        let w = mergedTypes (profileOf e ms) n in
-        Ends n t (goOn w (leaves w arena work) (λ b. run e calls (b ∷ map handBytes hand)))
+        Ends n t (goOn (leaves (mergedTypes (profileOf e ms) n) arena work) (λ b. run e calls (b ∷ map handBytes hand)))
     call-ends calls hand ms arena work valid fits fixed w later =
         written-ends n t (profileOf e ms) arena work fixed (λ b. run e calls (b ∷ map handBytes hand))
         (whole-part e t (planMessages calls) ms (map handRaw hand) w)
@@ -91,8 +72,7 @@ module _ (e : Equivalence) (n : ℕ) where
 
     read-ends : (calls : List Call) (hand : List HandType) (source arena work : List ℕ) → Accepted source → length arena ≡ n →
         Whole e t (joinValues (messages source) (planMessages calls)) (map handRaw hand) → ((x : HandType) → RunEnds calls (x ∷ hand)) →
-        let w = mergedTypes (profileOf e (messages source)) n in
-        Ends n t (goOn w (leaves w arena work) (λ b. run e calls (b ∷ map handBytes hand)))
+        Ends n t (goOn (leaves (mergedTypes (profileOf e (messages source)) n) arena work) (λ b. run e calls (b ∷ map handBytes hand)))
     read-ends calls hand source arena work a fixed w =
         call-ends calls hand (messages source) arena work (accepted-table source a .valid) (fits-run (messages source) (accepted-table source a .room)) fixed
         (whole-read e t (messages source) (planMessages calls) (map handRaw hand) w)

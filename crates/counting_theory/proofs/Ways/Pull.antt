@@ -29,3 +29,9 @@ module _ {A B : Type 0} (h : A → B) where
         same = List·Permᴰ·trans (List·Permᴰ·cons refl (p .same)) (List·Permᴰ·swap refl refl);
         fewer = ap suc (p .fewer);
       }
+
+pub pull-found : {A : Type 0} (i : ℕ) (xs : List A) → i < length xs → (x : A) × (rest : List A) × (pull i xs ≡ some (x, rest)) × (length xs ≡ suc (length rest))
+unfolding pull
+pull-found i [] below = absurd (omega arith)
+pull-found zero (x ∷ xs) below = (x, xs, refl, refl)
+pull-found (suc i) (x ∷ xs) below = let p = pull-found i xs (omega arith) in (p .0, x ∷ p .1, rw (p .2) refl, ap suc (p .3))
