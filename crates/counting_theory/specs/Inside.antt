@@ -2,3 +2,4 @@
 pub mod TrieLaws
 pub mod Times
 pub mod TypeBytes
+pub mod RecordsHold

@@ -9,7 +9,8 @@ use Rattle.counting_theory.specs.Label.{Equivalence, CountingType}
 use Rattle.counting_theory.specs.Encoding.{typeSpan}
 use Rattle.counting_theory.specs.Inside.TypeBytes.{typeCount}
 use Rattle.counting_theory.specs.WellFormed.{maxTotal}
-use Rattle.counting_theory.proofs.WellFormed.RecordsHold.{RecordsHold, holds-first}
+use Rattle.counting_theory.specs.Inside.RecordsHold.{RecordsHold}
+use Rattle.counting_theory.proofs.WellFormed.RecordsHold.{holds-first}
 use Rattle.report.specs.Report.{largestCount}
 use Rattle.report.specs.Inside.Walk.{largestFrom, Shares}
 

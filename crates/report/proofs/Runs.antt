@@ -17,7 +17,8 @@ use Rattle.counting_theory.specs.WellFormed.{depthInside}
 use Rattle.counting_theory.proofs.Label.{kind-eq}
 use Rattle.counting_theory.proofs.Tagged.Parts.{holdsFields, Shape, tagged-parts}
 use Rattle.counting_theory.proofs.Encoding.Header.{length-encode}
-use Rattle.counting_theory.proofs.WellFormed.RecordsHold.{RecordsHold, holds-first}
+use Rattle.counting_theory.specs.Inside.RecordsHold.{RecordsHold}
+use Rattle.counting_theory.proofs.WellFormed.RecordsHold.{holds-first}
 use Rattle.type_arena.specs.Inside.Addend.{Coded}
 use Rattle.type_arena.proofs.FirstAddend.{coded-type}
 use Rattle.report.specs.Report.{wholeInside, linesOf}

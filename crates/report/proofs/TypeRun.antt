@@ -19,7 +19,7 @@ use Rattle.counting_theory.proofs.Tagged.Parts.{Shape, tagged-parts}
 use Rattle.counting_theory.proofs.Encoding.Header.{length-encode}
 use Rattle.counting_theory.proofs.WellFormed.Nodes.{counted-parts, fieldCounts-parts}
 use Rattle.counting_theory.proofs.WellFormed.Fitting.{weight-addend}
-use Rattle.counting_theory.proofs.WellFormed.RecordsHold.{RecordsHold}
+use Rattle.counting_theory.specs.Inside.RecordsHold.{RecordsHold}
 use Rattle.counting_theory.proofs.WellFormed.AcceptsExactly.{type-holds}
 use Rattle.type_arena.specs.Inside.Addend.{Coded, Union}
 use Rattle.type_arena.proofs.FirstAddend.{type-coded}

@@ -19,7 +19,7 @@ use Rattle.counting_theory.proofs.Encoding.Decode.{decode-run}
 use Rattle.counting_theory.proofs.WellFormed.Tests.{both}
 use Rattle.counting_theory.proofs.WellFormed.Rules.{Rules, obeys-rules, rules-obeys}
 use Rattle.counting_theory.proofs.WellFormed.Fitting.{type-fitting}
-use Rattle.counting_theory.proofs.WellFormed.RecordsHold.{RecordsHold}
+use Rattle.counting_theory.specs.Inside.RecordsHold.{RecordsHold}
 use Rattle.counting_theory.proofs.WellFormed.LaidOut.{held-laid, laid-held}
 
 -- no refusal 1

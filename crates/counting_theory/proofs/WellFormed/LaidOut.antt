@@ -20,7 +20,8 @@ use Rattle.counting_theory.proofs.Encoding.Node.{NodeAt}
 use Rattle.counting_theory.proofs.WellFormed.Tests.{three-parts, three}
 use Rattle.counting_theory.proofs.WellFormed.Nodes.{KeyOrDepth, depthUnder, shallow-parts, counted-parts}
 use Rattle.counting_theory.proofs.WellFormed.Record.{OwnRecord, TypeRecord, type-record, record-test}
-use Rattle.counting_theory.proofs.WellFormed.RecordsHold.{RecordsHold, holds-nil, labelWith, holds-node, holds-first}
+use Rattle.counting_theory.specs.Inside.RecordsHold.{RecordsHold}
+use Rattle.counting_theory.proofs.WellFormed.RecordsHold.{holds-nil, labelWith, holds-node, holds-first}
 
 -- what stands inside record i, told by its kind and by the label
 pub inside-label : (b : List ℕ) (i : ℕ) (field : Bool) (l : Label) → typeKind b i ≡ l .kind → fieldsInside b i field ≡ holdsFields field l

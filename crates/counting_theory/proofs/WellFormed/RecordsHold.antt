@@ -1,30 +1,22 @@
--- Records that hold a type, and the step from a node to its children and to the nodes behind it.
+-- Laws of records that hold a type: the step from a node to its children and to the nodes behind it.
 use mathlib.Core.Path.{_≡_, refl, _∙_}
 use mathlib.Core.Bool.{Bool, true, false}
-use mathlib.Core.List.{List, _++_, append-assoc}
+use mathlib.Core.List.{List, append-assoc}
 use Prim.Native.Nat.{ℕ, _+_, _*_, _≤_, _<_}
 use native.Mathlib.Omega.{arith}
-use lib.ListN.{length, drop}
+use lib.ListN.{length}
 use Rattle.byte_records.specs.Number.{Bytes}
 use Rattle.counting_theory.specs.Payload.{Payload}
 use Rattle.counting_theory.specs.Trie.{nil, node, size}
 use Rattle.counting_theory.specs.Label.{Equivalence, Label, listed, labelOf, CountingType}
-use Rattle.counting_theory.specs.Encoding.{typeSize, typeKind, typeKey, typeSpan, typePayload, encode, siblingKeys, Tagged}
+use Rattle.counting_theory.specs.Encoding.{typeSize, typeKind, typeKey, typeSpan, typePayload, encode, siblingKeys}
 use Rattle.counting_theory.specs.Inside.TypeBytes.{Fitting}
-use Rattle.counting_theory.specs.WellFormed.{Shallow}
+use Rattle.counting_theory.specs.Inside.RecordsHold.{RecordsHold}
 use Rattle.counting_theory.proofs.Tagged.Parts.{holdsFields, Shape, listed-field, tagged-parts, parts-tagged}
 use Rattle.counting_theory.proofs.Encoding.Header.{typeKey-below, header-fits, header-written}
 use Rattle.counting_theory.proofs.Encoding.Node.{NodeAt, node-read}
 use Rattle.counting_theory.proofs.WellFormed.Nodes.{KeyOrDepth, depthUnder, shallow-parts, parts-shallow}
 use Rattle.counting_theory.proofs.WellFormed.Record.{OwnRecord, TypeRecord}
-
--- records i to end of b hold f, a union or (field ≡ true) a run of fields at this depth
-pub record RecordsHold (e : Equivalence) (b : List ℕ) (i end : ℕ) (field : Bool) (depth : ℕ) (f : CountingType) : Type 0 where
-  pub bytes : drop (typeSize * i) b ≡ encode f ++ drop (typeSize * end) b
-  pub ends : i + size f ≡ end
-  pub tagged : Tagged e field f
-  pub shallow : Shallow field depth f
-  pub fitting : Fitting f
 
 size-zero : (f : CountingType) → size f ≡ 0 → f ≡ nil
 unfolding size

@@ -11,7 +11,7 @@ use Rattle.counting_theory.specs.Label.{Equivalence, Counting, CountingType}
 use Rattle.counting_theory.specs.Encoding.{typeSize, typeKind, typeKey, typeSpan, typeOf}
 use Rattle.counting_theory.specs.Inside.TypeBytes.{typeCount}
 use Rattle.counting_theory.specs.WellFormed.{maxTotal, depthInside}
-use Rattle.counting_theory.proofs.WellFormed.RecordsHold.{RecordsHold}
+use Rattle.counting_theory.specs.Inside.RecordsHold.{RecordsHold}
 use Rattle.type_arena.specs.Inside.Addend.{Coded}
 use Rattle.report.specs.Line.{share, lineOf}
 use Rattle.report.specs.Report.{wholeInside}

@@ -17,7 +17,8 @@ use Rattle.counting_theory.specs.WellFormed.{maxTotal, counted, fieldsOf, field
 use Rattle.type_check.specs.Inside.Checker.{Run, addends, fields, totalOf, fits, after, content, checkRun}
 use Rattle.counting_theory.proofs.WellFormed.Nodes.{counted-parts}
 use Rattle.counting_theory.proofs.WellFormed.Record.{TypeRecord}
-use Rattle.counting_theory.proofs.WellFormed.RecordsHold.{RecordsHold, holds-nil, holds-first, labelWith}
+use Rattle.counting_theory.specs.Inside.RecordsHold.{RecordsHold}
+use Rattle.counting_theory.proofs.WellFormed.RecordsHold.{holds-nil, holds-first, labelWith}
 use Rattle.counting_theory.proofs.WellFormed.LaidOut.{inside-label, record-held, holds-record}
 use Rattle.type_check.proofs.OnePass.Fits.{isFields, depthOf, Follows, fits-record, record-fits}
 use Rattle.type_check.proofs.OnePass.OneRecord.{check-end, check-step}

@@ -16,7 +16,8 @@ use Rattle.counting_theory.specs.Inside.TypeBytes.{typeCount}
 use Rattle.counting_theory.specs.WellFormed.{maxTotal, holdsFields as fieldsInside, depthInside}
 use Rattle.type_check.specs.Inside.Checker.{Run, addends, fields, totalOf, after, content, agrees}
 use Rattle.counting_theory.proofs.WellFormed.Fitting.{weight-addend}
-use Rattle.counting_theory.proofs.WellFormed.RecordsHold.{RecordsHold, holds-first}
+use Rattle.counting_theory.specs.Inside.RecordsHold.{RecordsHold}
+use Rattle.counting_theory.proofs.WellFormed.RecordsHold.{holds-first}
 use Rattle.type_check.proofs.OnePass.Fits.{isFields, depthOf, Follows}
 use Rattle.type_check.proofs.OnePass.Rest.{sumOf, Totals}
 

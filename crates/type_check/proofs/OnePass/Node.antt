@@ -20,7 +20,8 @@ use Rattle.counting_theory.proofs.Label.{kind-eq, compare-fields}
 use Rattle.counting_theory.proofs.WellFormed.Tests.{both}
 use Rattle.counting_theory.proofs.WellFormed.Fitting.{weight-addend}
 use Rattle.counting_theory.proofs.WellFormed.Record.{TypeRecord}
-use Rattle.counting_theory.proofs.WellFormed.RecordsHold.{RecordsHold, holds-first}
+use Rattle.counting_theory.specs.Inside.RecordsHold.{RecordsHold}
+use Rattle.counting_theory.proofs.WellFormed.RecordsHold.{holds-first}
 use Rattle.type_arena.proofs.Nodes.{fitting-heads, node-in}
 use Rattle.type_check.proofs.OnePass.Fits.{isFields, depthOf, Follows}
 use Rattle.type_check.proofs.OnePass.Ruled.{NodeRuled, ruled-node, ruled-parts}
