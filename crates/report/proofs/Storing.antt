@@ -5,9 +5,9 @@ use Prim.Native.Nat.{ℕ, zero, suc, _+_, _≤_}
 use native.Mathlib.Numerals.{add-one}
 use native.Mathlib.Omega.{arith}
 use lib.ListN.{length, take, drop, replicate, set, length-set, length-append}
-use lib.Seq.{sets, length-sets, sets-eq, take-at, drop-at}
+use lib.Seq.{sets, length-sets, sets-eq, length-take-le}
 use Rattle.byte_records.proofs.Sets.{sets-append}
-use Rattle.report.specs.Decimal.{TextInFront}
+use Rattle.report.specs.Decimal.{leavesText, textLeft}
 use Rattle.report.specs.Inside.Room.{TextStored}
 
 -- a part of a run of one byte
@@ -51,15 +51,19 @@ stored-then {s} {p} {xs} {s₁} {q} {ys} {s₂} {r} h i =
     }
 
 -- what was stored at the start of a buffer that has room for it
-pub stored-front : {s xs s′ : List ℕ} {n : ℕ} → TextStored s 0 xs s′ n → n ≤ length s → TextInFront s xs s′ n
+pub stored-front : {s xs s′ : List ℕ} {n : ℕ} → TextStored s 0 xs s′ n → n ≤ length s → textLeft n s′ ≡ leavesText xs s
+unfolding leavesText
 stored-front {s} {xs} {s′} {n} h i =
-    let e : 0 + length xs ≡ n = sym (h .behind) in
-    let k : length xs ≡ n = omega arith in
-    let whole : s′ ≡ xs ++ drop n s = h .bytes ∙ sets-eq xs s 0 (omega arith) ∙ rw e refl in
-    let front : take n s′ ≡ xs = rw whole (take-at xs (drop n s) n k) in
-    record {
-      front = front;
-      rest = rw whole (drop-at xs (drop n s) n k);
-      within = rw (h .bytes, length-sets s 0 xs) i;
-      counted = rw front (sym k);
-    }
+    let z : 0 + length xs ≡ length xs = omega arith in
+    let k : n ≡ length xs = h .behind ∙ z in
+    let all : s′ ≡ xs ++ drop (length xs) s = rw z at (h .bytes ∙ sets-eq xs s 0 (omega arith)) in
+    λ j. record { count = k j; buffer = all j }
+
+-- the bytes that are answered stand in the buffer, so a caller may hand them on
+module _ (xs s : List ℕ) {n : ℕ} {s′ : List ℕ} (left : textLeft n s′ ≡ leavesText xs s) where
+  pub left-within : n ≤ length s′
+  unfolding leavesText
+  left-within = omega (arith, ap (λ l. l .count) left, ap (λ l. length (l .buffer)) left, length-append xs (drop (length xs) s))
+
+  pub left-counted : n ≡ length (take n s′)
+  left-counted = sym (length-take-le n s′ left-within)

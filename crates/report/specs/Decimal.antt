@@ -1,12 +1,11 @@
 -- Texts and decimal numbers, as ASCII bytes, and the buffers that they are stored in.
 use mathlib.Core.List.{List, [], _∷_, _++_}
-use mathlib.Core.Path.{_≡_}
 use mathlib.Core.Bool.{true, false}
-use Prim.Native.Nat.{ℕ, zero, suc, _+_, _-_, _/_, _%_, _^_, _≤_}
+use Prim.Native.Nat.{ℕ, zero, suc, _+_, _-_, _/_, _%_, _^_}
 use Prim.Native.Char.{code}
 use Prim.Native.String.{String, [] as empty, _∷_ as _then_}
 use lib.Dec.{ltb}
-use lib.ListN.{length, take, drop, replicate}
+use lib.ListN.{length, drop, replicate}
 
 abbrev pub text : String → List ℕ
 text empty = []
@@ -33,10 +32,13 @@ decimal n = digits (digitCount n) n
 abbrev pub padded : ℕ → ℕ → List ℕ
 padded width n = replicate (width - digitCount n) 32 ++ decimal n
 
--- A buffer s, afterwards s′, that holds xs in its first n bytes and is unchanged behind them. The last two parts are what a caller
--- that hands on the first n bytes has to know.
-pub record TextInFront (s xs s′ : List ℕ) (n : ℕ) : Type 0 where
-  pub front : take n s′ ≡ xs
-  pub rest : drop n s′ ≡ drop n s
-  pub within : n ≤ length s′
-  pub counted : n ≡ length (take n s′)
+-- What storing a text at the front of a buffer answers and leaves: the number of its bytes, and the buffer, unchanged behind them.
+pub record TextLeft : Type 0 where
+  pub count : ℕ
+  pub buffer : List ℕ
+
+unfoldable pub leavesText : List ℕ → List ℕ → TextLeft
+leavesText xs before = record { count = length xs; buffer = xs ++ drop (length xs) before }
+
+abbrev pub textLeft : ℕ → List ℕ → TextLeft
+textLeft n after = record { count = n; buffer = after }

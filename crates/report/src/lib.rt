@@ -14,11 +14,12 @@ use type_arena::type_record;
 use value_table::record;
 use walk::largest_count;
 use walk::put_run;
+ghost use mathlib.Core.Path.{_≡_};
 ghost use Prim.Native.Nat.{_*_, _≤_};
 ghost use lib.ListN.{length};
 ghost use Rattle.counting_theory.specs.Encoding.{typeRecords, typeOf};
 ghost use Rattle.counting_theory.specs.WellFormed.{maxTotal, IsType};
-ghost use Rattle.report.specs.Decimal.{TextInFront};
+ghost use Rattle.report.specs.Decimal.{leavesText, textLeft};
 ghost use Rattle.report.specs.Line.{refusalLine};
 ghost use Rattle.report.specs.Inside.Room.{lineLimit, refusalLimit};
 ghost use Rattle.report.specs.Report.{report, programEquivalence, printed};
@@ -32,7 +33,7 @@ pub const TEXT_LIMIT: usize = LINE_LIMIT * (ARENA_LENGTH / type_record::SIZE);
 // Stores the report of a well-formed type at the front of the buffer, and answers its length.
 fn put_report(bytes: &[u8], out: &mut [u8]) -> usize
     requires { ⌜ IsType programEquivalence (now bytes) (typeOf programEquivalence (now bytes)) × (lineLimit * typeRecords (now bytes) ≤ length (now out)) ⌝ }
-    ensures { λ r. ⌜ TextInFront (now (out .entry)) (report (typeOf programEquivalence (now (bytes .entry)))) (now (out .exit)) r ⌝ }
+    ensures { λ r. ⌜ textLeft r (now (out .exit)) ≡ leavesText (report (typeOf programEquivalence (now (bytes .entry)))) (now (out .entry)) ⌝ }
 {
     let n = bytes.len() / type_record::SIZE;
     let width = digit_count(largest_count(bytes, n));
@@ -43,7 +44,7 @@ fn put_report(bytes: &[u8], out: &mut [u8]) -> usize
 // Stores the line of a refusal at the front of the buffer, and answers its length.
 fn put_refusal(number: usize, place: usize, out: &mut [u8]) -> usize
     requires { ⌜ (number ≤ maxTotal) × (place ≤ maxTotal) × (refusalLimit ≤ length (now out)) ⌝ }
-    ensures { λ r. ⌜ TextInFront (now (out .entry)) (refusalLine number place) (now (out .exit)) r ⌝ }
+    ensures { λ r. ⌜ textLeft r (now (out .exit)) ≡ leavesText (refusalLine number place) (now (out .entry)) ⌝ }
 {
     let first = put_text(out, 0, b"refused ");
     let second = put_number_and(out, first, number, b' ');
@@ -52,7 +53,7 @@ fn put_refusal(number: usize, place: usize, out: &mut [u8]) -> usize
 
 // Stores what the profile program prints for its input at the front of the buffer, and answers its length.
 pub fn put_profile(input: &[u8], out: &mut [u8; TEXT_LIMIT]) -> usize
-    ensures { λ r. ⌜ TextInFront (now (out .entry)) (printed (now (input .entry))) (now (out .exit)) r ⌝ }
+    ensures { λ r. ⌜ textLeft r (now (out .exit)) ≡ leavesText (printed (now (input .entry))) (now (out .entry)) ⌝ }
 {
     let mut arena = [0u8; ARENA_LENGTH];
     let mut work = [0u8; ARENA_LENGTH];

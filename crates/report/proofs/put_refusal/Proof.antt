@@ -14,7 +14,8 @@ returns c =
     let number = c .before .before .before .before .before .before .put-number-and .ensures in
     let place = c .before .before .put-number-and2 .ensures in
     let all = stored-then word (stored-then (number .0) (place .0)) in
-    stored-front (simp append-assoc (simp append-assoc at all)) (omega (arith, word .behind, number .1, place .1, c .before .before .before .before .before .before .before .before .before .before .before .before .before .before .pre .2))
+    let start = c .before .before .before .before .before .before .before .before .before .before .before .before .before .before in
+    stored-front {s = start .args .out .now} {xs = refusalLine (start .args .number) (start .args .place)} (simp append-assoc (simp append-assoc at all)) (omega (arith, word .behind, number .1, place .1, start .pre .2))
 
 pub put-refusal-spec : {M : Type 1} → statement M
 put-refusal-spec =
