@@ -7,8 +7,8 @@ use native.Mathlib.Omega.{arith}
 use lib.ListN.{length, take, length-take}
 use lib.Seq.{sets, sets-eq, take-at}
 use borrow.Author.Tests.{lt-ltb, le-ltb, not-true, not-false}
-use Rattle.value_table.specs.declared.TableRefusal as faulty
-use Rattle.value_table.specs.declared.TableRefusal.the-variants as faults
+use Rattle.value_table.specs.declared.Fault.{Fault}
+use Rattle.value_table.specs.declared.Fault.the-variants as faults
 use Rattle.value_table.specs.Outcome.{accepted, refused}
 use Rattle.value_table.specs.Outcome as table
 use Rattle.answers.specs.declared.Answered.{Answered}
@@ -29,10 +29,9 @@ use Rattle.answers.proofs.Exact.{Exact, cleared-arena}
 pub front-refused : {w : Written} (why : Refusal) (place : ℕ) (arena : List ℕ) → w ≡ turnedDown (numberOfRefusal why) place → WrittenInFront w (Refused why place) arena
 front-refused why place arena e = rw e (record { outcome = refl; bytes = refl })
 
--- a table that is refused is refused to the inference as well
-pub refused-from : (why : faulty.TableRefusal) (place : ℕ) (e : Equivalence) (b : List ℕ) (n : ℕ) →
-    inferredFrom (refused (table.numberOfRefusal why) place) e b n ≡ turnedDown (table.numberOfRefusal why) place
-refused-from faults.Length place e b n = refl
+-- a table with a fault is refused to the inference as well
+pub refused-from : (fault : Fault) (place : ℕ) (e : Equivalence) (b : List ℕ) (n : ℕ) →
+    inferredFrom (refused (table.numberOfFault fault) place) e b n ≡ turnedDown (table.numberOfFault fault) place
 refused-from faults.Kind place e b n = refl
 refused-from faults.Span place e b n = refl
 refused-from faults.Key place e b n = refl

@@ -13,7 +13,7 @@ use Rattle.answers.specs.declared.Refusal.the-variants.{Length, Equivale
 abbrev pub numberOfRefusal : Refusal → ℕ
 numberOfRefusal Length = 1
 numberOfRefusal Equivalence = 2
-numberOfRefusal (Table fault) = table.numberOfRefusal fault
+numberOfRefusal (Table fault) = table.numberOfFault fault
 numberOfRefusal First = 8
 numberOfRefusal Second = 9
 numberOfRefusal Total = 10

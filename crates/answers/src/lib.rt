@@ -7,12 +7,12 @@ ghost use Rattle.value_table.specs.Outcome.{outcomeOfAnswer};
 ghost use Rattle.counting_theory.specs.Encoding.{typeSize};
 ghost use Rattle.answers.specs.Outcomes.{numberOfRefusal, outcomeOf};
 
-// Why a call is refused: a length, an unknown equivalence, a fault of the table, a malformed first (or only) or second type, a total
+// Why a call is refused: a length, an unknown equivalence, a fault of a record of the table, a malformed first (or only) or second type, a total
 // above the limit, or no room in the arena.
 pub enum Refusal {
     Length,
     Equivalence,
-    Table(value_table::TableRefusal),
+    Table(value_table::Fault),
     First,
     Second,
     Total,
@@ -31,7 +31,7 @@ fn refusal_number(why: Refusal) -> u64
     match why {
         Refusal::Length => 1,
         Refusal::Equivalence => 2,
-        Refusal::Table(fault) => value_table::refusal_number(fault),
+        Refusal::Table(fault) => value_table::fault_number(fault),
         Refusal::First => 8,
         Refusal::Second => 9,
         Refusal::Total => 10,

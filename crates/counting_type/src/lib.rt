@@ -70,7 +70,8 @@ fn infer_front(table: &[u8], equivalence: u64, arena: &mut [u8], work: &mut [u8]
         return Answered::Refused(Refusal::Equivalence, 0);
     }
     match judge(table) {
-        Judged::Refused(why, place) => Answered::Refused(Refusal::Table(why), place),
+        Judged::Length => Answered::Refused(Refusal::Length, 0),
+        Judged::Faulty(fault, place) => Answered::Refused(Refusal::Table(fault), place),
         Judged::Accepted(_) => infer_checked(table, equivalence == 1, arena, work),
     }
 }

@@ -13,11 +13,11 @@ use borrow.Author.Tests.{ltb-false}
 use Rattle.byte_records.specs.Number.{Bytes}
 use Rattle.value_table.specs.Value.{maxLength}
 use Rattle.value_table.specs.declared.Answer.{Answer}
-use Rattle.value_table.specs.declared.TableRefusal.the-variants as faults
+use Rattle.value_table.specs.declared.Fault.the-variants as faults
 use Rattle.value_table.specs.Outcome.{accepted, outcomeOfAnswer}
 use Rattle.value_table.specs.Judged.{badLength, judged, messages}
 use Rattle.value_table.specs.Acceptance as table
-use Rattle.value_table.proofs.Fault.{length-fits}
+use Rattle.value_table.proofs.Faultless.{length-fits}
 use Rattle.value_table.proofs.Acceptance.{accepts, placed}
 use Rattle.counting_theory.proofs.WellFormed.Limit.{totals-limit}
 use Rattle.counting_theory.proofs.WellFormed.Profile.{fits-run}
@@ -135,7 +135,6 @@ pub small-number : (answered : Answered) → outcomeOf answered .number ≤ 11
 small-number (Accepted records) = omega arith
 small-number (Refused refusals.Length place) = omega arith
 small-number (Refused refusals.Equivalence place) = omega arith
-small-number (Refused (refusals.Table faults.Length) place) = omega arith
 small-number (Refused (refusals.Table faults.Kind) place) = omega arith
 small-number (Refused (refusals.Table faults.Span) place) = omega arith
 small-number (Refused (refusals.Table faults.Key) place) = omega arith

@@ -2,7 +2,7 @@
 pub mod Header
 pub mod Tests
 pub mod Keys
-pub mod Fault
+pub mod Faultless
 pub mod Run
 pub mod Decode
 pub mod Nested

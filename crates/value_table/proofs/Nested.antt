@@ -9,7 +9,7 @@ use borrow.Author.Tests.{leb-true, leb-false, le-leb}
 use Rattle.value_table.specs.Value.{recordKind, records, keyAt, Distinct}
 use Rattle.value_table.specs.Judged.{Open, close, enter}
 use Rattle.value_table.proofs.Keys.{distinct-snoc}
-use Rattle.value_table.proofs.Fault.{FaultlessIn}
+use Rattle.value_table.proofs.Faultless.{FaultlessIn}
 
 -- from record i on, in a table of n records
 abbrev pub Nested : ℕ → ℕ → List Open → Type 0

@@ -12,7 +12,7 @@ use borrow.Author.Tests.{leb-true}
 use Rattle.byte_records.specs.Number.{Bytes}
 use Rattle.value_table.specs.Value.{maxLength, records, keyAt, Values, none, count, Distinct}
 use Rattle.value_table.specs.Judged.{Open, endOf, inRecord, seen, close, withKey, enter, messagesIn}
-use Rattle.value_table.proofs.Fault.{FaultlessIn}
+use Rattle.value_table.proofs.Faultless.{FaultlessIn}
 use Rattle.value_table.proofs.Run.{Run, size-zero, run-none, run-value, run-first}
 use Rattle.value_table.proofs.Nested.{Nested, close-all}
 

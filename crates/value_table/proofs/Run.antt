@@ -13,7 +13,7 @@ use Rattle.byte_records.specs.Inside.Fits.{Fits}
 use Rattle.value_table.specs.Value.{recordSize, recordKind, maxLength, valueFormat, Head, headAt, recordNumbers, Proper, kindAt, keyAt, spanAt, header, Values, none, value, size, keys, encode, Distinct, KeyFits, ValidAt}
 use Rattle.value_table.proofs.Header.{Fields, length-encode, header-read, header-written}
 use Rattle.value_table.proofs.Keys.{distinct-new}
-use Rattle.value_table.proofs.Fault.{Faultless}
+use Rattle.value_table.proofs.Faultless.{Faultless}
 
 -- records i to end of b hold the run vs, valid at this depth behind fields or elements with the keys `before`
 pub record Run (b : List ℕ) (i end : ℕ) (field : Bool) (before : List ℕ) (depth : ℕ) (vs : Values) : Type 0 where

@@ -7,14 +7,14 @@ use native.Mathlib.Omega.{arith}
 use lib.Dec.{lit≤}
 use lib.ListN.{length, set, length-set}
 use borrow.Author.Tests.{le-leb, lt-leb}
-use Rattle.value_table.specs.declared.TableRefusal.{TableRefusal}
-use Rattle.value_table.specs.declared.TableRefusal.the-variants.{Length, Kind, Span, Key, Repeat, Depth}
+use Rattle.value_table.specs.declared.Fault.{Fault}
+use Rattle.value_table.specs.declared.Fault.the-variants.{Kind, Span, Key, Repeat, Depth}
 use Rattle.byte_records.specs.Number.{Bytes}
 use Rattle.value_table.specs.Value.{maxDepth, records, kindAt, keyAt, spanAt}
-use Rattle.value_table.specs.Outcome.{Outcome, accepted, refused, numberOfRefusal}
+use Rattle.value_table.specs.Outcome.{Outcome, accepted, refused, numberOfFault}
 use Rattle.value_table.specs.Judged.{Open, endOf, inRecord, seen, faultIn, close, withKey, enter, messagesIn, decide, walk}
 use Rattle.value_table.specs.Inside.EarlierFields.{FaultIs, innermostOf, firstOf, messagesAt, Parent}
-use Rattle.value_table.proofs.Fault.{FaultlessIn, faultless}
+use Rattle.value_table.proofs.Faultless.{FaultlessIn, faultless}
 use Rattle.value_table.proofs.Header.{keyAt-below}
 use Rattle.value_table.proofs.Levels.{Levels, outside, inside, levels-depth, levels-end, levels-upto, levels-before, levels-next, levels-enter}
 
@@ -43,13 +43,12 @@ messages-depth : (around : List Open) → messagesAt (length around) ≡ message
 messages-depth [] = refl
 messages-depth (o ∷ os) = refl
 
-pub refusal-positive : (why : TableRefusal) → 1 ≤ numberOfRefusal why
-refusal-positive Length = lit≤ tt
-refusal-positive Kind = lit≤ tt
-refusal-positive Span = lit≤ tt
-refusal-positive Key = lit≤ tt
-refusal-positive Repeat = lit≤ tt
-refusal-positive Depth = lit≤ tt
+pub fault-positive : (found : Fault) → 1 ≤ numberOfFault found
+fault-positive Kind = lit≤ tt
+fault-positive Span = lit≤ tt
+fault-positive Key = lit≤ tt
+fault-positive Repeat = lit≤ tt
+fault-positive Depth = lit≤ tt
 
 pub messages-few : (depth : ℕ) → messagesAt depth ≤ 1
 messages-few zero = omega arith

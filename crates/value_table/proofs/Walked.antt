@@ -10,7 +10,7 @@ use Rattle.value_table.specs.Value.{maxLength, records}
 use Rattle.value_table.specs.Outcome.{Outcome, accepted}
 use Rattle.value_table.specs.Judged.{Open, faultIn, close, enter, messagesIn, decide, walk}
 use Rattle.value_table.proofs.Header.{keyAt-below}
-use Rattle.value_table.proofs.Fault.{FaultlessIn, faultless, faultless-zero}
+use Rattle.value_table.proofs.Faultless.{FaultlessIn, faultless, faultless-zero}
 use Rattle.value_table.proofs.Nested.{Nested, nested-close, nested-enter}
 use Rattle.value_table.proofs.Rest.{Rest, rest-close, rest-done, rest-enter, rest-first}
 

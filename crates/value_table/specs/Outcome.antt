@@ -2,9 +2,9 @@
 use Prim.Native.Nat.{ℕ}
 use Rattle.value_table.specs.declared.Answer.{Answer}
 use Rattle.value_table.specs.declared.Judged.{Judged}
-use Rattle.value_table.specs.declared.Judged.the-variants.{Accepted, Refused}
-use Rattle.value_table.specs.declared.TableRefusal.{TableRefusal}
-use Rattle.value_table.specs.declared.TableRefusal.the-variants.{Length, Kind, Span, Key, Repeat, Depth}
+use Rattle.value_table.specs.declared.Judged.the-variants.{Accepted, Length, Faulty}
+use Rattle.value_table.specs.declared.Fault.{Fault}
+use Rattle.value_table.specs.declared.Fault.the-variants.{Kind, Span, Key, Repeat, Depth}
 
 pub record Outcome : Type 0 where
   pub number : ℕ
@@ -18,18 +18,18 @@ abbrev pub refused : ℕ → ℕ → Outcome
 refused number place = record { number = number; place = place; count = 0 }
 
 -- the column 'returned' of document 01
-abbrev pub numberOfRefusal : TableRefusal → ℕ
-numberOfRefusal Length = 1
-numberOfRefusal Kind = 3
-numberOfRefusal Span = 4
-numberOfRefusal Key = 5
-numberOfRefusal Repeat = 6
-numberOfRefusal Depth = 7
+abbrev pub numberOfFault : Fault → ℕ
+numberOfFault Kind = 3
+numberOfFault Span = 4
+numberOfFault Key = 5
+numberOfFault Repeat = 6
+numberOfFault Depth = 7
 
 -- call 1's answer
 abbrev pub outcomeOf : Judged → Outcome
 outcomeOf (Accepted messages) = accepted messages
-outcomeOf (Refused why place) = refused (numberOfRefusal why) place
+outcomeOf Length = refused 1 0
+outcomeOf (Faulty fault place) = refused (numberOfFault fault) place
 
 -- the same as three numbers
 abbrev pub outcomeOfAnswer : Answer → Outcome

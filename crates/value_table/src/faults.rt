@@ -1,5 +1,5 @@
 // The faults of one value record, 3 to 7.
-use crate::TableRefusal;
+use crate::Fault;
 use crate::record;
 use crate::record::key_at;
 use crate::record::kind_and_zero_at;
@@ -12,17 +12,17 @@ ghost use mathlib.Core.List.{List};
 ghost use Prim.Native.Nat.{ℕ, _+_, _*_, _%_, _≤_, _<_};
 ghost use lib.ListN.{length};
 ghost use Rattle.value_table.specs.Value.{recordSize, maxLength, keyAt, spanAt, member};
-ghost use Rattle.value_table.specs.Inside.EarlierFields.{numberOfFault, EarlierFields, FieldsBefore, Parent, FaultIs, keyBuckets, Latest};
+ghost use Rattle.value_table.specs.Inside.EarlierFields.{numberOfFinding, EarlierFields, FieldsBefore, Parent, FaultIs, keyBuckets, Latest};
 ghost use Rattle.value_table.specs.Judged.{badKind, badSpan, badKey, repeated};
 ghost use Rattle.value_table.specs.Inside.Chain.{Chain};
 
 // How many buckets the keys are spread over.
 pub const KEY_BUCKETS: usize = 64;
 
-// What is wrong with one record.
-pub enum Fault {
+// What a look at one record finds.
+pub enum Finding {
     Nothing,
-    Found(TableRefusal),
+    Found(Fault),
 }
 
 fn bad_kind(table: &[u8], i: usize) -> bool
@@ -130,27 +130,27 @@ pub fn fault_at(
     first: usize,
     depth: usize,
     latest: &[usize; KEY_BUCKETS],
-) -> Fault
+) -> Finding
     requires { ⌜ (recordSize * i + recordSize ≤ length (now table)) × (length (now table) ≤ maxLength) × (i < end) × Parent (now table) i first
         × Latest (now table) i (now latest) ⌝ }
-    ensures { λ r. ⌜ FaultIs (now (table .entry)) i end first depth (numberOfFault r) ⌝ }
+    ensures { λ r. ⌜ FaultIs (now (table .entry)) i end first depth (numberOfFinding r) ⌝ }
 {
     if !plain_scalar(table, i) {
         if bad_kind(table, i) {
-            return Fault::Found(TableRefusal::Kind);
+            return Finding::Found(Fault::Kind);
         }
         if bad_span(table, i, end) {
-            return Fault::Found(TableRefusal::Span);
+            return Finding::Found(Fault::Span);
         }
     }
     if bad_key(table, i, 0 < first) {
-        return Fault::Found(TableRefusal::Key);
+        return Finding::Found(Fault::Key);
     }
     if repeats(table, i, first, latest) {
-        return Fault::Found(TableRefusal::Repeat);
+        return Finding::Found(Fault::Repeat);
     }
     if record::MAX_DEPTH < depth {
-        return Fault::Found(TableRefusal::Depth);
+        return Finding::Found(Fault::Depth);
     }
-    Fault::Nothing
+    Finding::Nothing
 }

@@ -4,12 +4,11 @@ pub mod record;
 mod walk;
 
 ghost use mathlib.Core.Path.{_≡_};
-ghost use Rattle.value_table.specs.Outcome.{numberOfRefusal, outcomeOf, outcomeOfAnswer};
+ghost use Rattle.value_table.specs.Outcome.{numberOfFault, outcomeOf, outcomeOfAnswer};
 ghost use Rattle.value_table.specs.Judged.{judged};
 
-// Why a table is refused.
-pub enum TableRefusal {
-    Length,
+// What is wrong with a record of a table.
+pub enum Fault {
     Kind,
     Span,
     Key,
@@ -17,10 +16,11 @@ pub enum TableRefusal {
     Depth,
 }
 
-// The answer of call 1: the number of messages, or a refusal with its place.
+// The answer of call 1: the number of messages, that the length is wrong, or a fault and the record that has it.
 pub enum Judged {
     Accepted(usize),
-    Refused(TableRefusal, usize),
+    Length,
+    Faulty(Fault, usize),
 }
 
 // An answer as three numbers: refusal number, place, count.
@@ -36,22 +36,21 @@ pub fn judge(table: &[u8]) -> Judged
     ensures { λ r. ⌜ outcomeOf r ≡ judged (now (table .entry)) ⌝ }
 {
     if record::bad_length(table.len()) {
-        return Judged::Refused(TableRefusal::Length, 0);
+        return Judged::Length;
     }
     walk::walk_table(table)
 }
 
 // The refusal number of document 01.
-pub fn refusal_number(why: TableRefusal) -> u64
-    ensures { λ r. ⌜ r ≡ numberOfRefusal why ⌝ }
+pub fn fault_number(fault: Fault) -> u64
+    ensures { λ r. ⌜ r ≡ numberOfFault fault ⌝ }
 {
-    match why {
-        TableRefusal::Length => 1,
-        TableRefusal::Kind => 3,
-        TableRefusal::Span => 4,
-        TableRefusal::Key => 5,
-        TableRefusal::Repeat => 6,
-        TableRefusal::Depth => 7,
+    match fault {
+        Fault::Kind => 3,
+        Fault::Span => 4,
+        Fault::Key => 5,
+        Fault::Repeat => 6,
+        Fault::Depth => 7,
     }
 }
 
@@ -65,8 +64,13 @@ pub fn answer_of(verdict: Judged) -> Answer
             place: 0,
             count: messages as u64,
         },
-        Judged::Refused(why, place) => Answer {
-            number: refusal_number(why),
+        Judged::Length => Answer {
+            number: 1,
+            place: 0,
+            count: 0,
+        },
+        Judged::Faulty(fault, place) => Answer {
+            number: fault_number(fault),
             place: place as u64,
             count: 0,
         },

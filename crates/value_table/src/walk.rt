@@ -1,7 +1,7 @@
 // The walk over the records of a table.
 use crate::Judged;
 use crate::faults;
-use crate::faults::Fault;
+use crate::faults::Finding;
 use crate::faults::bucket_of;
 use crate::faults::fault_at;
 use crate::record;
@@ -77,8 +77,8 @@ pub fn walk_table(table: &[u8]) -> Judged
             continue;
         }
         let first = innermost(&walk.fields, depth, 0);
-        if let Fault::Found(why) = fault_at(table, i, end, first, depth + 1, &latest) {
-            return Judged::Refused(why, i);
+        if let Finding::Found(fault) = fault_at(table, i, end, first, depth + 1, &latest) {
+            return Judged::Faulty(fault, i);
         }
         latest[bucket_of(table, i)] = i;
         messages += messages_at(depth);

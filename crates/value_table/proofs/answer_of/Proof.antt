@@ -9,9 +9,12 @@ returns : tie.Need-returns
 returns c = sym (ap outcomeOf (c .before .verdict .given .1))
 
 returns-2 : tie.Need-returns-2
-returns-2 c = rw (c .refusal-number .ensures) (sym (ap outcomeOf (c .before .before .verdict2 .given .1)))
+returns-2 c = sym (ap outcomeOf (c .enum-told .given .1))
+
+returns-3 : tie.Need-returns-3
+returns-3 c = rw (c .fault-number .ensures) (sym (ap outcomeOf (c .before .before .verdict2 .given .1)))
 
 pub answer-of-spec : {M : Type 1} → statement M
 answer-of-spec =
     tie.close
-    (tie.spec (λ c. search needs) (λ c. search needs) (λ c κs. search needs) returns returns-2)
+    (tie.spec (λ c. search needs) (λ c. search needs) (λ c. search needs) (λ c κs. search needs) returns returns-2 returns-3)

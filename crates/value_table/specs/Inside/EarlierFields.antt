@@ -8,9 +8,9 @@ use lib.ListN.{length, getD}
 use Rattle.value_table.specs.Value.{keyAt, spanAt, recordKind}
 use Rattle.value_table.specs.Judged.{fault}
 use Rattle.value_table.specs.Inside.Chain.{Chain}
-use Rattle.value_table.specs.declared.faults.Fault.{Fault}
-use Rattle.value_table.specs.declared.faults.Fault.the-variants.{Nothing, Found}
-use Rattle.value_table.specs.Outcome.{numberOfRefusal}
+use Rattle.value_table.specs.declared.faults.Finding.{Finding}
+use Rattle.value_table.specs.declared.faults.Finding.the-variants.{Nothing, Found}
+use Rattle.value_table.specs.Outcome.{numberOfFault}
 
 -- `first` is the first field of a record that has had these keys before record i, or 0 outside records
 pub data FieldsBefore (b : List ℕ) (i first : ℕ) : Bool → List ℕ → Type 0 where
@@ -53,7 +53,7 @@ abbrev pub messagesAt : ℕ → ℕ
 messagesAt zero = 1
 messagesAt (suc depth) = 0
 
--- what is wrong with one record, 0 for nothing
-abbrev pub numberOfFault : Fault → ℕ
-numberOfFault Nothing = 0
-numberOfFault (Found why) = numberOfRefusal why
+-- what a look at one record finds, 0 for nothing
+abbrev pub numberOfFinding : Finding → ℕ
+numberOfFinding Nothing = 0
+numberOfFinding (Found fault) = numberOfFault fault

@@ -5,7 +5,7 @@ use native.Mathlib.Omega.{arith}
 use borrow.Author.Needs.{needs}
 use borrow.Author.Tests.{leb-true}
 use Rattle.value_table.specs.Value.{lastScalar}
-use Rattle.value_table.proofs.Fault.{scalar-fine}
+use Rattle.value_table.proofs.Faultless.{scalar-fine}
 use Rattle.value_table.proofs.faults.plain_scalar.Statement.{statement}
 use Rattle.value_table.proofs.faults.plain_scalar.Tie as tie
 

@@ -4,11 +4,11 @@ use Prim.Native.Nat.{_+_, _*_, _-_, _≤_, _<_}
 use native.Mathlib.Omega.{arith}
 use lib.ListN.{set}
 use borrow.Author.Needs.{needs}
-use Rattle.value_table.specs.Inside.EarlierFields.{numberOfFault, FaultIs, innermostOf, Latest}
+use Rattle.value_table.specs.Inside.EarlierFields.{numberOfFinding, FaultIs, innermostOf, Latest}
 use Rattle.value_table.specs.Value.{maxDepth, records}
 use Rattle.byte_records.specs.Number.{Bytes}
 use Rattle.value_table.proofs.Latest.{latest-start, latest-next}
-use Rattle.value_table.proofs.WalkLoop.{Walking, walking-start, walking-done, walking-close, walking-parent, walking-inside, walking-refused, walking-room, walking-skip, walking-enter, refusal-positive, messages-few}
+use Rattle.value_table.proofs.WalkLoop.{Walking, walking-start, walking-done, walking-close, walking-parent, walking-inside, walking-refused, walking-room, walking-skip, walking-enter, fault-positive, messages-few}
 use Rattle.value_table.proofs.walk.walk_table.Statement.{statement}
 use Rattle.value_table.proofs.walk.walk_table.Tie as tie
 
@@ -31,12 +31,12 @@ bytes c p = turn c .before .before .shared-slice-known .given p .fits
 
 -- what `fault_at` found is the fault of record i
 found : (c : tie.After-fault-at Inv-loop μ-loop) → let v = turn (c .before) .before .loop in let t = turn (c .before) .before .before .before .args .table .now in
-    FaultIs t (v .i) (innermostOf (v .walk .ends) (v .walk .depth) (records t)) (innermostOf (v .walk .fields) (v .walk .depth) 0) (v .walk .depth + 1) (numberOfFault (c .fault-at .result))
+    FaultIs t (v .i) (innermostOf (v .walk .ends) (v .walk .depth) (records t)) (innermostOf (v .walk .fields) (v .walk .depth) 0) (v .walk .depth + 1) (numberOfFinding (c .fault-at .result))
 found c = rw (← (c .before .before .before .before .before .before .innermost .ensures), ← (c .before .before .innermost2 .ensures)) (c .fault-at .ensures)
 
 fine : (c : tie.After-enum-told Inv-loop μ-loop) → let v = turn (c .before .before .before) .before .loop in let t = turn (c .before .before .before) .before .before .before .args .table .now in
     FaultIs t (v .i) (innermostOf (v .walk .ends) (v .walk .depth) (records t)) (innermostOf (v .walk .fields) (v .walk .depth) 0) (v .walk .depth + 1) 0
-fine c f ks h = sym (ap numberOfFault (c .enum-told .given .1)) ∙ found (c .before .before) f ks h
+fine c f ks h = sym (ap numberOfFinding (c .enum-told .given .1)) ∙ found (c .before .before) f ks h
 
 room : (c : tie.After-enum-told Inv-loop μ-loop) → turn (c .before .before .before) .before .loop .walk .depth < maxDepth
 room c =
@@ -75,7 +75,7 @@ fault-at-requires c κs =
 returns : tie.Need-returns Inv-loop μ-loop
 returns c =
     let p = c .before .before .before .before in
-    walking-refused (turn p .before .loop .inv .0) (turn p .loop-test .taken) (inner p) (refusal-positive (c .before .why .given .0 .0)) (λ f ks h. sym (ap numberOfFault (c .before .why .given .1)) ∙ found (c .before .before .before) f ks h)
+    walking-refused (turn p .before .loop .inv .0) (turn p .loop-test .taken) (inner p) (fault-positive (c .before .fault .given .0 .0)) (λ f ks h. sym (ap numberOfFinding (c .before .fault .given .1)) ∙ found (c .before .before .before) f ks h)
 
 add-messages : tie.Need-add-messages Inv-loop μ-loop
 add-messages c =

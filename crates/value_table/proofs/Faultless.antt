@@ -1,4 +1,4 @@
--- TableRefusal 1 of a table, and 3 to 7 of one record: its fault is 0 exactly when it breaks no rule.
+-- Refusal 1 of a table, and 3 to 7 of one record: its fault is 0 exactly when it breaks no rule.
 use mathlib.Core.Path.{_≡_, refl}
 use mathlib.Core.Bool.{Bool, true, false, cond, not}
 use mathlib.Core.Logic.{_↔_}
