@@ -4,3 +4,5 @@ pub mod Format
 pub mod Sets
 pub mod Gap
 pub mod Clear
+pub mod Tests
+pub mod Chain

@@ -1,2 +1,3 @@
 -- What only proofs cite.
 pub mod Fits
+pub mod Chain

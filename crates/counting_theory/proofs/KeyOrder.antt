@@ -2,8 +2,8 @@
 use mathlib.Core.Path.{_≡_, refl, sym, _∙_}
 use mathlib.Core.List.{List, _∷_}
 use Prim.Native.Nat.{ℕ, _+_, _<_, Ordering, Ordering·lt as lt, Ordering·eq as eq, Ordering·gt as gt}
-use Rattle.value_table.specs.Inside.Chain.{Chain}
-use Rattle.value_table.proofs.Chain.{Sibling, chain-sibling, chain-done}
+use Rattle.byte_records.specs.Inside.Chain.{Chain}
+use Rattle.byte_records.proofs.Chain.{Sibling, chain-sibling, chain-done}
 use Rattle.counting_theory.specs.Order.{then, compareList}
 use Rattle.counting_theory.specs.Inside.TrieLaws.{IsOrder}
 use Rattle.counting_theory.specs.Label.{compareKeys}

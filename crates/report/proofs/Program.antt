@@ -17,7 +17,7 @@ use Rattle.value_table.specs.declared.Fault.the-variants as faults
 use Rattle.value_table.specs.Outcome.{accepted, outcomeOfAnswer}
 use Rattle.value_table.specs.Judged.{badLength, judged, messages}
 use Rattle.value_table.specs.Acceptance as table
-use Rattle.value_table.proofs.Faultless.{length-fits}
+use Rattle.value_table.proofs.TableLayout.{length-fits}
 use Rattle.value_table.proofs.Acceptance.{accepts, placed}
 use Rattle.counting_theory.proofs.WellFormed.Limit.{totals-limit}
 use Rattle.counting_theory.proofs.WellFormed.Profile.{fits-run}

@@ -5,8 +5,8 @@ use Prim.Native.Nat.{ℕ, zero, suc, _+_, _-_, _≤_}
 use native.Mathlib.Nat.{le-refl}
 use native.Mathlib.Omega.{arith}
 use borrow.Author.Tests.{lt-ltb, le-ltb}
-use Rattle.value_table.specs.Inside.Chain.{Chain, done, next}
-use Rattle.value_table.proofs.Chain.{chain-le}
+use Rattle.byte_records.specs.Inside.Chain.{Chain, done, next}
+use Rattle.byte_records.proofs.Chain.{chain-le}
 use Rattle.counting_theory.specs.Encoding.{typeKey, typeSpan}
 use Rattle.type_arena.specs.Inside.Arena.{keysFrom, keysIn, FieldsInside}
 

@@ -5,7 +5,7 @@ use mathlib.Core.List.{List, _++_}
 use Prim.Native.Nat.{ℕ, _+_, _*_, _-_, _^_, _<_}
 use native.Mathlib.Omega.{arith}
 use lib.ListN.{length, drop, length-append, length-drop}
-use Rattle.value_table.specs.Inside.Chain.{Chain, done, next}
+use Rattle.byte_records.specs.Inside.Chain.{Chain, done, next}
 use Rattle.counting_theory.specs.Payload.{Payload}
 use Rattle.counting_theory.specs.Trie.{nil, node, size}
 use Rattle.counting_theory.specs.Label.{Equivalence, Label, CountingType}

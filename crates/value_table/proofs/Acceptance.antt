@@ -10,8 +10,7 @@ use Rattle.value_table.specs.Value.{maxLength, recordSize, records, Valu
 use Rattle.value_table.specs.Outcome.{Outcome, accepted, refused}
 use Rattle.value_table.specs.Judged.{Open, badLength, faultIn, close, enter, messagesIn, decide, walk, judged, messages}
 use Rattle.value_table.specs.Acceptance.{Table, Accepts, Unique, PlaceInTable}
-use Rattle.value_table.proofs.Faultless.{length-fits}
-use Rattle.value_table.proofs.Header.{length-encode}
+use Rattle.value_table.proofs.TableLayout.{length-fits, length-encode}
 use Rattle.value_table.proofs.Run.{Run}
 use Rattle.value_table.proofs.Decode.{decode-run}
 use Rattle.value_table.proofs.Rest.{Rest}

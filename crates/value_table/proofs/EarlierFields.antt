@@ -8,9 +8,9 @@ use borrow.Author.Tests.{eq-eqb, ne-eqb, lt-ltb, le-ltb}
 use lib.Dec.{ltb}
 use Rattle.value_table.specs.Value.{keyAt, spanAt, member}
 use Rattle.value_table.specs.Judged.{repeated}
-use Rattle.value_table.specs.Inside.Chain.{Chain}
+use Rattle.byte_records.specs.Inside.Chain.{Chain}
 use Rattle.value_table.specs.Inside.EarlierFields.{FieldsBefore, field, other, EarlierFields}
-use Rattle.value_table.proofs.Chain.{Sibling, chain-le, chain-sibling, chain-done}
+use Rattle.byte_records.proofs.Chain.{Sibling, chain-le, chain-sibling, chain-done}
 
 member-head : {key x : ℕ} (xs : List ℕ) → key ≡ x → member key (x ∷ xs) ≡ true
 unfolding member

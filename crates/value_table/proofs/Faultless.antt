@@ -1,24 +1,15 @@
--- Refusal 1 of a table, and 3 to 7 of one record: its fault is 0 exactly when it breaks no rule.
+-- Refusals 3 to 7 of one record: its fault is 0 exactly when it breaks no rule.
 use mathlib.Core.Path.{_≡_, refl}
 use mathlib.Core.Bool.{Bool, true, false, cond, not}
-use mathlib.Core.Logic.{_↔_}
 use mathlib.Core.List.{List}
-use Prim.Native.Nat.{ℕ, suc, _+_, _%_, _≤_, _<_}
+use Prim.Native.Nat.{ℕ, suc, _+_, _≤_, _<_}
 use native.Mathlib.Omega.{arith}
 use lib.Dec.{eqb, leb, ltb}
 use lib.ListN.{length}
 use borrow.Author.Tests.{ltb-false, leb-true, eqb-true, eqb-false, not-false, le-ltb, le-leb, eq-eqb, ne-eqb}
-use Rattle.value_table.specs.Value.{recordSize, maxLength, records, kindAt, zeroAt, keyAt, spanAt, member, KeyFits, lastScalar, arrayKind, maxDepth}
-use Rattle.value_table.specs.Judged.{Open, endOf, inRecord, seen, badLength, badKind, badSpan, badKey, repeated, tooDeep, fault}
-use Rattle.value_table.proofs.Tests.{or-parts, and-parts, and-false}
-
--- no refusal 1
-pub length-fits : (n : ℕ) → (badLength n ≡ false) ↔ ((n % recordSize ≡ 0) × (n ≤ maxLength))
-unfolding badLength
-length-fits n = (
-  λ e. let p = or-parts _ _ e in (eqb-true (n % recordSize) 0 (not-false _ (p .0)), ltb-false maxLength n (p .1)),
-  λ h. rw (eq-eqb (n % recordSize) 0 (h .0), le-ltb maxLength n (h .1)) refl,
-)
+use Rattle.value_table.specs.Value.{records, kindAt, zeroAt, keyAt, spanAt, member, KeyFits, lastScalar, arrayKind, maxDepth}
+use Rattle.value_table.specs.Judged.{Open, endOf, inRecord, seen, badKind, badSpan, badKey, repeated, tooDeep, fault}
+use Rattle.byte_records.proofs.Tests.{or-parts, and-parts, and-false}
 
 -- record i breaks no rule in a parent that ends at `end`, has had the keys `before`, and holds values at `depth`
 pub record Faultless (b : List ℕ) (i end : ℕ) (field : Bool) (before : List ℕ) (depth : ℕ) : Type 0 where

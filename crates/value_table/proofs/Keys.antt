@@ -6,7 +6,7 @@ use Prim.Native.Nat.{ℕ}
 use lib.Dec.{eqb}
 use borrow.Author.Tests.{eqb-false, ne-eqb}
 use Rattle.value_table.specs.Value.{member, Distinct}
-use Rattle.value_table.proofs.Tests.{or-parts}
+use Rattle.byte_records.proofs.Tests.{or-parts}
 
 member-append : (k : ℕ) (xs ys : List ℕ) → member k (xs ++ ys) ≡ (member k xs || member k ys)
 unfolding member

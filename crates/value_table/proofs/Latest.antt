@@ -12,7 +12,7 @@ use lib.Seq.{getD-set-same, getD-set-other}
 use borrow.Author.Tests.{eqb-true, eqb-false}
 use Rattle.value_table.specs.Value.{keyAt, member}
 use Rattle.value_table.specs.Judged.{repeated}
-use Rattle.value_table.specs.Inside.Chain.{Chain, done, next}
+use Rattle.byte_records.specs.Inside.Chain.{Chain, done, next}
 use Rattle.value_table.specs.Inside.EarlierFields.{FieldsBefore, field, other, keyBuckets, Latest}
 use Rattle.value_table.proofs.EarlierFields.{member-tail}
 

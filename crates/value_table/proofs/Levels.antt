@@ -10,9 +10,9 @@ use lib.ListN.{length, getD, set}
 use lib.Seq.{getD-set-same, getD-set-other}
 use Rattle.value_table.specs.Value.{recordKind, kindAt, keyAt, spanAt}
 use Rattle.value_table.specs.Judged.{Open, endOf, inRecord, seen, withKey, enter}
-use Rattle.value_table.specs.Inside.Chain.{done}
+use Rattle.byte_records.specs.Inside.Chain.{done}
 use Rattle.value_table.specs.Inside.EarlierFields.{FieldsBefore, field, other, innermostOf, firstOf}
-use Rattle.value_table.proofs.Chain.{chain-more}
+use Rattle.byte_records.proofs.Chain.{chain-more}
 
 -- `depth` levels of the arrays hold the open values around record i, in a table of n records
 pub data Levels (b ends fields : List ℕ) (n : ℕ) : ℕ → ℕ → List Open → Type 0 where

@@ -1,6 +1,6 @@
 -- The laws behind the promises; a folder for each function's proof.
+pub mod TableLayout
 pub mod Header
-pub mod Tests
 pub mod Keys
 pub mod Faultless
 pub mod Run
@@ -8,7 +8,6 @@ pub mod Decode
 pub mod Nested
 pub mod Rest
 pub mod Walked
-pub mod Chain
 pub mod EarlierFields
 pub mod Latest
 pub mod Levels

@@ -1,17 +1,19 @@
 -- Records that hold a run of values, and the step from a value to its content and to the values behind it.
 use mathlib.Core.Path.{_≡_, refl, ap, _∙_}
-use mathlib.Core.Bool.{Bool, true, false}
+use mathlib.Core.Bool.{Bool, true}
 use mathlib.Core.List.{List, [], _∷_, _++_, append-assoc, append-nil}
 use Prim.Native.Nat.{ℕ, suc, _+_, _*_, _^_, _≤_, _<_}
 use native.Mathlib.Omega.{arith}
-use lib.Dec.{eqb, lit<}
+use lib.Dec.{eqb}
 use lib.ListN.{length, drop, length-append, length-drop}
 use lib.Seq.{drop-drop, drop-at}
 use borrow.Author.Tests.{eq-eqb, eqb-true}
 use Rattle.byte_records.specs.Number.{Bytes}
 use Rattle.byte_records.specs.Inside.Fits.{Fits}
-use Rattle.value_table.specs.Value.{recordSize, recordKind, maxLength, valueFormat, Head, headAt, recordNumbers, Proper, kindAt, keyAt, spanAt, header, Values, none, value, size, keys, encode, Distinct, KeyFits, ValidAt}
-use Rattle.value_table.proofs.Header.{Fields, length-encode, header-read, header-written}
+use Rattle.value_table.specs.Value.{recordSize, recordKind, maxLength, valueFormat, headAt, recordNumbers, kindAt, keyAt, spanAt, header, Values, none, value, size, keys, encode, Distinct, ValidAt}
+use Rattle.value_table.proofs.Header.{header-written}
+use Rattle.value_table.specs.Inside.TableLayout.{Fields}
+use Rattle.value_table.proofs.TableLayout.{length-encode, header-read, value-fits}
 use Rattle.value_table.proofs.Keys.{distinct-new}
 use Rattle.value_table.proofs.Faultless.{Faultless}
 
@@ -32,15 +34,6 @@ pub run-none : (b : List ℕ) (i end : ℕ) (field : Bool) (before : List ℕ) (
 unfolding encode size keys ValidAt
 run-none b i end field before depth e d =
     record { bytes = rw e refl; ends = omega arith; valid = tt; distinct = λ h. rw append-nil (d h) }
-
-pub key-below : (field : Bool) (key : ℕ) → KeyFits field key → key < 65536
-key-below true key h = h .1
-key-below false key h = omega arith
-
--- the numbers of a value's record fit
-pub value-fits : (field : Bool) (depth : ℕ) (head : Head) (key : ℕ) (content : Values) → Proper field depth head key content → 1 + size content < 2 ^ 32 →
-    Fits valueFormat (recordNumbers head key (1 + size content))
-value-fits field depth head key content p h = (omega (arith, p .kind-high), (lit< tt, (key-below field key (p .keyed), (h, tt))))
 
 -- a run that is not empty: its first value is read at record i, and the records behind hold the content and then the other values
 pub record First (b : List ℕ) (i end : ℕ) (field : Bool) (before after : List ℕ) (depth : ℕ) (vs : Values) : Type 0 where

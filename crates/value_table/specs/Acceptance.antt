@@ -1,4 +1,5 @@
--- What the lower library promises the upper one, and nothing else: call 1 accepts exactly the encodings of valid messages.
+-- What the lower library promises the upper one: call 1 accepts exactly the encodings of valid messages. The laws of the layout that
+-- proofs above use beside it stand in Inside/TableLayout.
 use mathlib.Core.Path.{_≡_}
 use mathlib.Core.Logic.{_↔_, _⊎_}
 use mathlib.Core.List.{List}

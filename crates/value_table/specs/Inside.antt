@@ -1,4 +1,4 @@
 -- What contracts inside the crate and its proofs cite, and no public promise.
-pub mod Chain
+pub mod TableLayout
 pub mod EarlierFields
 pub mod RecordBytes

@@ -14,7 +14,7 @@ ghost use lib.ListN.{length};
 ghost use Rattle.value_table.specs.Value.{recordSize, maxLength, keyAt, spanAt, member};
 ghost use Rattle.value_table.specs.Inside.EarlierFields.{numberOfFinding, EarlierFields, FieldsBefore, Parent, FaultIs, keyBuckets, Latest};
 ghost use Rattle.value_table.specs.Judged.{badKind, badSpan, badKey, repeated};
-ghost use Rattle.value_table.specs.Inside.Chain.{Chain};
+ghost use Rattle.byte_records.specs.Inside.Chain.{Chain};
 
 // How many buckets the keys are spread over.
 pub const KEY_BUCKETS: usize = 64;

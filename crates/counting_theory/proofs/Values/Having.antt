@@ -8,7 +8,7 @@ use lib.Dec.{eqb}
 use lib.ListN.{length, length-append}
 use borrow.Author.Tests.{eqb-true}
 use Rattle.value_table.specs.Value.{Values, none, value, keys, member, Distinct, recordKind}
-use Rattle.value_table.proofs.Tests.{or-parts}
+use Rattle.byte_records.proofs.Tests.{or-parts}
 use Rattle.counting_theory.specs.Place.{Value, valuesWith, fieldOf, fieldValues, select, having}
 use Rattle.counting_theory.proofs.Values.Every.{Every, ValidValue, EachValid, every-map}
 

@@ -8,7 +8,7 @@ use native.Mathlib.Omega.{arith}
 use lib.Dec.{eqb, leb}
 use borrow.Author.Tests.{eqb-true, eqb-false, eq-eqb, leb-true, leb-false}
 use Rattle.value_table.specs.Value.{keys, member, Distinct, recordKind}
-use Rattle.value_table.proofs.Tests.{or-parts}
+use Rattle.byte_records.proofs.Tests.{or-parts}
 use Rattle.counting_theory.specs.Label.{byLabel, Label, listed, labelOf}
 use Rattle.counting_theory.specs.Raw.{insertKey, ascending}
 use Rattle.counting_theory.specs.Place.{LabelsApart}

@@ -11,8 +11,7 @@ use Rattle.value_table.specs.Value.{maxLength}
 use Rattle.value_table.specs.Judged.{badLength, messages}
 use Rattle.value_table.specs.Acceptance.{Table}
 use Rattle.value_table.proofs.Acceptance.{accepts}
-use Rattle.value_table.proofs.Header.{length-encode as table-length}
-use Rattle.value_table.proofs.Faultless.{length-fits}
+use Rattle.value_table.proofs.TableLayout.{length-encode as table-length, length-fits}
 use Rattle.counting_theory.specs.Trie.{reduce}
 use Rattle.counting_theory.specs.Label.{Equivalence, byKind, byLabel, Counting, CountingType}
 use Rattle.counting_theory.specs.Raw.{profileOf}

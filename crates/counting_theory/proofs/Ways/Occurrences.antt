@@ -5,7 +5,7 @@ use mathlib.Core.List.{List, [], _∷_, List·Permᴰ, List·Permᴰ·nil, List�
 use Prim.Native.Nat.{ℕ, _+_, _≤_}
 use native.Mathlib.Omega.{arith}
 use borrow.Author.Tests.{eqb-true, eq-eqb}
-use Rattle.value_table.proofs.Tests.{and-parts}
+use Rattle.byte_records.proofs.Tests.{and-parts}
 use Rattle.counting_theory.specs.Ways.{sameBytes, occurrences}
 
 same-refl : (m : List ℕ) → sameBytes m m ≡ true

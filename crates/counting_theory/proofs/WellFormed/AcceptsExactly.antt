@@ -9,7 +9,7 @@ use lib.ListN.{length}
 use lib.Seq.{drop-length}
 use borrow.Author.Tests.{eqb-true, not-false, ltb-false}
 use Rattle.value_table.specs.Value.{maxLength}
-use Rattle.value_table.proofs.Tests.{or-parts, and-parts}
+use Rattle.byte_records.proofs.Tests.{or-parts, and-parts}
 use Rattle.counting_theory.specs.Trie.{size}
 use Rattle.counting_theory.specs.Label.{Equivalence, CountingType}
 use Rattle.counting_theory.specs.Encoding.{typeSize, typeRecords, encode, typeOf}

@@ -6,7 +6,7 @@ use native.Mathlib.Omega.{arith}
 use lib.Dec.{eqb, leb, isEq}
 use borrow.Author.Tests.{leb-true, le-leb, eqb-true, eq-eqb}
 use Rattle.value_table.specs.Value.{member, recordKind}
-use Rattle.value_table.proofs.Tests.{and-parts}
+use Rattle.byte_records.proofs.Tests.{and-parts}
 use Rattle.counting_theory.specs.Payload.{Payload, oneField, join}
 use Rattle.counting_theory.specs.Trie.{nil, node, reduceStep, reduceNode, reduce}
 use Rattle.counting_theory.specs.Label.{Equivalence, byKind, byLabel, Label, listed, fieldLabel, compareLabel, Counting, CountingType}

@@ -6,7 +6,7 @@ use Prim.Native.Nat.{ℕ, _+_, _≤_}
 use lib.Dec.{eqb, leb, ltb}
 use borrow.Author.Tests.{leb-true, le-leb, le-ltb, ltb-false, eqb-true, eq-eqb}
 use Rattle.value_table.specs.Value.{maxDepth, arrayKind, lastScalar}
-use Rattle.value_table.proofs.Tests.{and-parts}
+use Rattle.byte_records.proofs.Tests.{and-parts}
 use Rattle.counting_theory.specs.Label.{fieldKind}
 use Rattle.counting_theory.specs.Encoding.{typeKind, typeZero, typeKey, typeSpan}
 use Rattle.counting_theory.specs.WellFormed.{fieldRecord, addendRecord, typeRecord}

@@ -1,7 +1,7 @@
 -- Compound tests that hold, and their parts.
 use mathlib.Core.Path.{_≡_, refl}
 use mathlib.Core.Bool.{Bool, true, false, not, _&&_, _||_}
-use Rattle.value_table.proofs.Tests.{and-parts}
+use Rattle.byte_records.proofs.Tests.{and-parts}
 
 pub both : {s t : Bool} → s ≡ true → t ≡ true → (s && t) ≡ true
 both {s} {t} h i = rw (h, i)

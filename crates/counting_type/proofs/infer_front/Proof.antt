@@ -10,7 +10,7 @@ use borrow.Author.Needs.{needs}
 use Rattle.value_table.specs.Value.{maxLength}
 use Rattle.value_table.specs.Judged.{badLength}
 use Rattle.value_table.specs.Outcome.{outcomeOf}
-use Rattle.value_table.proofs.Tests.{or-parts}
+use Rattle.byte_records.proofs.Tests.{or-parts}
 use Rattle.value_table.proofs.Acceptance.{accepts}
 use Rattle.counting_theory.specs.Answers.{inferred}
 use Rattle.answers.specs.declared.Refusal.the-variants.{Length, Equivalence, Table}

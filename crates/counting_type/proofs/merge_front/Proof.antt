@@ -11,7 +11,7 @@ use Rattle.counting_theory.specs.WellFormed.{badTypeLength}
 use Rattle.answers.proofs.Fronts.{front-refused}
 use Rattle.answers.proofs.Equivalence.{known, unknown}
 use Rattle.counting_theory.proofs.WellFormed.AcceptsExactly.{well-formed-type}
-use Rattle.value_table.proofs.Tests.{or-parts}
+use Rattle.byte_records.proofs.Tests.{or-parts}
 use Rattle.counting_type.proofs.merge_front.Statement.{statement}
 use Rattle.counting_type.proofs.merge_front.Tie as tie
 

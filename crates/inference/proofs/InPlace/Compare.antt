@@ -7,7 +7,7 @@ use native.Mathlib.Omega.{arith}
 use lib.ListN.{drop, drop-of-length-le}
 use lib.Seq.{drop-cons}
 use Rattle.byte_records.specs.Number.{numberAt}
-use Rattle.value_table.specs.Inside.Chain.{Chain, done, next}
+use Rattle.byte_records.specs.Inside.Chain.{Chain, done, next}
 use Rattle.inference.specs.Inside.Inferring.{keysOf}
 use Rattle.inference.proofs.InPlace.Numbers.{length-numbers, numbers-at}
 

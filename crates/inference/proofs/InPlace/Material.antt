@@ -17,7 +17,7 @@ use Rattle.counting_theory.proofs.Trie.Sorted.{sorted-add, sorted-profile}
 use Rattle.counting_theory.proofs.Trie.Profile.{add-comm, reduce-add}
 use Rattle.counting_theory.proofs.Tagged.Profile.{inferred}
 use Rattle.counting_theory.proofs.Tagged.Reduce.{tagged-reduce}
-use Rattle.value_table.proofs.Run.{key-below}
+use Rattle.value_table.proofs.TableLayout.{key-below}
 use Rattle.counting_theory.proofs.Times.{times-keeps}
 
 -- values that are no fields: their keys make no difference

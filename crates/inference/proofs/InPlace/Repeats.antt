@@ -11,8 +11,7 @@ use lib.Seq.{take-add, drop-drop, take-at, drop-at}
 use Rattle.value_table.specs.Value.{Head, valueFormat, recordSize, maxLength, header, Values, none, value, size, encode, Proper, ValidAt}
 use Rattle.value_table.specs.Inside.RecordBytes.{recordAt}
 use Rattle.byte_records.proofs.Format.{length-record, record-same}
-use Rattle.value_table.proofs.Run.{value-fits}
-use Rattle.value_table.proofs.Header.{length-encode}
+use Rattle.value_table.proofs.TableLayout.{value-fits, length-encode}
 use Rattle.counting_theory.specs.Trie.{add, Sorted}
 use Rattle.counting_theory.specs.Label.{Equivalence, Counting, CountingType}
 use Rattle.counting_theory.specs.Raw.{raw}

@@ -7,7 +7,7 @@ use native.Mathlib.Omega.{arith}
 use lib.ListN.{length}
 use Rattle.value_table.specs.Value.{maxLength, Values}
 use Rattle.value_table.specs.Acceptance.{Table}
-use Rattle.value_table.proofs.Header as table
+use Rattle.value_table.proofs.TableLayout as table
 use Rattle.counting_theory.specs.Trie.{nil, size, add}
 use Rattle.counting_theory.specs.Label.{Equivalence, Counting}
 use Rattle.counting_theory.specs.Raw.{raw, profileOf}

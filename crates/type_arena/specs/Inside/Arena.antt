@@ -7,7 +7,7 @@ use lib.Dec.{ltb}
 use lib.ListN.{length, take}
 use Rattle.byte_records.specs.Format.{widthOf}
 use Rattle.value_table.specs.Value.{maxLength, recordKind}
-use Rattle.value_table.specs.Inside.Chain.{Chain}
+use Rattle.byte_records.specs.Inside.Chain.{Chain}
 use Rattle.counting_theory.specs.Payload.{Payload}
 use Rattle.counting_theory.specs.Label.{Equivalence, byKind, byLabel, Label, labelOf}
 use Rattle.counting_theory.specs.Encoding.{typeFormat, typeSize, typeKind, typeKey, typeSpan, header}

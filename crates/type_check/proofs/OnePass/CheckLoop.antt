@@ -8,8 +8,8 @@ use native.Mathlib.Omega.{arith}
 use lib.Dec.{eqb, leb}
 use borrow.Author.Tests.{eqb-true, eqb-false, eq-eqb, ne-eqb}
 use Rattle.value_table.specs.Value.{recordKind, maxDepth}
-use Rattle.value_table.specs.Inside.Chain.{Chain, done, next}
-use Rattle.value_table.proofs.Tests.{and-parts}
+use Rattle.byte_records.specs.Inside.Chain.{Chain, done, next}
+use Rattle.byte_records.proofs.Tests.{and-parts}
 use Rattle.counting_theory.specs.Label.{Equivalence}
 use Rattle.counting_theory.specs.Encoding.{typeKind, typeKey, typeSpan}
 use Rattle.counting_theory.specs.Inside.TypeBytes.{typeCount}

@@ -5,7 +5,7 @@ use mathlib.Core.List.{List}
 use Prim.Native.Nat.{ℕ, _+_, _≤_, _<_, Ordering·lt as lt}
 use lib.Dec.{eqb, leb, ltb}
 use borrow.Author.Tests.{leb-true, le-leb, ltb-true, lt-ltb}
-use Rattle.value_table.proofs.Tests.{and-parts}
+use Rattle.byte_records.proofs.Tests.{and-parts}
 use Rattle.counting_theory.specs.Label.{Equivalence, compareLabel}
 use Rattle.counting_theory.specs.Encoding.{typeKey}
 use Rattle.counting_theory.specs.Inside.TypeBytes.{typeCount}

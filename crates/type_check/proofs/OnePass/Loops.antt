@@ -9,7 +9,7 @@ use native.Mathlib.Omega.{arith}
 use lib.Dec.{leb}
 use borrow.Author.Tests.{leb-true, eq-eqb}
 use Rattle.value_table.specs.Value.{recordKind}
-use Rattle.value_table.proofs.Tests.{and-parts}
+use Rattle.byte_records.proofs.Tests.{and-parts}
 use Rattle.counting_theory.specs.Label.{Equivalence}
 use Rattle.counting_theory.specs.Encoding.{typeKind, typeKey, typeSpan}
 use Rattle.counting_theory.specs.Inside.TypeBytes.{typeCount}

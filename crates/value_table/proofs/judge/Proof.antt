@@ -2,7 +2,7 @@
 use mathlib.Core.Path.{sym, _∙_}
 use borrow.Author.Needs.{needs}
 use Rattle.value_table.specs.Judged.{judged}
-use Rattle.value_table.proofs.Faultless.{length-fits}
+use Rattle.value_table.proofs.TableLayout.{length-fits}
 use Rattle.value_table.proofs.judge.Statement.{statement}
 use Rattle.value_table.proofs.judge.Tie as tie
 

@@ -7,7 +7,7 @@ use lib.Dec.{eqb}
 use lib.ListN.{length, getD}
 use Rattle.value_table.specs.Value.{keyAt, spanAt, recordKind}
 use Rattle.value_table.specs.Judged.{fault}
-use Rattle.value_table.specs.Inside.Chain.{Chain}
+use Rattle.byte_records.specs.Inside.Chain.{Chain}
 use Rattle.value_table.specs.declared.faults.Finding.{Finding}
 use Rattle.value_table.specs.declared.faults.Finding.the-variants.{Nothing, Found}
 use Rattle.value_table.specs.Outcome.{numberOfFault}

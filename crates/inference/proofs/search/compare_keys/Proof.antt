@@ -2,7 +2,7 @@
 use Prim.Native.Nat.{_-_}
 use native.Mathlib.Omega.{arith}
 use borrow.Author.Needs.{needs}
-use Rattle.value_table.proofs.Chain.{chain-le}
+use Rattle.byte_records.proofs.Chain.{chain-le}
 use Rattle.counting_theory.specs.Encoding.{typeKey, typeSpan}
 use Rattle.counting_theory.proofs.KeyOrder.{Comparing, comparing-start, both-end, first-ends, second-ends, left-sibling, right-sibling, heads-less, heads-more, heads-same}
 use Rattle.type_arena.specs.Inside.Arena.{keysIn}

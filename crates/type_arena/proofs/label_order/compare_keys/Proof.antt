@@ -1,7 +1,7 @@
 -- `compare_keys` meets its contract. The loop's invariant: the key lists compare as what is left of them.
 use Prim.Native.Nat.{_-_}
 use native.Mathlib.Omega.{arith}
-use Rattle.value_table.proofs.Chain.{chain-le}
+use Rattle.byte_records.proofs.Chain.{chain-le}
 use Rattle.counting_theory.specs.Encoding.{typeKey, typeSpan}
 use Rattle.counting_theory.proofs.KeyOrder.{Comparing, comparing-start, both-end, first-ends, second-ends, left-sibling, right-sibling, heads-less, heads-more, heads-same}
 use Rattle.type_arena.specs.Inside.Arena.{keysIn}

@@ -5,7 +5,7 @@ use Prim.Native.Nat.{ℕ, _-_}
 use native.Mathlib.Omega.{arith}
 use borrow.Author.Needs.{needs}
 use Rattle.value_table.specs.Value.{keyAt, spanAt}
-use Rattle.value_table.specs.Inside.Chain.{Chain}
+use Rattle.byte_records.specs.Inside.Chain.{Chain}
 use Rattle.value_table.proofs.EarlierFields.{Left, left-step, left-found, left-next, left-none}
 use Rattle.value_table.proofs.faults.key_before.Statement.{statement}
 use Rattle.value_table.proofs.faults.key_before.Tie as tie

@@ -4,7 +4,7 @@ use mathlib.Core.List.{List, [], _∷_, _++_}
 use Prim.Native.Nat.{ℕ, _+_, _≤_}
 use native.Mathlib.Nat.{le-refl}
 use native.Mathlib.Omega.{arith}
-use Rattle.value_table.specs.Inside.Chain.{Chain, done, next}
+use Rattle.byte_records.specs.Inside.Chain.{Chain, done, next}
 
 -- what is known at a sibling
 pub record Sibling (span key : ℕ → ℕ) (end p : ℕ) (ks : List ℕ) : Type 0 where

@@ -1,0 +1,44 @@
+-- The laws of a table's layout that upper crates use too.
+use mathlib.Core.Path.{refl}
+use mathlib.Core.Bool.{true, false}
+use Prim.Native.Nat.{_%_}
+use native.Mathlib.Omega.{arith}
+use lib.Dec.{lit<}
+use lib.ListN.{length-append}
+use borrow.Author.Tests.{ltb-false, eqb-true, not-false, le-ltb, eq-eqb}
+use Rattle.byte_records.proofs.Tests.{or-parts}
+use Rattle.byte_records.proofs.Format.{length-record, field-read, next-read}
+use Rattle.value_table.specs.Value.{valueFormat, recordSize, maxLength, recordNumbers, kindAt, zeroAt, keyAt, spanAt, header, none, value, size, encode}
+use Rattle.value_table.specs.Judged.{badLength}
+use Rattle.value_table.specs.Inside.TableLayout.{EncodeLength, AllowedLength, KeyBelow, ValueFits, HeaderRead}
+
+pub length-encode : EncodeLength
+unfolding encode size header
+length-encode none = refl
+length-encode (value k y c s) = simp (length-append, length-record) (omega (arith, length-encode c, length-encode s))
+
+pub length-fits : AllowedLength
+unfolding badLength
+length-fits n = (
+  λ e. let p = or-parts _ _ e in (eqb-true (n % recordSize) 0 (not-false _ (p .0)), ltb-false maxLength n (p .1)),
+  λ h. rw (eq-eqb (n % recordSize) 0 (h .0), le-ltb maxLength n (h .1)) refl,
+)
+
+pub key-below : KeyBelow
+key-below true key h = h .1
+key-below false key h = omega arith
+
+pub value-fits : ValueFits
+value-fits field depth head key content p h = (omega (arith, p .kind-high), (lit< tt, (key-below field key (p .keyed), (h, tt))))
+
+pub header-read : HeaderRead
+unfolding header kindAt zeroAt keyAt spanAt
+header-read b i head key span rest h e =
+    let read = field-read valueFormat (recordNumbers head key span) b rest i e in
+    record {
+      head-is = λ j. record { kind = read 0 (h .0) j };
+      zero-is = read 1 (h .1 .0);
+      key-is = read 2 (h .1 .1 .0);
+      span-is = read 3 (h .1 .1 .1 .0);
+      rest-is = next-read valueFormat (recordNumbers head key span) b rest i e;
+    }

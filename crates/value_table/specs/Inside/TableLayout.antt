@@ -1,0 +1,39 @@
+-- Laws of a table's layout. Beside those in Acceptance they are all that the proofs of upper crates use of this crate's.
+use mathlib.Core.Path.{_≡_}
+use mathlib.Core.Bool.{Bool, false}
+use mathlib.Core.Logic.{_↔_}
+use mathlib.Core.List.{List, _++_}
+use Prim.Native.Nat.{ℕ, _+_, _*_, _%_, _^_, _≤_, _<_}
+use lib.ListN.{length, drop}
+use Rattle.byte_records.specs.Inside.Fits.{Fits}
+use Rattle.value_table.specs.Value.{valueFormat, recordSize, maxLength, Head, headAt, recordNumbers, zeroAt, keyAt, spanAt, header, Values, size, encode, KeyFits, Proper}
+use Rattle.value_table.specs.Judged.{badLength}
+
+-- a run of values takes as many bytes as its records
+abbrev pub EncodeLength : Type 0
+EncodeLength = (vs : Values) → length (encode vs) ≡ recordSize * size vs
+
+-- the lengths that are not refused by 1
+abbrev pub AllowedLength : Type 0
+AllowedLength = (n : ℕ) → (badLength n ≡ false) ↔ ((n % recordSize ≡ 0) × (n ≤ maxLength))
+
+-- keys fit two bytes, and so do all numbers of a value's record fit theirs
+abbrev pub KeyBelow : Type 0
+KeyBelow = (field : Bool) (key : ℕ) → KeyFits field key → key < 65536
+
+abbrev pub ValueFits : Type 0
+ValueFits = (field : Bool) (depth : ℕ) (head : Head) (key : ℕ) (content : Values) → Proper field depth head key content → 1 + size content < 2 ^ 32 →
+    Fits valueFormat (recordNumbers head key (1 + size content))
+
+-- the fields of record i, and the bytes after it
+pub record Fields (b : List ℕ) (i : ℕ) (head : Head) (zeroed key span : ℕ) (rest : List ℕ) : Type 0 where
+  pub head-is : headAt b i ≡ head
+  pub zero-is : zeroAt b i ≡ zeroed
+  pub key-is : keyAt b i ≡ key
+  pub span-is : spanAt b i ≡ span
+  pub rest-is : drop (recordSize * (i + 1)) b ≡ rest
+
+-- what is read at a record is what its header was written from
+abbrev pub HeaderRead : Type 0
+HeaderRead = (b : List ℕ) (i : ℕ) (head : Head) (key span : ℕ) (rest : List ℕ) → Fits valueFormat (recordNumbers head key span) →
+    drop (recordSize * i) b ≡ header head key span ++ rest → Fields b i head 0 key span rest
