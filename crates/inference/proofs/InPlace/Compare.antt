@@ -36,7 +36,7 @@ module _ (w : List ℕ) (n : ℕ) where
   keys-chain : Chain oneKey (keyIn w) n 0 (keysOf n w)
   keys-chain = chain-from n 0 (omega arith)
 
--- the first n keys of w and the key list of record p of b, from key i of the one and record j of the other on
+-- the first n keys of w and the key list of record p of b compare as what is left of them, from key i and from record j on
 pub record KeysLeft (b : List ℕ) (p : ℕ) (w : List ℕ) (n end i j : ℕ) : Type 0 where
   pub comparing : Comparing oneKey (keyIn w) n (typeSpan b) (typeKey b) end (keysOf n w) (keysIn b p) i j
   pub most : i ≤ n

@@ -1,4 +1,4 @@
--- `search` meets its contract.
+-- `search` meets its contract. Of its two loops the inner one, over key lists, comes first.
 use mathlib.Core.List.{List}
 use mathlib.Core.Bool.{Bool, cond}
 use mathlib.Core.Logic.{⊎-elim}
