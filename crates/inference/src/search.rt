@@ -9,13 +9,13 @@ use value_table::record;
 ghost use mathlib.Core.Path.{_≡_};
 ghost use mathlib.Core.Bool.{Bool, cond};
 ghost use mathlib.Core.List.{List};
-ghost use Prim.Native.Nat.{ℕ, _*_, _≤_};
+ghost use Prim.Native.Nat.{ℕ, _+_, _*_, _≤_};
 ghost use lib.Dec.{ltb};
 ghost use lib.ListN.{length};
-ghost use Rattle.counting_theory.specs.Label.{compareKeys, compareLabel, CountingType};
-ghost use Rattle.type_arena.specs.Inside.Arena.{byFlag, keysIn, labelAt, RecordIn, FieldsInside, Labelled};
-ghost use Rattle.type_arena.specs.Inside.LabelOrder.{orderingOf};
-ghost use Rattle.inference.specs.Inside.Inferring.{keySize, keysOf, wanted, spot, ArenaHolds, Starts, resumed, Shown};
+ghost use Rattle.counting_theory.specs.Label.{CountingType};
+ghost use Rattle.counting_theory.specs.Encoding.{typeSize};
+ghost use Rattle.type_arena.specs.Inside.Arena.{byFlag, RecordIn};
+ghost use Rattle.inference.specs.Inside.Inferring.{keySize, wanted, spot, HeadTells, ArenaHolds, Starts, resumed, Shown};
 
 // Where a label stands among siblings, or would.
 pub enum Found {
@@ -23,72 +23,38 @@ pub enum Found {
     Missing(usize),
 }
 
-// The first n keys of the working buffer against the key list of the record at p: the first key that differs settles it.
-fn compare_keys(b: &[u8], p: usize, work: &[u8], n: usize) -> Order
-    requires { ⌜ FieldsInside (now b) p × (keySize * n ≤ length (now work)) ⌝ }
-    ensures { λ r. ⌜ orderingOf r ≡ compareKeys (keysOf n (now (work .entry))) (keysIn (now (b .entry)) p) ⌝ }
-{
-    let end = p + span_at(b, p);
-    let mut i = 0;
-    let mut j = p + 1;
-    let order = loop {
-        if i == n {
-            if j == end {
-                break Order::Same;
-            }
-            break Order::Less;
-        }
-        if j == end {
-            break Order::More;
-        }
-        let k = number16(work, KEY_SIZE * i);
-        let m = key_at(b, j);
-        if k < m {
-            break Order::Less;
-        }
-        if m < k {
-            break Order::More;
-        }
-        i += 1;
-        j += span_at(b, j);
-    };
-    order
+// What kind and key tell of the order of two labels: the order, or that key lists settle it, and where the second one's ends.
+enum Head {
+    Settled(Order),
+    Lists(usize),
 }
 
-// A label against that of the record at p: by kind, then by key, then by key list.
-fn compare_label(
-    b: &[u8],
-    p: usize,
-    kind: u8,
-    key: usize,
-    work: &[u8],
-    n: usize,
-    label: bool,
-) -> Order
-    requires { ⌜ Labelled (now b) p × (keySize * n ≤ length (now work)) ⌝ }
-    ensures { λ r. ⌜ orderingOf r ≡ compareLabel (wanted (byFlag label) kind key n (now (work .entry))) (labelAt (byFlag label) (now (b .entry)) p) ⌝ }
+// A label against that of the record at p, by kind, then by key. Only records have key lists, and only under label.
+fn compare_head(b: &[u8], p: usize, kind: u8, key: usize, label: bool) -> Head
+    requires { ⌜ typeSize * p + typeSize ≤ length (now b) ⌝ }
+    ensures { λ r. ⌜ HeadTells (byFlag label) kind key (now (b .entry)) p r ⌝ }
 {
     let other_kind = kind_at(b, p);
     if kind < other_kind {
-        return Order::Less;
+        return Head::Settled(Order::Less);
     }
     if other_kind < kind {
-        return Order::More;
+        return Head::Settled(Order::More);
     }
     let other_key = key_at(b, p);
     if key < other_key {
-        return Order::Less;
+        return Head::Settled(Order::Less);
     }
     if other_key < key {
-        return Order::More;
+        return Head::Settled(Order::More);
     }
     if !label {
-        return Order::Same;
+        return Head::Settled(Order::Same);
     }
     if kind != record::RECORD {
-        return Order::Same;
+        return Head::Settled(Order::Same);
     }
-    compare_keys(b, p, work, n)
+    Head::Lists(p + span_at(b, p))
 }
 
 // Where a search may begin that follows one which ended at `from`.
@@ -112,7 +78,7 @@ pub fn resume_at(b: &[u8], p: usize, n: usize, field: bool) -> usize
 }
 
 // Where the label stands among n records of siblings, or would. The search begins where the last one ended, at `from`, and starts again
-// if the label comes before the sibling there.
+// if the label comes before the sibling there. The first key at which two key lists differ settles the order.
 pub fn search(
     b: &[u8],
     from: usize,
@@ -131,22 +97,37 @@ pub fn search(
     let mut at = search_start(from, n);
     let mut resumed = 0 < at;
     while at < n {
-        match compare_label(b, at, kind, key, work, keys, label) {
+        let mut i = 0;
+        let mut j = at + 1;
+        let order = match compare_head(b, at, kind, key, label) {
+            Head::Settled(order) => order,
+            Head::Lists(end) => loop {
+                if i == keys {
+                    break if j == end { Order::Same } else { Order::Less };
+                }
+                if j == end {
+                    break Order::More;
+                }
+                let k = number16(work, KEY_SIZE * i);
+                let m = key_at(b, j);
+                if k != m {
+                    break if k < m { Order::Less } else { Order::More };
+                }
+                i += 1;
+                j += span_at(b, j);
+            },
+        };
+        match order {
             Order::Less => {
                 if !resumed {
                     return Found::Missing(at);
                 }
-                resumed = false;
                 at = 0;
             }
-            Order::Same => {
-                return Found::Here(at);
-            }
-            Order::More => {
-                resumed = false;
-                at += span_at(b, at);
-            }
+            Order::Same => return Found::Here(at),
+            Order::More => at += span_at(b, at),
         }
+        resumed = false;
     }
     Found::Missing(at)
 }

@@ -1,13 +1,18 @@
--- The key list in the working buffer, key by key.
+-- The key list in the working buffer, key by key, and beside that of a record.
 use mathlib.Core.Path.{_≡_, _∙_, ap}
 use mathlib.Core.List.{List, _∷_}
-use Prim.Native.Nat.{ℕ, zero, suc, _+_, _*_}
+use Prim.Native.Nat.{ℕ, zero, suc, _+_, _*_, _≤_}
 use native.Mathlib.Numerals.{add-one}
 use native.Mathlib.Omega.{arith}
-use lib.ListN.{drop, drop-of-length-le}
+use lib.ListN.{length, drop, drop-of-length-le}
 use lib.Seq.{drop-cons}
 use Rattle.byte_records.specs.Number.{numberAt}
 use Rattle.byte_records.specs.Inside.Chain.{Chain, done, next}
+use Rattle.byte_records.proofs.Chain.{chain-le}
+use Rattle.counting_theory.specs.Encoding.{typeSize, typeKey, typeSpan}
+use Rattle.counting_theory.proofs.KeyOrder.{Comparing, comparing-start, left-sibling, right-sibling, heads-same}
+use Rattle.type_arena.specs.Inside.Arena.{keysIn, FieldsInside}
+use Rattle.type_arena.proofs.Fields.{inside-chain}
 use Rattle.inference.specs.Inside.Inferring.{keysOf}
 use Rattle.inference.proofs.InPlace.Numbers.{length-numbers, numbers-at}
 
@@ -28,5 +33,23 @@ module _ (w : List ℕ) (n : ℕ) where
       rw (add-one i) (drop-cons (keysOf n w) i 0 (omega (arith, length-numbers 2 n w)) ∙ ap (λ x. x ∷ drop (suc i) (keysOf n w)) (numbers-at 2 n i w (omega arith))) in
       rw head (next {p = i} (omega arith) (omega arith) (chain-from k (i + 1) (omega arith)))
 
-  pub keys-chain : Chain oneKey (keyIn w) n 0 (keysOf n w)
+  keys-chain : Chain oneKey (keyIn w) n 0 (keysOf n w)
   keys-chain = chain-from n 0 (omega arith)
+
+-- the first n keys of w and the key list of record p of b compare as what is left of them, from key i and from record j on
+pub record KeysLeft (b : List ℕ) (p : ℕ) (w : List ℕ) (n end i j : ℕ) : Type 0 where
+  pub comparing : Comparing oneKey (keyIn w) n (typeSpan b) (typeKey b) end (keysOf n w) (keysIn b p) i j
+  pub most : i ≤ n
+  pub upto : j ≤ end
+  pub within : typeSize * end ≤ length b
+
+module _ {b : List ℕ} {p : ℕ} {w : List ℕ} {n : ℕ} where
+  pub left-start : FieldsInside b p → KeysLeft b p w n (p + typeSpan b p) 0 (p + 1)
+  left-start h =
+      record { comparing = comparing-start (keys-chain w n) (inside-chain h); most = omega arith; upto = chain-le (h .chain); within = h .within }
+
+  pub left-next : {end i j : ℕ} → KeysLeft b p w n end i j → (i ≡ n → ⊥) → (j ≡ end → ⊥) → keyIn w i ≡ typeKey b j → KeysLeft b p w n end (i + 1) (j + typeSpan b j)
+  left-next s f g k =
+      let x = left-sibling (s .comparing) f g in
+      let y = right-sibling (s .comparing) f g in
+      record { comparing = heads-same (s .comparing) f g k; most = omega arith; upto = omega arith; within = s .within }

@@ -17,6 +17,8 @@ use Rattle.inference.specs.declared.key_list.Listed.{Listed}
 use Rattle.inference.specs.declared.key_list.Listed.the-variants.{Keys, TooMany}
 use Rattle.inference.specs.declared.search.Found.{Found}
 use Rattle.inference.specs.declared.search.Found.the-variants.{Here, Missing}
+use Rattle.inference.specs.declared.search.Head.{Head}
+use Rattle.inference.specs.declared.search.Head.the-variants.{Settled, Lists}
 use Rattle.inference.specs.declared.placing.Put.{Put}
 use Rattle.inference.specs.declared.placing.Put.the-variants.{NoRoom, At}
 use Rattle.inference.specs.declared.inferring.Inferred.{Inferred}
@@ -26,9 +28,11 @@ use Rattle.counting_theory.specs.Payload.{Payload, join}
 use Rattle.counting_theory.specs.Inside.Times.{times}
 use Rattle.counting_theory.specs.Trie.{nil, node, size, insert, add, Sorted}
 use Rattle.counting_theory.specs.Inside.TrieLaws.{append}
-use Rattle.counting_theory.specs.Label.{Equivalence, Label, fieldKind, listed, labelOf, compareLabel, Counting, CountingType}
+use Rattle.counting_theory.specs.Label.{Equivalence, Label, fieldKind, listed, labelOf, compareKeys, compareLabel, Counting, CountingType}
 use Rattle.counting_theory.specs.Raw.{ascending, raw}
-use Rattle.counting_theory.specs.Encoding.{typeSize, typeSpan, header, encode, Tagged}
+use Rattle.counting_theory.specs.Encoding.{typeSize, typeKind, typeSpan, header, encode, Tagged}
+use Rattle.type_arena.specs.Inside.Arena.{keysIn, labelAt}
+use Rattle.type_arena.specs.Inside.LabelOrder.{orderingOf}
 use Rattle.type_arena.specs.Inside.Payload.{itemPayload}
 
 -- the first n numbers in bytes, each of `width` bytes
@@ -84,6 +88,13 @@ ListedIn vs TooMany w = length w < keySize * length (keys vs)
 -- the label of a kind and a key, with the first n keys of w as its key list
 abbrev pub wanted : Equivalence → ℕ → ℕ → ℕ → List ℕ → Label
 wanted e kind key n w = labelOf e kind key (keysOf n w)
+
+-- what a kind and a key tell of the order between their label, whatever its key list, and that of record p
+abbrev pub HeadTells : Equivalence → ℕ → ℕ → List ℕ → ℕ → Head → Type 0
+HeadTells e kind key b p (Settled o) = (keys : List ℕ) → orderingOf o ≡ compareLabel (labelOf e kind key keys) (labelAt e b p)
+HeadTells e kind key b p (Lists end) =
+    (end ≡ p + typeSpan b p) × (typeKind b p ≡ recordKind) ×
+    ((keys : List ℕ) → compareKeys keys (keysIn b p) ≡ compareLabel (labelOf e kind key keys) (labelAt e b p))
 
 -- where the label l stands, or would, among siblings, in records from `at`
 unfoldable pub spotHere : Ordering → ℕ → Found → Found
