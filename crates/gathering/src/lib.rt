@@ -14,6 +14,7 @@ use value_table::record::front_at;
 use value_table::record::span_at;
 ghost use mathlib.Core.Path.{_≡_};
 ghost use mathlib.Core.Bool.{true, false};
+ghost use mathlib.Core.Logic.{_↔_};
 ghost use mathlib.Core.List.{List, []};
 ghost use Prim.Native.Nat.{ℕ, _+_, _*_, _≤_, _<_};
 ghost use lib.ListN.{length, replicate};
@@ -45,7 +46,7 @@ const ONE: usize = 8192;
 // Whether the messages at records j and i have the same bytes.
 fn same_message(t: &[u8], j: usize, i: usize) -> bool
     requires { ⌜ (j ≤ i) × (1 ≤ spanAt (now t) i) × (recordSize * (i + spanAt (now t) i) ≤ length (now t)) × (length (now t) ≤ maxLength) ⌝ }
-    ensures { λ r. ⌜ (r ≡ true → SameMessage (now (t .entry)) j i) ⌝ }
+    ensures { λ r. ⌜ (r ≡ true) ↔ SameMessage (now (t .entry)) j i ⌝ }
 {
     let span = span_at(t, i);
     if span_at(t, j) != span {
@@ -180,6 +181,7 @@ fn slots_for(arena: usize, table: usize) -> usize
 }
 
 // Adds the messages of an accepted table to an empty arena. Without slots they are added one by one.
+// The contract leaves free what a full arena, the bytes behind the type and the working buffer hold: `infer` clears them.
 pub fn add_messages(a: &mut [u8], t: &[u8], label: bool, work: &mut [u8]) -> Inferred
     requires { ⌜ AcceptedTable (now t) × (length (now a) ≤ maxLength) × (length (now a) ≤ length (now work)) ⌝ }
     ensures { λ r. ⌜ Added (profileOf (byFlag label) (messages (now (t .entry)))) [] 0 r (now (a .exit)) ⌝ }

@@ -47,6 +47,8 @@ fn field_start(b: &[u8], from: usize, n: usize, key: usize) -> usize
 }
 
 // Looks for a field among n records of fields.
+// The contract leaves free whether the field is missing where the answer is `Behind`, and which field that names: a search by the
+// whole label goes on there, and may begin at any.
 fn seek_field(b: &[u8], from: usize, n: usize, key: usize) -> Sought
     requires { ⌜ SomeFrom true (now b) n from ⌝ }
     ensures { λ r. ⌜ ((label : Bool) (rest : ℕ) (f : CountingType) (q free : List ℕ) →
@@ -68,7 +70,7 @@ fn seek_field(b: &[u8], from: usize, n: usize, key: usize) -> Sought
     Sought::Behind(before)
 }
 
-// The same, where the field is mostly the one at `from`.
+// The same, where the field is mostly the one at `from`. The same is left free.
 fn find_field(b: &[u8], from: usize, n: usize, key: usize) -> Sought
     requires { ⌜ SomeFrom true (now b) n from ⌝ }
     ensures { λ r. ⌜ ((label : Bool) (rest : ℕ) (f : CountingType) (q free : List ℕ) →

@@ -9,6 +9,7 @@ use lib.ListN.{length}
 use borrow.Author.Tests.{ltb-false, leb-true, eqb-true, eqb-false, not-false, le-ltb, le-leb, eq-eqb, ne-eqb}
 use Rattle.value_table.specs.Value.{records, kindAt, zeroAt, keyAt, spanAt, member, KeyFits, lastScalar, arrayKind, maxDepth}
 use Rattle.value_table.specs.Judged.{Open, endOf, inRecord, seen, badKind, badSpan, badKey, repeated, tooDeep, fault}
+use Rattle.value_table.specs.Inside.RecordBytes.{PlainScalar}
 use Rattle.byte_records.proofs.Tests.{or-parts, and-parts, and-false}
 
 -- record i breaks no rule in a parent that ends at `end`, has had the keys `before`, and holds values at `depth`
@@ -28,11 +29,11 @@ abbrev pub FaultlessIn : List ℕ → ℕ → List Open → Type 0
 FaultlessIn b i around = Faultless b i (endOf (records b) around) (inRecord around) (seen around) (suc (length around))
 
 -- the kind and the span of a scalar of one record are no fault
-pub scalar-fine : (b : List ℕ) (i : ℕ) → spanAt b i ≡ 1 → 1 ≤ kindAt b i → kindAt b i ≤ lastScalar → zeroAt b i ≡ 0 → (badKind b i ≡ false) × ((end : ℕ) → i < end → badSpan b i end ≡ false)
+pub scalar-fine : (b : List ℕ) (i end : ℕ) → PlainScalar b i → i < end → (badKind b i ≡ false) × (badSpan b i end ≡ false)
 unfolding badKind badSpan
-scalar-fine b i s l h z = (
-  rw (le-leb 1 (kindAt b i) l, le-leb (kindAt b i) arrayKind (omega arith), eq-eqb (zeroAt b i) 0 z) refl,
-  λ end m. rw (s, le-ltb end (i + 1) (omega arith), and-false (leb (kindAt b i) lastScalar) false (λ e. refl)) refl,
+scalar-fine b i end p m = (
+  rw (le-leb 1 (kindAt b i) (p .kind-low), le-leb (kindAt b i) arrayKind (omega (arith, p .kind-high)), eq-eqb (zeroAt b i) 0 (p .zeroed)) refl,
+  rw (p .single, le-ltb end (i + 1) (omega arith), and-false (leb (kindAt b i) lastScalar) false (λ e. refl)) refl,
 )
 
 passed : (t : Bool) (k x : ℕ) → cond t (suc k) x ≡ 0 → (t ≡ false) × (x ≡ 0)

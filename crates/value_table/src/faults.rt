@@ -7,7 +7,8 @@ use crate::record::kind_at;
 use crate::record::span_at;
 use crate::record::zero_at;
 ghost use mathlib.Core.Path.{_≡_};
-ghost use mathlib.Core.Bool.{Bool, true, false};
+ghost use mathlib.Core.Bool.{Bool, true};
+ghost use mathlib.Core.Logic.{_↔_};
 ghost use mathlib.Core.List.{List};
 ghost use Prim.Native.Nat.{ℕ, _+_, _*_, _%_, _≤_, _<_};
 ghost use lib.ListN.{length};
@@ -15,6 +16,7 @@ ghost use Rattle.value_table.specs.Value.{recordSize, maxLength, keyAt, 
 ghost use Rattle.value_table.specs.Inside.EarlierFields.{numberOfFinding, EarlierFields, FieldsBefore, Parent, FaultIs, keyBuckets, Latest};
 ghost use Rattle.value_table.specs.Judged.{badKind, badSpan, badKey, repeated};
 ghost use Rattle.byte_records.specs.Inside.Chain.{Chain};
+ghost use Rattle.value_table.specs.Inside.RecordBytes.{PlainScalar};
 
 // How many buckets the keys are spread over.
 pub const KEY_BUCKETS: usize = 64;
@@ -59,7 +61,7 @@ fn bad_span(table: &[u8], i: usize, end: usize) -> bool
 // Whether record i has span 1, a scalar kind and a zero byte 1: a quick way past faults 3 and 4.
 fn plain_scalar(table: &[u8], i: usize) -> bool
     requires { ⌜ recordSize * i + recordSize ≤ length (now table) ⌝ }
-    ensures { λ r. ⌜ (r ≡ true → (badKind (now (table .entry)) i ≡ false) × ((end : ℕ) → i < end → badSpan (now (table .entry)) i end ≡ false)) ⌝ }
+    ensures { λ r. ⌜ (r ≡ true) ↔ PlainScalar (now (table .entry)) i ⌝ }
 {
     if span_at(table, i) != 1 {
         return false;

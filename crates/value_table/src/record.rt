@@ -4,6 +4,7 @@ use byte_records::little_endian::number32;
 use byte_records::little_endian::number64;
 ghost use mathlib.Core.Path.{_≡_};
 ghost use mathlib.Core.Bool.{true};
+ghost use mathlib.Core.Logic.{_↔_};
 ghost use Prim.Native.Nat.{_+_, _*_, _≤_, _<_};
 ghost use lib.ListN.{length};
 ghost use Rattle.byte_records.specs.Number.{numberAt};
@@ -78,7 +79,7 @@ pub fn span_at(table: &[u8], i: usize) -> usize
 // Whether records i and j have the same bytes. A record has the bytes of one number, so one comparison tells.
 pub fn same_record(table: &[u8], i: usize, j: usize) -> bool
     requires { ⌜ (recordSize * i + recordSize ≤ length (now table)) × (recordSize * j + recordSize ≤ length (now table)) ⌝ }
-    ensures { λ r. ⌜ (r ≡ true → recordAt (now (table .entry)) i ≡ recordAt (now (table .entry)) j) ⌝ }
+    ensures { λ r. ⌜ (r ≡ true) ↔ (recordAt (now (table .entry)) i ≡ recordAt (now (table .entry)) j) ⌝ }
 {
     number64(table, SIZE * i) == number64(table, SIZE * j)
 }

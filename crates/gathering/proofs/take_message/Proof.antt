@@ -52,7 +52,7 @@ returns c =
     let k = r .before .before .slot-of in
     let z = slot-is r in
     rw (c .before .before .put-slot .ensures (b .args .slots) (k .ensures) (omega (arith, s .3 .few, s .3 .enough)), z)
-    (taken-same (s .0) (s .2) (s .1) (k .result) (inside r) (rw z at (c .before .before .before .before .before .same-message .ensures (c .before .before .before .before .if1 .taken))))
+    (taken-same (s .0) (s .2) (s .1) (k .result) (inside r) (rw z at (c .before .before .before .before .before .same-message .ensures .0 (c .before .before .before .before .if1 .taken))))
 
 add-waiting-requires : tie.Need-add-waiting-requires
 add-waiting-requires c κs =

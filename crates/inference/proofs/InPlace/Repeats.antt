@@ -1,13 +1,13 @@
 -- Records that have the same bytes are equal values, and equal values are added at once.
 use mathlib.Core.Path.{_≡_, refl, sym, _∙_, ap, subst}
 use mathlib.Core.Bool.{Bool, true, false}
-use mathlib.Core.List.{List, _++_, append-assoc}
-use Prim.Native.Nat.{ℕ, zero, suc, _+_, _-_, _*_, _≤_, _<_}
+use mathlib.Core.List.{List, [], _∷_, _++_, append-assoc}
+use Prim.Native.Nat.{ℕ, zero, suc, _+_, _-_, _*_, _/_, _≤_, _<_}
 use native.Mathlib.Nat.{mul-suc, mul-one, add-assoc}
 use native.Mathlib.Omega.{arith}
 use native.Mathlib.Decide.{decLt}
 use lib.ListN.{length, take, drop, getD, length-append, length-drop, take-append-drop}
-use lib.Seq.{take-add, drop-drop, take-at, drop-at}
+use lib.Seq.{take-take, take-add, drop-drop, take-at, drop-at}
 use Rattle.value_table.specs.Value.{Head, valueFormat, recordSize, maxLength, header, Values, none, value, size, encode, Proper, ValidAt}
 use Rattle.value_table.specs.Inside.RecordBytes.{recordAt}
 use Rattle.byte_records.proofs.Format.{length-record, record-same}
@@ -16,7 +16,7 @@ use Rattle.counting_theory.specs.Trie.{add, Sorted}
 use Rattle.counting_theory.specs.Label.{Equivalence, Counting, CountingType}
 use Rattle.counting_theory.specs.Raw.{raw}
 use Rattle.counting_theory.specs.Inside.Times.{times}
-use Rattle.inference.specs.Inside.Inferring.{EqualRecords}
+use Rattle.inference.specs.Inside.Inferring.{EqualRecords, MostEqualRecords, MostEqualValues}
 use Rattle.counting_theory.proofs.Label.{counting-laws}
 use Rattle.counting_theory.proofs.Trie.Sorted.{sorted-add}
 use Rattle.counting_theory.proofs.Times.{add-times}
@@ -51,6 +51,11 @@ module _ {t : List ℕ} {i j : ℕ} where
   equal-later : (k m n : ℕ) → k + m ≤ n → EqualRecords t i j n → EqualRecords t (i + k) (j + k) m
   equal-later k m n h q = record { within = omega (arith, q .within); same = λ x l. rw (add-assoc i k x, add-assoc j k x) (q .same (k + x) (omega arith)) }
 
+-- as many equal values as there are whole ones in the most equal records
+pub most-values : (t : List ℕ) (i next n r : ℕ) → (next - i) * r ≤ n → n < (next - i) * (r + 1) → MostEqualRecords t i next (length t / recordSize) n → MostEqualValues t i next r
+most-values t i next n r h l q =
+    record { equal = equal-fewer n _ h (q .equal); differ = λ z. q .differ (omega (arith, z .within)) (z .same n l) }
+
 -- equal records have the same bytes
 pub same-bytes : (t : List ℕ) (i j n : ℕ) → EqualRecords t i j n → take (recordSize * n) (drop (recordSize * i) t) ≡ take (recordSize * n) (drop (recordSize * j) t)
 same-bytes t i j zero q = refl
@@ -61,6 +66,23 @@ same-bytes t i j (suc n) q =
     λ x. ap (λ z. take z (drop (recordSize * x) t)) m ∙ take-add (recordSize * n) recordSize (drop (recordSize * x) t)
     ∙ ap (λ z. take (recordSize * n) (drop (recordSize * x) t) ++ take recordSize z) (drop-drop (recordSize * n) (recordSize * x) t ∙ ap (λ z. drop z t) (at x)) in
     cut i ∙ rw (same-bytes t i j n (equal-fewer (suc n) n (omega arith) q), q .same n (omega arith)) (sym (cut j))
+
+-- a part of the front of a list
+take-inside : (k m n : ℕ) (l : List ℕ) → k + m ≤ n → take m (drop k (take n l)) ≡ take m (drop k l)
+take-inside zero m n l h = take-take m n l (omega arith)
+take-inside (suc k) m zero l h = absurd (omega arith)
+take-inside (suc k) m (suc n) [] h = refl
+take-inside (suc k) m (suc n) (x ∷ l) h = take-inside k m n l (omega arith)
+
+-- and the same bytes hold equal records
+pub same-records : (t : List ℕ) (i j n : ℕ) → take (recordSize * n) (drop (recordSize * i) t) ≡ take (recordSize * n) (drop (recordSize * j) t) →
+    (x : ℕ) → x < n → recordAt t (i + x) ≡ recordAt t (j + x)
+same-records t i j n e x l =
+    let part : (k : ℕ) → take recordSize (drop (recordSize * x) (take (recordSize * n) (drop (recordSize * k) t))) ≡ recordAt t (k + x) =
+    λ k. let z : recordSize * k + recordSize * x ≡ recordSize * (k + x) = omega arith in
+    take-inside (recordSize * x) recordSize (recordSize * n) (drop (recordSize * k) t) (omega arith)
+    ∙ ap (take recordSize) (drop-drop (recordSize * x) (recordSize * k) t ∙ ap (λ p. drop p t) z) in
+    sym (part i) ∙ ap (λ b. take recordSize (drop (recordSize * x) b)) e ∙ part j
 
 append-same : (a b x y : List ℕ) → length a ≡ length b → a ++ x ≡ b ++ y → (a ≡ b) × (x ≡ y)
 append-same a b x y n e =

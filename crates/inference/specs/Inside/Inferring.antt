@@ -4,7 +4,7 @@ use mathlib.Core.Path.{_≡_}
 use mathlib.Core.Bool.{Bool, true, cond}
 use mathlib.Core.List.{List, [], _∷_, _++_}
 use mathlib.Core.Option.{Option, none, some}
-use Prim.Native.Nat.{ℕ, zero, suc, _+_, _*_, _/_, _≤_, _<_, Ordering, Ordering·lt as lt, Ordering·eq as eq, Ordering·gt as gt}
+use Prim.Native.Nat.{ℕ, zero, suc, _+_, _-_, _*_, _/_, _≤_, _<_, Ordering, Ordering·lt as lt, Ordering·eq as eq, Ordering·gt as gt}
 use lib.Dec.{eqb, ltb}
 use lib.ListN.{length, take, drop}
 use Rattle.byte_records.specs.Number.{numberOf}
@@ -242,6 +242,17 @@ pub record ItemAt (field : Bool) (t : List ℕ) (i : ℕ) (x : Item) : Type 0 wh
 pub record EqualRecords (t : List ℕ) (i j n : ℕ) : Type 0 where
   pub within : table.recordSize * (j + n) ≤ length t
   pub same : (x : ℕ) → x < n → recordAt t (i + x) ≡ recordAt t (j + x)
+
+-- the same, and no more up to record `end`
+pub record MostEqualRecords (t : List ℕ) (i j end n : ℕ) : Type 0 where
+  pub equal : EqualRecords t i j n
+  pub upto : j + n ≤ end
+  pub differ : j + n < end → recordAt t (i + n) ≡ recordAt t (j + n) → ⊥
+
+-- n values like the one from record i to next directly follow it, and no more
+pub record MostEqualValues (t : List ℕ) (i next n : ℕ) : Type 0 where
+  pub equal : EqualRecords t i next ((next - i) * n)
+  pub differ : EqualRecords t i next ((next - i) * (n + 1)) → ⊥
 
 -- t is the table of its messages, as call 1 accepts it
 pub record AcceptedTable (t : List ℕ) : Type 0 where

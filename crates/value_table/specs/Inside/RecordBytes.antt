@@ -1,8 +1,16 @@
--- The bytes of a value record.
+-- The bytes of a value record, and when one is a plain scalar.
+use mathlib.Core.Path.{_≡_}
 use mathlib.Core.List.{List}
-use Prim.Native.Nat.{ℕ, _*_}
+use Prim.Native.Nat.{ℕ, _*_, _≤_}
 use lib.ListN.{take, drop}
-use Rattle.value_table.specs.Value.{recordSize}
+use Rattle.value_table.specs.Value.{recordSize, lastScalar, kindAt, zeroAt, spanAt}
 
 abbrev pub recordAt : List ℕ → ℕ → List ℕ
 recordAt b i = take recordSize (drop (recordSize * i) b)
+
+-- record i is a scalar with a zero byte 1 and span 1
+pub record PlainScalar (b : List ℕ) (i : ℕ) : Type 0 where
+  pub kind-low : 1 ≤ kindAt b i
+  pub kind-high : kindAt b i ≤ lastScalar
+  pub zeroed : zeroAt b i ≡ 0
+  pub single : spanAt b i ≡ 1

@@ -335,10 +335,10 @@ module _ (t : ℕ) where
     weighed : let x = c .before .read-item .result in Weighed weight (take (recordSize * x .next - x .start) (drop (x .start) (asked-of (c .before .before) .args .t .now)))
     weighed =
         let i = c .before .before in
-        turn-weighed (one (standing i)) (table-short i) (more i) (c .before .read-item .ensures) (c .equal-values .result) (c .equal-values .ensures) (asked-of i .pre .1 .3)
+        turn-weighed (one (standing i)) (table-short i) (more i) (c .before .read-item .ensures) (c .equal-values .result) (c .equal-values .ensures .equal) (asked-of i .pre .1 .3)
 
     few : 1 + c .equal-values .result ≤ weight
-    few = let i = c .before .before in turn-few (one (standing i)) (table-short i) (more i) (c .before .read-item .ensures) (c .equal-values .result) (c .equal-values .ensures)
+    few = let i = c .before .before in turn-few (one (standing i)) (table-short i) (more i) (c .before .read-item .ensures) (c .equal-values .result) (c .equal-values .ensures .equal)
 
   -- what is said of the siblings after it
   module _ (c : add-run-lts.After-add-item (add-run-calls t) (add-run-at t) add-run.Post add-run-Inv-loop add-run-μ-loop) where
@@ -457,28 +457,28 @@ module _ (t : ℕ) where
   add-run-returns-2 : add-run-lts.Need-returns-2 (add-run-calls t) (add-run-at t) add-run.Post add-run-Inv-loop add-run-μ-loop
   add-run-returns-2 c f q free vs h r =
       let k = c .before .before .before .before .before .before in
-      turn-full (ran (known k) f q free vs h r) (r .short) (more (behind k)) (read k .read-item .ensures) (group k .equal-values .result) (group k .equal-values .ensures) _ _ _ (c .enum-told .given .1) (added k f q free vs h r)
+      turn-full (ran (known k) f q free vs h r) (r .short) (more (behind k)) (read k .read-item .ensures) (group k .equal-values .result) (group k .equal-values .ensures .equal) _ _ _ (c .enum-told .given .1) (added k f q free vs h r)
 
   add-run-resume-at-requires : add-run-lts.Need-resume-at-requires (add-run-calls t) (add-run-at t) add-run.Post add-run-Inv-loop add-run-μ-loop
   add-run-resume-at-requires c κs =
       let k = c .before .before .before .before .before .before .before .before in
       let g = asked-of (behind k) .pre .1 in
       turn-room (ran (known k) (g .0 .f) (g .0 .q) (g .0 .free) (g .1 .values) (g .0 .holds) (g .1 .run)) (g .1 .run .short) (more (behind k)) (read k .read-item .ensures)
-      (group k .equal-values .result) (group k .equal-values .ensures) _ _ _ _ (c .before .before .p .given .1) (added k (g .0 .f) (g .0 .q) (g .0 .free) (g .1 .values) (g .0 .holds) (g .1 .run)) (short-arena k)
+      (group k .equal-values .result) (group k .equal-values .ensures .equal) _ _ _ _ (c .before .before .p .given .1) (added k (g .0 .f) (g .0 .q) (g .0 .free) (g .1 .values) (g .0 .holds) (g .1 .run)) (short-arena k)
 
   add-run-sub-i : add-run-lts.Need-sub-i (add-run-calls t) (add-run-at t) add-run.Post add-run-Inv-loop add-run-μ-loop
   add-run-sub-i c = let k = c .before .before .before .before .before .before .before .before .before in omega (arith, order (read k))
 
   add-run-mul-i : add-run-lts.Need-mul-i (add-run-calls t) (add-run-at t) add-run.Post add-run-Inv-loop add-run-μ-loop
-  add-run-mul-i c = let k = c .before .before .before .before .before .before .before .before .before in omega (arith, group k .equal-values .ensures .within, table-short (behind k))
+  add-run-mul-i c = let k = c .before .before .before .before .before .before .before .before .before in omega (arith, group k .equal-values .ensures .equal .within, table-short (behind k))
 
   add-run-add-i : add-run-lts.Need-add-i (add-run-calls t) (add-run-at t) add-run.Post add-run-Inv-loop add-run-μ-loop
-  add-run-add-i c = let k = c .before .before .before .before .before .before .before .before .before in omega (arith, group k .equal-values .ensures .within, table-short (behind k))
+  add-run-add-i c = let k = c .before .before .before .before .before .before .before .before .before in omega (arith, group k .equal-values .ensures .equal .within, table-short (behind k))
 
   add-run-loop-less : add-run-lts.Need-loop-less (add-run-calls t) (add-run-at t) add-run.Post add-run-Inv-loop add-run-μ-loop
   add-run-loop-less c =
       let k = c .before .before .before .before .before .before .before .before .before in
-      omega (arith, order (read k), group k .equal-values .ensures .within, state (head (known k)) .loop .inv .0, known k .count-standing .ensures .0)
+      omega (arith, order (read k), group k .equal-values .ensures .equal .within, state (head (known k)) .loop .inv .0, known k .count-standing .ensures .0)
 
   add-run-loop-again : add-run-lts.Need-loop-again (add-run-calls t) (add-run-at t) add-run.Post add-run-Inv-loop add-run-μ-loop
   add-run-loop-again c =
@@ -487,7 +487,7 @@ module _ (t : ℕ) where
         k .add-item .kept .0 ∙ same-arena-at (known k),
         same-work-at k,
         λ f q free vs h r.
-            turn-added (ran (known k) f q free vs h r) (r .short) (more (behind k)) (read k .read-item .ensures) (group k .equal-values .result) (group k .equal-values .ensures) _ _ _ _ (c .before .before .before .p .given .1) (added k f q free vs h r) (short-arena k)
+            turn-added (ran (known k) f q free vs h r) (r .short) (more (behind k)) (read k .read-item .ensures) (group k .equal-values .result) (group k .equal-values .ensures .equal) _ _ _ _ (c .before .before .before .p .given .1) (added k f q free vs h r) (short-arena k)
             (h .used) _ (c .resume-at .ensures),
       )
 

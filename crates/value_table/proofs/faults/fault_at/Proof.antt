@@ -8,6 +8,7 @@ use borrow.Author.Needs.{needs}
 use borrow.Author.Tests.{lt-ltb, le-ltb, not-false}
 use Rattle.value_table.specs.Judged.{fault, badKind, badSpan, badKey, repeated, tooDeep}
 use Rattle.value_table.specs.Inside.EarlierFields.{FieldsBefore}
+use Rattle.value_table.proofs.Faultless.{scalar-fine}
 use Rattle.value_table.proofs.EarlierFields.{first-field}
 use Rattle.value_table.proofs.faults.fault_at.Statement.{statement}
 use Rattle.value_table.proofs.faults.fault_at.Tie as tie
@@ -17,7 +18,7 @@ head-fine : (c : tie.Joined1) → let a = c .before .before .before .args in (ba
 head-fine c =
     ⊎-elim
     (λ w. (sym (w .1 .ensures) ∙ w .2 .left, sym (w .3 .ensures) ∙ w .4 .left))
-    (λ w. let s = c .before .plain-scalar .ensures (not-false _ (w .left)) in (s .0, s .1 _ (c .before .before .before .pre .2)))
+    (λ w. scalar-fine _ _ _ (c .before .plain-scalar .ensures .0 (not-false _ (w .left))) (c .before .before .before .pre .2))
     (c .if1 .came)
 
 key-fine : (c : tie.Else4) → let a = c .before .before .before .before .before .args in (f : Bool) (ks : List ℕ) → FieldsBefore (a .table .now) (a .i) (a .first) f ks → badKey (a .table .now) (a .i) f ≡ false
