@@ -4,7 +4,7 @@ use mathlib.Core.List.{List, [], _∷_, flatMap}
 use mathlib.Core.Logic.{_↔_}
 use mathlib.Core.Option.{Option, none as absent, some}
 use mathlib.Core.Path.{_≡_}
-use Prim.Native.Nat.{ℕ}
+use Prim.Native.Nat.{ℕ, _≤_}
 use lib.Dec.{eqb, isEq}
 use lib.ListN.{length}
 use Rattle.value_table.specs.Value.{Head, Values, none, value, keys, member, Distinct, Valid, recordKind, arrayKind}
@@ -104,10 +104,19 @@ payloadReached (field k M) = gathered (λ v. oneField) (having k M)
 abbrev pub payloadAt : Equivalence → List Value → List Label → Option Payload
 payloadAt eq M place = payloadReached (reached eq M place)
 
--- the profile has a place exactly if some value of the messages has it, with what these values give together
+-- at each place the profile has what the values there give together
 abbrev pub Counts : Type 0
 Counts = (eq : Equivalence) (messages : Values) → Valid messages → (place : List Label) →
     lookup Counting (profileOf eq messages) place ≡ payloadAt eq (valuesOf messages) place
+
+-- a place stands in f, with some payload
+abbrev pub Stands : CountingType → List Label → Type 0
+Stands f place = (a : Payload) × (lookup Counting f place ≡ some a)
+
+-- the profile has a place exactly if some value of the messages has it
+abbrev pub StandsExactly : Type 0
+StandsExactly = (eq : Equivalence) (messages : Values) → Valid messages → (place : List Label) →
+    Stands (profileOf eq messages) place ↔ (1 ≤ length (valuesAt eq (valuesOf messages) place))
 
 -- the count at a place is the number of values there; a field's is the number of records there that have it
 abbrev pub countOf : Option Payload → ℕ

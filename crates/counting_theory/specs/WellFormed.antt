@@ -1,7 +1,6 @@
 -- Which bytes are a well-formed type: 'Type arena' of document 01, rule by rule in its order, on any bytes.
 use mathlib.Core.Path.{_≡_}
 use mathlib.Core.Logic.{_⊎_, _↔_}
-use mathlib.Core.Option.{some}
 use mathlib.Core.Bool.{Bool, true, false, cond, not, _&&_, _||_}
 use mathlib.Core.List.{List}
 use Prim.Native.Nat.{ℕ, zero, suc, _+_, _*_, _%_, _≤_, _<_, Ordering, Ordering·lt as lt, Ordering·eq as eq, Ordering·gt as gt}
@@ -10,11 +9,11 @@ use lib.ListN.{length}
 use Rattle.byte_records.specs.Number.{Bytes}
 use Rattle.value_table.specs.Value.{recordSize, maxLength, maxDepth, recordKind, arrayKind, lastScalar, Values, none, value, Valid}
 use Rattle.value_table.specs.Value as table
-use Rattle.counting_theory.specs.Payload.{Payload, proper}
+use Rattle.counting_theory.specs.Payload.{proper}
 use Rattle.counting_theory.specs.Trie.{nil, node, size, lookup, reduce, Sorted, total, largestTotal}
 use Rattle.counting_theory.specs.Label.{Equivalence, byKind, byLabel, Label, fieldKind, compareLabel, Counting, CountingType}
 use Rattle.counting_theory.specs.Raw.{profileOf}
-use Rattle.counting_theory.specs.Place.{_⊞_, countOf, FieldTotals}
+use Rattle.counting_theory.specs.Place.{_⊞_, countOf, Stands, FieldTotals}
 use Rattle.counting_theory.specs.Encoding.{typeSize, typeRecords, typeKind, typeZero, typeKey, typeSpan, encode, typeOf, Tagged}
 
 -- the most that the counts of one union may total
@@ -161,10 +160,6 @@ abbrev pub ReduceIsType : Type 0
 ReduceIsType = (e : Equivalence) (a b : List ℕ) (f g : CountingType) → IsType e a f → IsType e b g →
     typeSize * size (reduce Counting f g) ≤ maxLength → withinLimit (reduce Counting f g) ≡ true →
     IsType e (encode (reduce Counting f g)) (reduce Counting f g)
-
--- a place stands in f, with some payload
-abbrev pub Stands : CountingType → List Label → Type 0
-Stands f place = (a : Payload) × (lookup Counting f place ≡ some a)
 
 -- A place stands in the reduced type of f and g exactly if it stands in one of the two, with what they have there together; its count is
 -- the sum of theirs, where a type without the place counts 0.

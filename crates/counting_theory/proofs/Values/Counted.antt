@@ -6,13 +6,13 @@ use Rattle.counting_theory.specs.Payload.{oneField}
 use Rattle.counting_theory.specs.Trie.{lookup}
 use Rattle.counting_theory.specs.Label.{Equivalence, Label, fieldLabel, Counting, CountingType}
 use Rattle.counting_theory.specs.Raw.{raw, profileOf}
-use Rattle.counting_theory.specs.Place.{Value, valuesOf, elements, fieldValues, sameLabel, ofClass, Reached, values, field, follow, having, followAll, reached, gathered, payloadReached, payloadAt, Counts}
+use Rattle.counting_theory.specs.Place.{Value, valuesOf, elements, fieldValues, sameLabel, ofClass, Reached, values, field, follow, having, followAll, reached, gathered, payloadReached, payloadAt, Counts, StandsExactly}
 use Rattle.counting_theory.proofs.Label.{counting-laws}
 use Rattle.counting_theory.proofs.Trie.Canonical.{lookup-root}
 use Rattle.counting_theory.proofs.Trie.Profile.{lookup-profile}
 use Rattle.counting_theory.proofs.Values.Every.{EachValid, valid-class, valid-values, valid-elements, valid-under}
 use Rattle.counting_theory.proofs.Values.Labels.{same-label}
-use Rattle.counting_theory.proofs.Values.Tally.{tally, gathered-same}
+use Rattle.counting_theory.proofs.Values.Tally.{tally, gathered-same, some-reached}
 use Rattle.counting_theory.proofs.Values.Raw.{contents, rawOf, raw-values, lookup-class}
 use Rattle.counting_theory.proofs.Values.Contents.{contents-field, contents-element}
 use Rattle.counting_theory.proofs.Values.Having.{length-having}
@@ -58,3 +58,6 @@ pub counts : Counts
 unfolding profileOf
 counts e messages h q =
     lookup-profile counting-laws (raw e false messages) q ∙ rw (raw-values e messages) (counts-raw e (valuesOf messages) (valid-values false 1 messages h) q)
+
+pub stands-exactly : StandsExactly
+stands-exactly e messages h q = rw (counts e messages h q) (some-reached (reached e (valuesOf messages) q))

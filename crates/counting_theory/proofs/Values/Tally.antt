@@ -1,7 +1,9 @@
 -- What some values give together, as a trie holds it at the end of a path or below it.
 use mathlib.Core.Path.{_≡_, refl, sym, _∙_, ap}
 use mathlib.Core.List.{List, [], _∷_, _++_}
+use mathlib.Core.Logic.{_↔_}
 use mathlib.Core.Option.{Option, none, some}
+use Prim.Native.Nat.{_≤_}
 use native.Mathlib.Omega.{arith}
 use lib.ListN.{length}
 use Rattle.counting_theory.specs.Payload.{Payload, oneField, join}
@@ -11,6 +13,7 @@ use Rattle.counting_theory.specs.Place.{Value, _⊞_, Reached, values, f
 use Rattle.counting_theory.proofs.Payload.{count-join, count-one, count-field}
 use Rattle.counting_theory.proofs.Label.{counting-laws}
 use Rattle.counting_theory.proofs.Trie.Join.{⊞-assoc}
+use Rattle.counting_theory.proofs.Trie.Canonical.{some-none}
 
 -- x at a path's end, else what stands below
 unfoldable pub tally : Option Payload → Option Payload → List Label → Option Payload
@@ -44,6 +47,11 @@ module _ (give : Value → Payload) where
   gathered-append [] N = refl
   gathered-append (v ∷ M) N = ap (λ x. some (give v) ⊞ x) (gathered-append M N) ∙ sym (⊞-assoc counting-laws (some (give v)) (gathered give M) (gathered give N))
 
+  gathered-some : (M : List Value) → ((a : Payload) × (gathered give M ≡ some a)) ↔ (1 ≤ length M)
+  unfolding gathered
+  gathered-some [] = (λ h. absurd (some-none (sym (h .1))), λ h. absurd (omega arith))
+  gathered-some (v ∷ M) = (λ h. omega arith, λ h. some-joined (give v) (gathered give M))
+
   count-gathered : ((v : Value) → give v .count ≡ 1) → (M : List Value) → countOf (gathered give M) ≡ length M
   unfolding gathered joinOption
   count-gathered h [] = refl
@@ -71,3 +79,8 @@ count-reached (field k M) = count-gathered (λ v. oneField) (λ v. count-field) 
 
 pub count-is-number : CountIsNumber
 count-is-number e M place = count-reached (reached e M place)
+
+pub some-reached : (r : Reached) → ((a : Payload) × (payloadReached r ≡ some a)) ↔ (1 ≤ length (valuesReached r))
+unfolding payloadReached valuesReached
+some-reached (values M) = gathered-some valuePayload M
+some-reached (field k M) = gathered-some (λ v. oneField) (having k M)

@@ -8,8 +8,8 @@ use native.Mathlib.Omega.{arith}
 use Rattle.counting_theory.specs.Payload.{Payload, join}
 use Rattle.counting_theory.specs.Trie.{_⊞_ as joinOption, lookup}
 use Rattle.counting_theory.specs.Label.{Label, Counting, CountingType}
-use Rattle.counting_theory.specs.Place.{_⊞_, countOf}
-use Rattle.counting_theory.specs.WellFormed.{Stands, OneOrder, MergedPlaces, MergedTwice}
+use Rattle.counting_theory.specs.Place.{_⊞_, countOf, Stands}
+use Rattle.counting_theory.specs.WellFormed.{OneOrder, MergedPlaces, MergedTwice}
 use Rattle.counting_theory.proofs.Payload.{count-join}
 use Rattle.counting_theory.proofs.Label.{counting-laws}
 use Rattle.counting_theory.proofs.Trie.Lookup.{lookup-reduce}

@@ -17,7 +17,7 @@ EncodeLength = (vs : Values) → length (encode vs) ≡ recordSize * size vs
 abbrev pub AllowedLength : Type 0
 AllowedLength = (n : ℕ) → (badLength n ≡ false) ↔ ((n % recordSize ≡ 0) × (n ≤ maxLength))
 
--- keys fit two bytes, and so do all numbers of a value's record fit theirs
+-- a key fits two bytes, and all numbers of a value's record fit their fields
 abbrev pub KeyBelow : Type 0
 KeyBelow = (field : Bool) (key : ℕ) → KeyFits field key → key < 65536
 
