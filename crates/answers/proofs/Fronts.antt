@@ -7,6 +7,7 @@ use native.Mathlib.Omega.{arith}
 use lib.ListN.{length, take, length-take}
 use lib.Seq.{sets, sets-eq, take-at}
 use borrow.Author.Tests.{lt-ltb, le-ltb, not-true, not-false}
+use Rattle.byte_records.specs.Number.{zeros}
 use Rattle.value_table.specs.declared.Fault.{Fault}
 use Rattle.value_table.specs.declared.Fault.the-variants as faults
 use Rattle.value_table.specs.Outcome.{accepted, refused}
@@ -19,7 +20,7 @@ use Rattle.counting_theory.specs.Trie.{size}
 use Rattle.counting_theory.specs.Label.{Equivalence, CountingType}
 use Rattle.counting_theory.specs.Encoding.{typeSize, encode}
 use Rattle.counting_theory.specs.WellFormed.{withinLimit}
-use Rattle.counting_theory.specs.Answers.{Written, turnedDown, zeros, leaves, stored, inferredFrom, mergedTypes}
+use Rattle.counting_theory.specs.Answers.{Written, turnedDown, leaves, stored, inferredFrom, mergedTypes}
 use Rattle.answers.specs.Outcomes.{numberOfRefusal, outcomeOf, leftBy}
 use Rattle.answers.specs.Inside.Front.{WrittenInFront}
 use Rattle.counting_theory.proofs.Encoding.Header.{length-encode}

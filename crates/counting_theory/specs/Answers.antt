@@ -5,7 +5,8 @@ use mathlib.Core.List.{List, [], _++_}
 use mathlib.Core.Option.{Option, none, some}
 use Prim.Native.Nat.{ℕ, zero, suc, _*_, _-_, _/_}
 use lib.Dec.{eqb, ltb}
-use lib.ListN.{length, replicate}
+use lib.ListN.{length}
+use Rattle.byte_records.specs.Number.{zeros}
 use Rattle.value_table.specs.Value.{maxLength}
 use Rattle.value_table.specs.Outcome.{Outcome, accepted, refused}
 use Rattle.value_table.specs.Judged.{badLength, judged, messages}
@@ -38,10 +39,7 @@ turnedDown number place = record { outcome = refused number place; bytes = [] }
 
 -- an arena of n bytes afterwards: the type's bytes at the front, the rest zero
 abbrev pub arenaWith : ℕ → Written → List ℕ
-arenaWith n w = w .bytes ++ replicate (n - length (w .bytes)) 0
-
-abbrev pub zeros : ℕ → List ℕ
-zeros n = replicate n 0
+arenaWith n w = w .bytes ++ zeros (n - length (w .bytes))
 
 -- What a call leaves: its answer and the buffers lent to it. A merge has no working buffer.
 pub record Left : Type 0 where

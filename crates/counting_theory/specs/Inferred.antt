@@ -4,11 +4,11 @@ use mathlib.Core.Bool.{Bool, false}
 use mathlib.Core.Logic.{_↔_}
 use Prim.Native.Nat.{ℕ}
 use lib.Dec.{eqb}
-use Rattle.value_table.specs.Value.{Head, Values, none, value, Valid, recordKind}
+use Rattle.value_table.specs.Value.{Head, Values, none, value, Valid, recordKind, joinValues}
 use Rattle.counting_theory.specs.Payload.{one}
 use Rattle.counting_theory.specs.Trie.{nil, reduce, Sorted}
 use Rattle.counting_theory.specs.Label.{Equivalence, labelOf, Counting, CountingType}
-use Rattle.counting_theory.specs.Raw.{addend, joinValues, profileOf}
+use Rattle.counting_theory.specs.Raw.{addend, profileOf}
 use Rattle.counting_theory.specs.Encoding.{siblingKeys, Tagged}
 use Rattle.counting_theory.specs.Published.{EReduced}
 

@@ -1,24 +1,24 @@
 -- 'Ways of bringing messages together' of document 01, and condition 3 as one claim over every way.
 use mathlib.Core.Path.{_≡_}
-use mathlib.Core.Bool.{Bool, true, false, cond, _&&_}
+use mathlib.Core.Bool.{true, false, cond, _&&_}
 use mathlib.Core.List.{List, [], _∷_, _++_}
 use mathlib.Core.Logic.{_⊎_}
 use mathlib.Core.Option.{Option, none, some}
 use Prim.Native.Nat.{ℕ, zero, suc, _+_, _*_, _-_, _≤_, _<_, pred}
-use lib.Dec.{eqb, ltb}
+use lib.Dec.{ltb}
 use lib.ListN.{length, take}
-use Rattle.byte_records.specs.Number.{Bytes}
+use Rattle.byte_records.specs.Number.{Bytes, sameBytes, zeros}
 use Rattle.value_table.specs.Outcome.{accepted, refused}
-use Rattle.value_table.specs.Value.{Values, value}
+use Rattle.value_table.specs.Value.{Values, value, joinValues}
 use Rattle.value_table.specs.Value as table
 use Rattle.value_table.specs.Judged.{judged, messages}
 use Rattle.counting_theory.specs.Trie.{size, lookup}
 use Rattle.counting_theory.specs.Label.{Equivalence, Label, Counting, CountingType}
-use Rattle.counting_theory.specs.Raw.{joinValues, profileOf}
+use Rattle.counting_theory.specs.Raw.{profileOf}
 use Rattle.counting_theory.specs.Place.{valuesOf, valuesAt, payloadAt, countOf}
 use Rattle.counting_theory.specs.Encoding.{typeSize, encode, typeOf}
 use Rattle.counting_theory.specs.WellFormed.{withinLimit, badTypeLength, IsType}
-use Rattle.counting_theory.specs.Answers.{equivalenceNumber, houseDefault, Left, leaves, zeros, inferred, inferredDefault, merged}
+use Rattle.counting_theory.specs.Answers.{equivalenceNumber, houseDefault, Left, leaves, inferred, inferredDefault, merged}
 
 -- One call of a plan, with the buffers lent to it as they are beforehand: call 2, call 3, or call 5 on the i-th type at hand, as the
 -- first, and the j-th of the others, as the second.
@@ -96,12 +96,6 @@ planMessages (merge i j arena ∷ calls) = planMessages calls
 unfoldable pub messageBytes : Values → List (List ℕ)
 messageBytes table.none = []
 messageBytes (value head key content next) = table.encode (value head key content table.none) ∷ messageBytes next
-
-unfoldable pub sameBytes : List ℕ → List ℕ → Bool
-sameBytes [] [] = true
-sameBytes [] (y ∷ ys) = false
-sameBytes (x ∷ xs) [] = false
-sameBytes (x ∷ xs) (y ∷ ys) = eqb x y && sameBytes xs ys
 
 unfoldable pub occurrences : List ℕ → List (List ℕ) → ℕ
 occurrences m [] = 0

@@ -79,6 +79,11 @@ unfoldable pub keys : Values → List ℕ
 keys none = []
 keys (value head key content next) = key ∷ keys next
 
+-- two collections of values together, those of the first before those of the second
+unfoldable pub joinValues : Values → Values → Values
+joinValues none ys = ys
+joinValues (value head key content next) ys = value head key content (joinValues next ys)
+
 -- in preorder: a value, then its fields or elements
 unfoldable pub encode : Values → List ℕ
 encode none = []

@@ -3,11 +3,11 @@ use mathlib.Core.Path.{_≡_, refl, sym, _∙_, ap, subst}
 use mathlib.Core.Bool.{Bool, true, false}
 use Prim.Native.Nat.{ℕ, suc}
 use lib.Dec.{eqb}
-use Rattle.value_table.specs.Value.{Head, recordKind, Values, none, value, Proper, ValidAt}
+use Rattle.value_table.specs.Value.{Head, recordKind, Values, none, value, Proper, ValidAt, joinValues}
 use Rattle.counting_theory.specs.Payload.{Payload, one}
 use Rattle.counting_theory.specs.Trie.{nil, insert, add, profile}
 use Rattle.counting_theory.specs.Label.{Equivalence, Label, labelOf, Counting, CountingType}
-use Rattle.counting_theory.specs.Raw.{classOf, addend, raw, profileOf, joinValues}
+use Rattle.counting_theory.specs.Raw.{classOf, addend, raw, profileOf}
 use Rattle.counting_theory.specs.Encoding.{siblingKeys}
 use Rattle.counting_theory.specs.Inferred.{ownType, Infers, empty, single, union, InfersProfile, ProfileReduced}
 use Rattle.counting_theory.proofs.Trie.Sorted.{sorted-profile}

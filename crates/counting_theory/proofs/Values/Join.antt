@@ -3,12 +3,12 @@ use mathlib.Core.Path.{_≡_, refl, sym, _∙_, ap}
 use mathlib.Core.Bool.{Bool, true, false}
 use Prim.Native.Nat.{ℕ}
 use lib.Dec.{eqb}
-use Rattle.value_table.specs.Value.{recordKind, Values, none, value, ValidAt, Valid}
+use Rattle.value_table.specs.Value.{recordKind, Values, none, value, ValidAt, Valid, joinValues}
 use Rattle.counting_theory.specs.Payload.{Payload, one}
 use Rattle.counting_theory.specs.Trie.{profile, reduce}
 use Rattle.counting_theory.specs.Inside.TrieLaws.{append}
 use Rattle.counting_theory.specs.Label.{Equivalence, Label, Counting, CountingType}
-use Rattle.counting_theory.specs.Raw.{classOf, addend, raw, profileOf, joinValues}
+use Rattle.counting_theory.specs.Raw.{classOf, addend, raw, profileOf}
 use Rattle.counting_theory.specs.Inferred.{ProfileOfBoth}
 use Rattle.counting_theory.proofs.Label.{counting-laws}
 use Rattle.counting_theory.proofs.Trie.Profile.{reduce-profile}

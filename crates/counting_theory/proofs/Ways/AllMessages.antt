@@ -2,11 +2,11 @@
 use mathlib.Core.Path.{_≡_, refl, sym, _∙_, ap}
 use mathlib.Core.Bool.{false}
 use mathlib.Core.List.{List, [], _∷_, List·Permᴰ, List·Permᴰ·cons, Permᴰ·symm}
-use Rattle.value_table.specs.Value.{Values, none}
+use Rattle.value_table.specs.Value.{Values, none, joinValues}
 use Rattle.counting_theory.specs.Trie.{nil, profile}
 use Rattle.counting_theory.specs.Inside.TrieLaws.{append, concat, NoLarger}
 use Rattle.counting_theory.specs.Label.{Equivalence, Counting, CountingType}
-use Rattle.counting_theory.specs.Raw.{raw, profileOf, joinValues}
+use Rattle.counting_theory.specs.Raw.{raw, profileOf}
 use Rattle.counting_theory.proofs.Label.{counting-laws}
 use Rattle.counting_theory.proofs.Trie.Profile.{profile-perm, profile-append-comm}
 use Rattle.counting_theory.proofs.Ways.Parts.{concat-pair, profile-swap, part-noLarger}

@@ -6,10 +6,10 @@ use mathlib.Core.Option.{some}
 use Prim.Native.Nat.{ℕ, suc, pred}
 use native.Mathlib.Omega.{arith}
 use lib.ListN.{length}
-use Rattle.value_table.specs.Value.{Values, Valid}
+use Rattle.value_table.specs.Value.{Values, Valid, joinValues}
 use Rattle.value_table.specs.Judged.{messages}
 use Rattle.counting_theory.specs.Label.{Equivalence, CountingType}
-use Rattle.counting_theory.specs.Raw.{raw, profileOf, joinValues}
+use Rattle.counting_theory.specs.Raw.{raw, profileOf}
 use Rattle.counting_theory.specs.Encoding.{encode}
 use Rattle.counting_theory.specs.WellFormed.{badTypeLength, IsType, EachFits}
 use Rattle.counting_theory.specs.Answers.{Left, leaves, equivalenceNumber, merged, mergedTypes}

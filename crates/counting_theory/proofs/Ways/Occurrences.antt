@@ -5,8 +5,9 @@ use mathlib.Core.List.{List, [], _∷_, List·Permᴰ, List·Permᴰ·nil, List�
 use Prim.Native.Nat.{ℕ, _+_, _≤_}
 use native.Mathlib.Omega.{arith}
 use borrow.Author.Tests.{eqb-true, eq-eqb}
+use Rattle.byte_records.specs.Number.{sameBytes}
 use Rattle.byte_records.proofs.Tests.{and-parts}
-use Rattle.counting_theory.specs.Ways.{sameBytes, occurrences}
+use Rattle.counting_theory.specs.Ways.{occurrences}
 
 same-refl : (m : List ℕ) → sameBytes m m ≡ true
 unfolding sameBytes

@@ -4,13 +4,13 @@ use mathlib.Core.Bool.{false}
 use mathlib.Core.List.{List, [], _∷_, map, Permᴰ·map}
 use Prim.Native.Nat.{ℕ}
 use native.Mathlib.Omega.{arith}
-use Rattle.value_table.specs.Value.{Head, Values, none, value, ValidAt, Valid}
+use Rattle.value_table.specs.Value.{Head, Values, none, value, ValidAt, Valid, joinValues}
 use Rattle.value_table.specs.Value as table
 use Rattle.value_table.specs.Judged.{messages}
 use Rattle.value_table.proofs.Acceptance.{unique}
 use Rattle.counting_theory.specs.Inside.TrieLaws.{append, concat}
 use Rattle.counting_theory.specs.Label.{Equivalence, CountingType}
-use Rattle.counting_theory.specs.Raw.{raw, profileOf, joinValues}
+use Rattle.counting_theory.specs.Raw.{raw, profileOf}
 use Rattle.counting_theory.specs.WellFormed.{EachFits}
 use Rattle.counting_theory.specs.Ways.{Call, infer, inferDefault, merge, AllAllowed, planMessages, messageBytes, occurrences, Accepted}
 use Rattle.counting_theory.proofs.Label.{counting-laws}

@@ -9,13 +9,14 @@ use lib.Dec.{ltb}
 use lib.ListN.{length, take}
 use lib.Seq.{take-at}
 use borrow.Author.Tests.{ltb-true, ltb-false}
+use Rattle.byte_records.specs.Number.{zeros}
 use Rattle.value_table.specs.Outcome.{accepted}
 use Rattle.counting_theory.specs.Trie.{size}
 use Rattle.counting_theory.specs.Inside.TrieLaws.{NoLarger}
 use Rattle.counting_theory.specs.Label.{Counting, CountingType}
 use Rattle.counting_theory.specs.Encoding.{typeSize, encode}
 use Rattle.counting_theory.specs.WellFormed.{withinLimit}
-use Rattle.counting_theory.specs.Answers.{Left, leaves, Written, turnedDown, zeros, mergedTypes}
+use Rattle.counting_theory.specs.Answers.{Left, leaves, Written, turnedDown, mergedTypes}
 use Rattle.counting_theory.specs.Ways.{goOn, WithinLimits, Ends}
 use Rattle.counting_theory.proofs.Encoding.Header.{length-encode}
 use Rattle.counting_theory.proofs.WellFormed.Limit.{limit-part}

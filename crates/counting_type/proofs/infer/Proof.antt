@@ -2,7 +2,7 @@
 use mathlib.Core.Path.{_∙_, ap}
 use native.Mathlib.Omega.{arith}
 use borrow.Author.Needs.{needs}
-use Rattle.counting_theory.specs.Answers.{zeros}
+use Rattle.byte_records.specs.Number.{zeros}
 use Rattle.answers.proofs.Fronts.{front-length, front-cleared}
 use Rattle.byte_records.proofs.Clear.{cleared-whole}
 use Rattle.answers.proofs.Exact.{exact-inferred}
