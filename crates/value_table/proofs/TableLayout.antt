@@ -7,10 +7,10 @@ use lib.Dec.{lit<}
 use lib.ListN.{length-append}
 use borrow.Author.Tests.{ltb-false, eqb-true, not-false, le-ltb, eq-eqb}
 use Rattle.byte_records.proofs.Tests.{or-parts}
-use Rattle.byte_records.proofs.Format.{length-record, field-read, next-read}
+use Rattle.byte_records.proofs.Format.{length-record, field-set, field-read, next-read}
 use Rattle.value_table.specs.Value.{valueFormat, recordSize, maxLength, recordNumbers, kindAt, zeroAt, keyAt, spanAt, header, none, value, size, encode}
 use Rattle.value_table.specs.Judged.{badLength}
-use Rattle.value_table.specs.Inside.TableLayout.{EncodeLength, AllowedLength, KeyBelow, ValueFits, HeaderRead}
+use Rattle.value_table.specs.Inside.TableLayout.{EncodeLength, AllowedLength, KeyBelow, ValueFits, HeaderRead, HeaderLength, SpanStored}
 
 pub length-encode : EncodeLength
 unfolding encode size header
@@ -42,3 +42,11 @@ header-read b i head key span rest h e =
       span-is = read 3 (h .1 .1 .1 .0);
       rest-is = next-read valueFormat (recordNumbers head key span) b rest i e;
     }
+
+pub length-header : HeaderLength
+unfolding header
+length-header head key span = length-record valueFormat _
+
+pub span-stored : SpanStored
+unfolding header
+span-stored head key span new rest = field-set valueFormat (recordNumbers head key span) rest 3 new (lit< tt)

@@ -5,9 +5,12 @@ use mathlib.Core.Logic.{_↔_}
 use mathlib.Core.List.{List, _++_}
 use Prim.Native.Nat.{ℕ, _+_, _*_, _%_, _^_, _≤_, _<_}
 use lib.ListN.{length, drop}
+use lib.Seq.{sets}
+use Rattle.byte_records.specs.Number.{bytesOf}
 use Rattle.byte_records.specs.Inside.Fits.{Fits}
 use Rattle.value_table.specs.Value.{valueFormat, recordSize, maxLength, Head, headAt, recordNumbers, zeroAt, keyAt, spanAt, header, Values, size, encode, KeyFits, Proper}
 use Rattle.value_table.specs.Judged.{badLength}
+use Rattle.value_table.specs.Inside.RecordBytes.{spanOffset}
 
 -- a run of values takes as many bytes as its records
 abbrev pub EncodeLength : Type 0
@@ -37,3 +40,10 @@ pub record Fields (b : List ℕ) (i : ℕ) (head : Head) (zeroed key span : ℕ)
 abbrev pub HeaderRead : Type 0
 HeaderRead = (b : List ℕ) (i : ℕ) (head : Head) (key span : ℕ) (rest : List ℕ) → Fits valueFormat (recordNumbers head key span) →
     drop (recordSize * i) b ≡ header head key span ++ rest → Fields b i head 0 key span rest
+
+-- the bytes of a header, and a span stored in it
+abbrev pub HeaderLength : Type 0
+HeaderLength = (head : Head) (key span : ℕ) → length (header head key span) ≡ recordSize
+
+abbrev pub SpanStored : Type 0
+SpanStored = (head : Head) (key span new : ℕ) (rest : List ℕ) → sets (header head key span ++ rest) spanOffset (bytesOf 4 new) ≡ header head key new ++ rest
