@@ -1,0 +1,2 @@
+-- The laws behind the contracts; a folder for each function's proof.
+pub mod Marks

@@ -1,0 +1,2 @@
+// The reader from JSON text to a value table.
+mod key_marks;
