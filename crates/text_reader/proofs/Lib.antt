@@ -1,2 +1,3 @@
 -- The laws behind the contracts; a folder for each function's proof.
 pub mod Marks
+pub mod Laid
