@@ -5,7 +5,6 @@ pub mod Begin
 pub mod ToCome
 pub mod Turn
 pub mod Whole
-pub mod Keys
 pub mod Sound
 pub mod Limits
 pub mod Octets

@@ -9,7 +9,7 @@ use Rattle.value_table.specs.Value.{Head, Values, none, value, size, keys, memb
 use Rattle.json_theory.specs.Grammar.{Container, array, object, headOf, kindOf}
 use Rattle.json_theory.specs.Steps.{Stack, base, level, add}
 use Rattle.json_theory.specs.Reader.{depth, written}
-use Rattle.json_theory.proofs.Keys.{distinct-snoc, distinct-parts}
+use Rattle.value_table.proofs.TableLayout.{distinct-snoc, distinct-parts}
 
 pub size-join : (a b : Values) → size (joinValues a b) ≡ size a + size b
 unfolding size joinValues

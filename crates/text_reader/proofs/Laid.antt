@@ -4,7 +4,7 @@ use mathlib.Core.List.{List, [], _++_, append-assoc, append-nil}
 use Prim.Native.Nat.{ℕ, _+_, _*_, _≤_}
 use native.Mathlib.Omega.{arith}
 use lib.ListN.{length, drop, length-append}
-use lib.Seq.{sets, sets-eq, drop-at}
+use lib.Seq.{sets, sets-eq}
 use Rattle.byte_records.specs.Number.{bytesOf}
 use Rattle.byte_records.proofs.Format.{sets-behind}
 use Rattle.value_table.specs.Value.{recordSize, Head, Values, none, value, size, encode, header, joinValues}

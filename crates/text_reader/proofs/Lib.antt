@@ -1,3 +1,4 @@
 -- The laws behind the contracts; a folder for each function's proof.
 pub mod Marks
+pub mod MarksHold
 pub mod Laid

@@ -2,11 +2,10 @@
 use byte_records::little_endian::number16;
 use byte_records::store::store16;
 ghost use mathlib.Core.Path.{_≡_};
-ghost use Prim.Native.Nat.{_*_, _≤_, _<_};
+ghost use Prim.Native.Nat.{_*_, _<_};
 ghost use lib.Dec.{eqb};
-ghost use lib.ListN.{length, getD, set};
-ghost use Rattle.value_table.specs.Value.{maxDepth, maxLength};
-ghost use Rattle.text_reader.specs.Inside.Marks.{markSize, marksOf, slotOf, Slot};
+ghost use lib.ListN.{getD, set};
+ghost use Rattle.text_reader.specs.Inside.Marks.{marksOf, slotOf, Slot};
 
 const MARK_SIZE: usize = 2;
 
