@@ -10,29 +10,29 @@ use Rattle.json_tokens.proofs.quoted.character_end.Tie as tie
 
 escape-end-requires : tie.Need-escape-end-requires
 escape-end-requires c κs =
-    let start = c .before .before in
-    let text = start .args .text .now in
-    let at = start .args .at in
-    let i = byte-inside text at (omega (arith, start .pre)) in search needs
+    let entry = c .before .before in
+    let text = entry .args .text .now in
+    let at = entry .args .at in
+    let i = byte-inside text at (omega (arith, entry .pre)) in search needs
 
 returns : tie.Need-returns
 returns c =
-    let start = c .before .before .before in
-    let text = start .args .text .now in
-    let at = start .args .at in
-    escaped-char text at (sym (start .pre .1) ∙ c .before .if1 .taken) (c .escape-end .result) (c .escape-end .ensures)
+    let entry = c .before .before .before in
+    let text = entry .args .text .now in
+    let at = entry .args .at in
+    escaped-char text at (sym (entry .pre .1) ∙ c .before .if1 .taken) (c .escape-end .result) (c .escape-end .ensures)
 
 returns-2 : tie.Need-returns-2
 returns-2 c =
-    let start = c .before .before .before .before in
-    let text = start .args .text .now in
-    let at = start .args .at in
-    let e = ap isPlain (sym (start .pre .1)) ∙ sym (c .before .is-plain .ensures) ∙ c .if2 .taken in plain-char text at e (plain-inside text at e)
+    let entry = c .before .before .before .before in
+    let text = entry .args .text .now in
+    let at = entry .args .at in
+    let e = ap isPlain (sym (entry .pre .1)) ∙ sym (c .before .is-plain .ensures) ∙ c .if2 .taken in plain-char text at e (plain-inside text at e)
 
 wide-end-requires : tie.Need-wide-end-requires
 wide-end-requires c κs =
-    let start = c .before .before .before .before in
-    ((start .pre .0), (start .pre .1), wide-first _ (start .pre .2) (c .before .before .if1 .left) (sym (c .before .is-plain .ensures) ∙ c .if2 .left))
+    let entry = c .before .before .before .before in
+    ((entry .pre .0), (entry .pre .1), wide-first _ (entry .pre .2) (c .before .before .if1 .left) (sym (c .before .is-plain .ensures) ∙ c .if2 .left))
 
 returns-3 : tie.Need-returns-3
 returns-3 c = c .wide-end .ensures

@@ -11,9 +11,9 @@ use Rattle.json_tokens.proofs.quoted.escape_end.Tie as tie
 
 hex-end-requires : tie.Need-hex-end-requires
 hex-end-requires c κs =
-    let start = c .before .before .before in
-    let text = start .args .text .now in
-    let from = start .args .from in
+    let entry = c .before .before .before in
+    let text = entry .args .text .now in
+    let from = entry .args .from in
     let i = byte-inside text from (omega (arith, c .before .byte-at .ensures)) in search needs
 
 returns : tie.Need-returns

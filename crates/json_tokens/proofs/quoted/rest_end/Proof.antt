@@ -23,10 +23,10 @@ loop-holds c = (chars-start (c .before .pre .0), c .before .pre .0)
 
 returns : tie.Need-returns Inv-loop μ-loop
 returns c =
-    let start = c .before .before .before .before .before in
+    let entry = c .before .before .before .before .before in
     let turn = c .before .before .before in
-    let text = start .args .text .now in
-    let from = start .args .from in
+    let text = entry .args .text .now in
+    let from = entry .args .from in
     let inv = turn .loop .inv in
     subst (QuotedIs text from) (sym (c .quoted .ensures)) (chars-shut _ _ _ (inv .0) (sym (c .before .before .byte-at .ensures) ∙ c .before .if1 .taken))
 
@@ -35,9 +35,9 @@ character-end-requires c κs = ((c .before .before .loop .inv .1, c .before .bef
 
 loop-less : tie.Need-loop-less Inv-loop μ-loop
 loop-less c =
-    let start = c .before .before .before .before .before .before .before .before .before in
+    let entry = c .before .before .before .before .before .before .before .before .before in
     let turn = c .before .before .before .before .before .before .before in
-    let text = start .args .text .now in
+    let text = entry .args .text .now in
     let inv = turn .loop .inv in
     let at = turn .loop .at in
     let h : CharTo text at (c .before .before .end .given .0 .0) = subst (CharIs text at) (c .before .before .end .given .1)
@@ -46,10 +46,10 @@ loop-less c =
 
 loop-again : tie.Need-loop-again Inv-loop μ-loop
 loop-again c =
-    let start = c .before .before .before .before .before .before .before .before .before in
+    let entry = c .before .before .before .before .before .before .before .before .before in
     let turn = c .before .before .before .before .before .before .before in
-    let text = start .args .text .now in
-    let from = start .args .from in
+    let text = entry .args .text .now in
+    let from = entry .args .from in
     let escaped = turn .loop .escaped in
     let inv = turn .loop .inv in
     let at = turn .loop .at in
@@ -63,9 +63,9 @@ loop-again c =
 
 returns-2 : tie.Need-returns-2 Inv-loop μ-loop
 returns-2 c =
-    let start = c .before .before .before .before .before .before .before .before in
+    let entry = c .before .before .before .before .before .before .before .before in
     let turn = c .before .before .before .before .before .before in
-    let text = start .args .text .now in
+    let text = entry .args .text .now in
     let inv = turn .loop .inv in
     let at = turn .loop .at in
     stops-on (inv .0 .goes) (subst (CharIs text at) (c .before .fault .given .1) (c .before .before .before .character-end .ensures))

@@ -7,16 +7,16 @@ use Rattle.json_tokens.proofs.quoted.tail_end.Tie as tie
 
 returns : tie.Need-returns
 returns c =
-    let start = c .before .before .before in
-    let text = start .args .text .now in
-    let from = start .args .from in
+    let entry = c .before .before .before in
+    let text = entry .args .text .now in
+    let from = entry .args .from in
     tail-last text from (sym (c .before .byte-within .ensures) ∙ c .if1 .taken)
 
 returns-2 : tie.Need-returns-2
 returns-2 c =
-    let start = c .before .before .before in
-    let text = start .args .text .now in
-    let from = start .args .from in
+    let entry = c .before .before .before in
+    let text = entry .args .text .now in
+    let from = entry .args .from in
     tail-stop text from (sym (c .before .byte-within .ensures) ∙ c .if1 .left)
 
 pub tail-end-spec : {M : Type 1} → statement M

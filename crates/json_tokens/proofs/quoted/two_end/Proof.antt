@@ -8,30 +8,30 @@ use Rattle.json_tokens.proofs.quoted.two_end.Tie as tie
 
 tail-end-requires : tie.Need-tail-end-requires
 tail-end-requires c κs =
-    let start = c .before .before .before in
-    let text = start .args .text .now in
-    let high = start .args .high in
-    let from = start .args .from in
-    let low = start .args .low in
-    let i = within-inside text from low high (start .pre .1) (sym (c .before .byte-within .ensures) ∙ c .if1 .taken) in search needs
+    let entry = c .before .before .before in
+    let text = entry .args .text .now in
+    let high = entry .args .high in
+    let from = entry .args .from in
+    let low = entry .args .low in
+    let i = within-inside text from low high (entry .pre .1) (sym (c .before .byte-within .ensures) ∙ c .if1 .taken) in search needs
 
 returns : tie.Need-returns
 returns c =
-    let start = c .before .before .before .before in
-    let text = start .args .text .now in
-    let high = start .args .high in
-    let from = start .args .from in
-    let low = start .args .low in
-    λ a e. within-on text from low high a tails1 e (start .pre .1) (sym (c .before .before .byte-within .ensures) ∙ c .before .if1 .taken) (c .tail-end .result)
+    let entry = c .before .before .before .before in
+    let text = entry .args .text .now in
+    let high = entry .args .high in
+    let from = entry .args .from in
+    let low = entry .args .low in
+    λ a e. within-on text from low high a tails1 e (entry .pre .1) (sym (c .before .before .byte-within .ensures) ∙ c .before .if1 .taken) (c .tail-end .result)
     (c .tail-end .ensures)
 
 returns-2 : tie.Need-returns-2
 returns-2 c =
-    let start = c .before .before .before in
-    let text = start .args .text .now in
-    let high = start .args .high in
-    let from = start .args .from in
-    let low = start .args .low in
+    let entry = c .before .before .before in
+    let text = entry .args .text .now in
+    let high = entry .args .high in
+    let from = entry .args .from in
+    let low = entry .args .low in
     λ a e. within-stop text from low high a tails1 e (sym (c .before .byte-within .ensures) ∙ c .if1 .left)
 
 pub two-end-spec : {M : Type 1} → statement M

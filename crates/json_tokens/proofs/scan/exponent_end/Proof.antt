@@ -11,24 +11,24 @@ use Rattle.json_tokens.proofs.scan.exponent_end.Tie as tie
 
 returns : tie.Need-returns
 returns c =
-    let start = c .before .before .before .before in
-    let text = start .args .text .now in
-    let from = start .args .from in
+    let entry = c .before .before .before .before in
+    let text = entry .args .text .now in
+    let from = entry .args .from in
     λ a m h. no-exponent text a from m h (ap isE (sym (c .before .before .byte-at .ensures)) ∙ sym (c .before .is-e .ensures) ∙ not-true _ (c .if1 .taken))
 
 some-digits-requires : tie.Need-some-digits-requires
 some-digits-requires c κs =
-    let start = c .before .before .before .before .before .before .before in
-    let text = start .args .text .now in
-    let from = start .args .from in
+    let entry = c .before .before .before .before .before .before .before in
+    let text = entry .args .text .now in
+    let from = entry .args .from in
     let i = sign-inside text (from + 1) (ap isSign (sym (c .before .before .byte-at2 .ensures)) ∙ sym (c .before .is-sign .ensures) ∙ c .if2 .taken) in
     search needs
 
 some-digits-requires-2 : tie.Need-some-digits-requires-2
 some-digits-requires-2 c κs =
-    let start = c .before .before .before .before .before .before .before in
-    let text = start .args .text .now in
-    let from = start .args .from in
+    let entry = c .before .before .before .before .before .before .before in
+    let text = entry .args .text .now in
+    let from = entry .args .from in
     let i = e-inside text from
     (ap isE (sym (c .before .before .before .before .before .byte-at .ensures)) ∙ sym (c .before .before .before .before .is-e .ensures) ∙ not-false _
     (c .before .before .before .if1 .left))
@@ -37,9 +37,9 @@ some-digits-requires-2 c κs =
 
 returns-2 : tie.Need-returns-2
 returns-2 c =
-    let start = c .before .before .before .before .before .before .before .before in
-    let text = start .args .text .now in
-    let from = start .args .from in
+    let entry = c .before .before .before .before .before .before .before .before in
+    let text = entry .args .text .now in
+    let from = entry .args .from in
     λ a m h. with-sign text a from h
     (ap isE (sym (c .before .before .before .before .before .before .byte-at .ensures)) ∙ sym (c .before .before .before .before .before .is-e .ensures)
     ∙ not-false _ (c .before .before .before .before .if1 .left))
@@ -48,9 +48,9 @@ returns-2 c =
 
 returns-3 : tie.Need-returns-3
 returns-3 c =
-    let start = c .before .before .before .before .before .before .before .before in
-    let text = start .args .text .now in
-    let from = start .args .from in
+    let entry = c .before .before .before .before .before .before .before .before in
+    let text = entry .args .text .now in
+    let from = entry .args .from in
     λ a m h. without-sign text a from h
     (ap isE (sym (c .before .before .before .before .before .before .byte-at .ensures)) ∙ sym (c .before .before .before .before .before .is-e .ensures)
     ∙ not-false _ (c .before .before .before .before .if1 .left))

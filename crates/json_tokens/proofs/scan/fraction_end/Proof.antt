@@ -14,33 +14,33 @@ use Rattle.json_tokens.proofs.scan.fraction_end.Tie as tie
 
 returns : tie.Need-returns
 returns c =
-    let start = c .before .before .before .before in
-    let text = start .args .text .now in
-    let from = start .args .from in
+    let entry = c .before .before .before .before in
+    let text = entry .args .text .now in
+    let from = entry .args .from in
     λ a m h. c .exponent-end .ensures a m (no-point text a (byteAt text from) h (λ z. c .before .if1 .taken (c .before .before .byte-at .ensures ∙ z)))
 
 some-digits-requires : tie.Need-some-digits-requires
 some-digits-requires c κs =
-    let start = c .before .before .before in
-    let text = start .args .text .now in
-    let from = start .args .from in
+    let entry = c .before .before .before in
+    let text = entry .args .text .now in
+    let from = entry .args .from in
     let i = byte-inside text from (omega (arith, c .before .byte-at .ensures)) in search needs
 
 exponent-end-requires-2 : tie.Need-exponent-end-requires-2
 exponent-end-requires-2 c κs =
-    let start = c .before .before .before .before .before .before .before in
-    let text = start .args .text .now in
-    let from = start .args .from in
+    let entry = c .before .before .before .before .before .before .before in
+    let text = entry .args .text .now in
+    let from = entry .args .from in
     let d : (RunTo isDigit text (from + 1) (c .before .end .given .0 .0)) × (from + 1 < (c .before .end .given .0 .0)) = subst (DigitsIs text (from + 1))
     (c .before .end .given .1) (c .before .before .before .some-digits .ensures) in
-    (d .0 .running .upto, start .pre .1)
+    (d .0 .running .upto, entry .pre .1)
 
 returns-2 : tie.Need-returns-2
 unfolding mayEnd
 returns-2 c =
-    let start = c .before .before .before .before .before .before .before .before in
-    let text = start .args .text .now in
-    let from = start .args .from in
+    let entry = c .before .before .before .before .before .before .before .before in
+    let text = entry .args .text .now in
+    let from = entry .args .from in
     λ a m h. let d : (RunTo isDigit text (from + 1) (c .before .before .end .given .0 .0)) × (from + 1 < (c .before .before .end .given .0 .0)) = subst
     (DigitsIs text (from + 1)) (c .before .before .end .given .1) (c .before .before .before .before .some-digits .ensures) in number-on text a decimal from
     (c .before .before .end .given .0 .0)
@@ -51,9 +51,9 @@ returns-2 c =
 
 returns-3 : tie.Need-returns-3
 returns-3 c =
-    let start = c .before .before .before .before .before .before .before in
-    let text = start .args .text .now in
-    let from = start .args .from in
+    let entry = c .before .before .before .before .before .before .before in
+    let text = entry .args .text .now in
+    let from = entry .args .from in
     λ a m h. let d = subst (DigitsIs text (from + 1)) (c .before .at .given .1) (c .before .before .before .some-digits .ensures) in number-on text a point from
     (from + 1) (a-point text a from h (sym (c .before .before .before .before .before .byte-at .ensures) ∙ c .before .before .before .before .if1 .left))
     (Bad (c .before .at .given .0 .0)) (no-decimals text _ _ (d .0) (d .1))

@@ -12,24 +12,24 @@ use Rattle.json_tokens.proofs.scan.number_end.Tie as tie
 
 unsigned-end-requires : tie.Need-unsigned-end-requires
 unsigned-end-requires c κs =
-    let start = c .before .before .before in
-    let text = start .args .text .now in
-    let from = start .args .from in
+    let entry = c .before .before .before in
+    let text = entry .args .text .now in
+    let from = entry .args .from in
     let i = byte-inside text from (omega (arith, c .before .byte-at .ensures)) in search needs
 
 returns : tie.Need-returns
 returns c =
-    let start = c .before .before .before .before in
-    let text = start .args .text .now in
-    let from = start .args .from in
+    let entry = c .before .before .before .before in
+    let text = entry .args .text .now in
+    let from = entry .args .from in
     λ a h. subst (λ n. NumberIs text n (from + 1) (c .unsigned-end .result))
     (sym (start-minus (byteAt text from) a (sym (c .before .before .byte-at .ensures) ∙ c .before .if1 .taken) h)) (c .unsigned-end .ensures)
 
 returns-2 : tie.Need-returns-2
 returns-2 c =
-    let start = c .before .before .before .before in
-    let text = start .args .text .now in
-    let from = start .args .from in
+    let entry = c .before .before .before .before in
+    let text = entry .args .text .now in
+    let from = entry .args .from in
     λ a h. unsigned-number text a from (start-number (byteAt text from) a (λ z. c .before .if1 .left (c .before .before .byte-at .ensures ∙ z)) h)
     (c .unsigned-end2 .result) (c .unsigned-end2 .ensures)
 

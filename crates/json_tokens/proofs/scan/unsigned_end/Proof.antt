@@ -10,25 +10,25 @@ use Rattle.json_tokens.proofs.scan.unsigned_end.Tie as tie
 
 fraction-end-requires : tie.Need-fraction-end-requires
 fraction-end-requires c κs =
-    let start = c .before .before .before in
-    let text = start .args .text .now in
-    let from = start .args .from in
+    let entry = c .before .before .before in
+    let text = entry .args .text .now in
+    let from = entry .args .from in
     let i = byte-inside text from (omega (arith, c .before .byte-at .ensures)) in search needs
 
 returns : tie.Need-returns
 unfolding mayEnd nextInNumber
 returns c =
-    let start = c .before .before .before .before in
-    let text = start .args .text .now in
-    let from = start .args .from in
+    let entry = c .before .before .before .before in
+    let text = entry .args .text .now in
+    let from = entry .args .from in
     number-on text minus nought from _ (minus-zero text from (sym (c .before .before .byte-at .ensures) ∙ c .before .if1 .taken)) (c .fraction-end .result)
     (c .fraction-end .ensures nought refl refl)
 
 digits-end-requires : tie.Need-digits-end-requires
 digits-end-requires c κs =
-    let start = c .before .before .before .before .before in
-    let text = start .args .text .now in
-    let from = start .args .from in
+    let entry = c .before .before .before .before .before in
+    let text = entry .args .text .now in
+    let from = entry .args .from in
     let i = digit-inside text from (ap isDigit (sym (c .before .before .before .byte-at .ensures)) ∙ sym (c .before .is-digit .ensures) ∙ c .if2 .taken) in
     search needs
 
@@ -38,9 +38,9 @@ fraction-end-requires-2 c κs = (c .digits-end .ensures .running .upto, c .befor
 returns-2 : tie.Need-returns-2
 unfolding mayEnd
 returns-2 c =
-    let start = c .before .before .before .before .before .before .before in
-    let text = start .args .text .now in
-    let from = start .args .from in
+    let entry = c .before .before .before .before .before .before .before in
+    let text = entry .args .text .now in
+    let from = entry .args .from in
     number-on text minus whole from _
     (minus-digits text from _ (λ z. c .before .before .before .before .if1 .left (c .before .before .before .before .before .byte-at .ensures ∙ z))
     (ap isDigit (sym (c .before .before .before .before .before .byte-at .ensures)) ∙ sym (c .before .before .before .is-digit .ensures)
@@ -50,9 +50,9 @@ returns-2 c =
 
 returns-3 : tie.Need-returns-3
 returns-3 c =
-    let start = c .before .before .before .before .before in
-    let text = start .args .text .now in
-    let from = start .args .from in
+    let entry = c .before .before .before .before .before in
+    let text = entry .args .text .now in
+    let from = entry .args .from in
     no-number text from (λ z. c .before .before .if1 .left (c .before .before .before .byte-at .ensures ∙ z))
     (ap isDigit (sym (c .before .before .before .byte-at .ensures)) ∙ sym (c .before .is-digit .ensures) ∙ c .if2 .left)
 

@@ -20,31 +20,31 @@ loop-holds c = (search needs, word-start (c .before .before .args .text .now) (c
 
 returns : tie.Need-returns Inv-loop μ-loop
 returns c =
-    let start = c .before .before .before .before .before .before .before in
+    let entry = c .before .before .before .before .before .before .before in
     let turn = c .before .before .before .before in
-    let text = start .args .text .now in
-    let word = start .args .word .now in
-    let from = start .args .from in
+    let text = entry .args .text .now in
+    let word = entry .args .word .now in
+    let from = entry .args .from in
     let inv = turn .loop .inv in
     word-stop text word from _ (inv .1) (c .before .before .before .loop-test .taken) (λ z. c .if1 .taken (c .before .before .byte-at .ensures ∙ z))
 
 loop-again : tie.Need-loop-again Inv-loop μ-loop
 loop-again c =
-    let start = c .before .before .before .before .before .before .before in
+    let entry = c .before .before .before .before .before .before .before in
     let turn = c .before .before .before .before in
-    let text = start .args .text .now in
-    let word = start .args .word .now in
-    let from = start .args .from in
+    let text = entry .args .text .now in
+    let word = entry .args .word .now in
+    let from = entry .args .from in
     let inv = turn .loop .inv in
     (search needs, word-on text word from _ (inv .1) (c .before .before .before .loop-test .taken) (sym (c .before .before .byte-at .ensures) ∙ c .if1 .left))
 
 returns-2 : tie.Need-returns-2 Inv-loop μ-loop
 returns-2 c =
-    let start = c .before .before .before .before in
+    let entry = c .before .before .before .before in
     let turn = c .before in
-    let text = start .args .text .now in
-    let word = start .args .word .now in
-    let from = start .args .from in
+    let text = entry .args .text .now in
+    let word = entry .args .word .now in
+    let from = entry .args .from in
     let inv = turn .loop .inv in
     word-done text word from _ (inv .1) (c .loop-test .left)
 

@@ -19,69 +19,69 @@ abbrev μ-loop : tie.MeasureT-loop
 
 loop-holds : tie.Need-loop-holds Inv-loop μ-loop
 loop-holds c =
-    let start = c .before .before in
-    let text = start .args .text .now in
-    let book = start .args .book .now in
-    let from = start .args .from in
-    let end = start .args .to in
+    let entry = c .before .before in
+    let text = entry .args .text .now in
+    let book = entry .args .book .now in
+    let from = entry .args .from in
+    let end = entry .args .to in
     (search needs, search needs, among-all (between text from end) book)
 
 loop-again : tie.Need-loop-again Inv-loop μ-loop
 loop-again c =
-    let start = c .before .before .before .before .before .before .before in
+    let entry = c .before .before .before .before .before .before .before in
     let turn = c .before .before .before .before in
-    let text = start .args .text .now in
-    let book = start .args .book .now in
-    let from = start .args .from in
-    let end = start .args .to in
+    let text = entry .args .text .now in
+    let book = entry .args .book .now in
+    let from = entry .args .from in
+    let end = entry .args .to in
     let high = turn .loop .high in
     let inv = turn .loop .inv in
     let low = turn .loop .low in (
       search needs,
       search needs,
-      halve-right book (between text from end) (start .pre .1) low high ((low + high) / 2) (omega arith) (inv .2)
+      halve-right book (between text from end) (entry .pre .1) low high ((low + high) / 2) (omega arith) (inv .2)
           (subst (OrderIs (keyOf (bookRecord book ((low + high) / 2))) (between text from end)) (c .enum-told .given .1) (c .before .before .compare .ensures)),
     )
 
 returns : tie.Need-returns Inv-loop μ-loop
 returns c =
-    let start = c .before .before .before .before .before .before .before in
+    let entry = c .before .before .before .before .before .before .before in
     let turn = c .before .before .before .before in
-    let text = start .args .text .now in
-    let book = start .args .book .now in
-    let from = start .args .from in
-    let end = start .args .to in
+    let text = entry .args .text .now in
+    let book = entry .args .book .now in
+    let from = entry .args .from in
+    let end = entry .args .to in
     let high = turn .loop .high in
     let inv = turn .loop .inv in
     let low = turn .loop .low in
-    halve-found book (between text from end) (start .pre .1) low high ((low + high) / 2) (omega arith) (inv .2)
+    halve-found book (between text from end) (entry .pre .1) low high ((low + high) / 2) (omega arith) (inv .2)
     (subst (OrderIs (keyOf (bookRecord book ((low + high) / 2))) (between text from end)) (c .enum-told2 .given .1) (c .before .before .compare .ensures))
 
 loop-again-2 : tie.Need-loop-again-2 Inv-loop μ-loop
 loop-again-2 c =
-    let start = c .before .before .before .before .before .before .before in
+    let entry = c .before .before .before .before .before .before .before in
     let turn = c .before .before .before .before in
-    let text = start .args .text .now in
-    let book = start .args .book .now in
-    let from = start .args .from in
-    let end = start .args .to in
+    let text = entry .args .text .now in
+    let book = entry .args .book .now in
+    let from = entry .args .from in
+    let end = entry .args .to in
     let high = turn .loop .high in
     let inv = turn .loop .inv in
     let low = turn .loop .low in (
       search needs,
       search needs,
-      halve-left book (between text from end) (start .pre .1) low high ((low + high) / 2) (omega arith) (inv .2)
+      halve-left book (between text from end) (entry .pre .1) low high ((low + high) / 2) (omega arith) (inv .2)
           (subst (OrderIs (keyOf (bookRecord book ((low + high) / 2))) (between text from end)) (c .enum-told3 .given .1) (c .before .before .compare .ensures)),
     )
 
 returns-2 : tie.Need-returns-2 Inv-loop μ-loop
 returns-2 c =
-    let start = c .before .before .before .before in
+    let entry = c .before .before .before .before in
     let turn = c .before in
-    let text = start .args .text .now in
-    let book = start .args .book .now in
-    let from = start .args .from in
-    let end = start .args .to in
+    let text = entry .args .text .now in
+    let book = entry .args .book .now in
+    let from = entry .args .from in
+    let end = entry .args .to in
     let high = turn .loop .high in
     let inv = turn .loop .inv in
     let low = turn .loop .low in

@@ -19,110 +19,110 @@ abbrev μ-loop : tie.MeasureT-loop
 
 loop-holds : tie.Need-loop-holds Inv-loop μ-loop
 loop-holds c =
-    let start = c .before .before in
-    let text = start .args .text .now in
-    let book = start .args .book .now in
-    let from = start .args .from in
-    let end = start .args .to in
-    let i = start .args .i in
-    (omega (arith, start .pre .1 .from), matched-start (bookRecord book i) (between text from end))
+    let entry = c .before .before in
+    let text = entry .args .text .now in
+    let book = entry .args .book .now in
+    let from = entry .args .from in
+    let end = entry .args .to in
+    let i = entry .args .i in
+    (omega (arith, entry .pre .1 .from), matched-start (bookRecord book i) (between text from end))
 
 returns : tie.Need-returns Inv-loop μ-loop
 returns c =
-    let start = c .before .before .before .before .before .before .before in
+    let entry = c .before .before .before .before .before .before .before in
     let turn = c .before .before .before .before in
-    let text = start .args .text .now in
-    let book = start .args .book .now in
-    let from = start .args .from in
-    let end = start .args .to in
-    let i = start .args .i in
+    let text = entry .args .text .now in
+    let book = entry .args .book .now in
+    let from = entry .args .from in
+    let end = entry .args .to in
+    let i = entry .args .i in
     let inv = turn .loop .inv in
     let k = turn .loop .k in
-    let long = record-length book i (start .pre .0 .0) in
-    let wide = between-length text from end (start .pre .1 .upto) in
+    let long = record-length book i (entry .pre .0 .0) in
+    let wide = between-length text from end (entry .pre .1 .upto) in
     matched-less (bookRecord book i) (between text from end) k (inv .1) (omega (arith, long, wide)) (omega (arith, long, wide))
     (omega (arith, c .before .before .key-byte .ensures, between-byte text from end k (c .before .before .before .loop-test .taken)))
 
 returns-2 : tie.Need-returns-2 Inv-loop μ-loop
 returns-2 c =
-    let start = c .before .before .before .before .before .before .before .before in
+    let entry = c .before .before .before .before .before .before .before .before in
     let turn = c .before .before .before .before .before in
-    let text = start .args .text .now in
-    let book = start .args .book .now in
-    let from = start .args .from in
-    let end = start .args .to in
-    let i = start .args .i in
+    let text = entry .args .text .now in
+    let book = entry .args .book .now in
+    let from = entry .args .from in
+    let end = entry .args .to in
+    let i = entry .args .i in
     let inv = turn .loop .inv in
     let k = turn .loop .k in
-    let long = record-length book i (start .pre .0 .0) in
-    let wide = between-length text from end (start .pre .1 .upto) in
+    let long = record-length book i (entry .pre .0 .0) in
+    let wide = between-length text from end (entry .pre .1 .upto) in
     matched-more (bookRecord book i) (between text from end) k (inv .1) (omega (arith, long, wide)) (omega (arith, long, wide))
     (omega (arith, c .before .before .before .key-byte .ensures, between-byte text from end k (c .before .before .before .before .loop-test .taken)))
 
 loop-again : tie.Need-loop-again Inv-loop μ-loop
 loop-again c =
-    let start = c .before .before .before .before .before .before .before .before in
+    let entry = c .before .before .before .before .before .before .before .before in
     let turn = c .before .before .before .before .before in
-    let text = start .args .text .now in
-    let book = start .args .book .now in
-    let from = start .args .from in
-    let end = start .args .to in
-    let i = start .args .i in
+    let text = entry .args .text .now in
+    let book = entry .args .book .now in
+    let from = entry .args .from in
+    let end = entry .args .to in
+    let i = entry .args .i in
     let inv = turn .loop .inv in
     let k = turn .loop .k in
-    let long = record-length book i (start .pre .0 .0) in
-    let wide = between-length text from end (start .pre .1 .upto) in
+    let long = record-length book i (entry .pre .0 .0) in
+    let wide = between-length text from end (entry .pre .1 .upto) in
     let byte = between-byte text from end k (c .before .before .before .before .loop-test .taken) in (
       search needs,
       matched-on (bookRecord book i) (between text from end) k (inv .1) (omega (arith, long, wide)) (omega (arith, long, wide))
           (omega (arith, c .before .before .before .key-byte .ensures, byte))
-          (omega (arith, byte, filled-byte text from end k (start .pre .1) (c .before .before .before .before .loop-test .taken))),
+          (omega (arith, byte, filled-byte text from end k (entry .pre .1) (c .before .before .before .before .loop-test .taken))),
     )
 
 returns-3 : tie.Need-returns-3 Inv-loop μ-loop
 returns-3 c =
-    let start = c .before .before .before .before .before in
+    let entry = c .before .before .before .before .before in
     let turn = c .before .before in
-    let text = start .args .text .now in
-    let book = start .args .book .now in
-    let from = start .args .from in
-    let end = start .args .to in
-    let i = start .args .i in
+    let text = entry .args .text .now in
+    let book = entry .args .book .now in
+    let from = entry .args .from in
+    let end = entry .args .to in
+    let i = entry .args .i in
     let inv = turn .loop .inv in
     let k = turn .loop .k in
-    let long = record-length book i (start .pre .0 .0) in
-    let wide = between-length text from end (start .pre .1 .upto) in
+    let long = record-length book i (entry .pre .0 .0) in
+    let wide = between-length text from end (entry .pre .1 .upto) in
     matched-whole (bookRecord book i) (between text from end) k (inv .1) (omega (arith, long, wide)) (omega (arith, long, wide))
 
 returns-4 : tie.Need-returns-4 Inv-loop μ-loop
 returns-4 c =
-    let start = c .before .before .before .before .before .before .before in
+    let entry = c .before .before .before .before .before .before .before in
     let turn = c .before .before .before .before in
-    let text = start .args .text .now in
-    let book = start .args .book .now in
-    let from = start .args .from in
-    let end = start .args .to in
-    let i = start .args .i in
+    let text = entry .args .text .now in
+    let book = entry .args .book .now in
+    let from = entry .args .from in
+    let end = entry .args .to in
+    let i = entry .args .i in
     let inv = turn .loop .inv in
     let k = turn .loop .k in
-    let long = record-length book i (start .pre .0 .0) in
-    let wide = between-length text from end (start .pre .1 .upto) in
+    let long = record-length book i (entry .pre .0 .0) in
+    let wide = between-length text from end (entry .pre .1 .upto) in
     matched-end (bookRecord book i) (between text from end) k (inv .1) (omega (arith, long, wide)) (omega (arith, long, wide))
     (sym (c .before .key-byte2 .ensures) ∙ c .if4 .taken)
 
 returns-5 : tie.Need-returns-5 Inv-loop μ-loop
 returns-5 c =
-    let start = c .before .before .before .before .before .before .before in
+    let entry = c .before .before .before .before .before .before .before in
     let turn = c .before .before .before .before in
-    let text = start .args .text .now in
-    let book = start .args .book .now in
-    let from = start .args .from in
-    let end = start .args .to in
-    let i = start .args .i in
+    let text = entry .args .text .now in
+    let book = entry .args .book .now in
+    let from = entry .args .from in
+    let end = entry .args .to in
+    let i = entry .args .i in
     let inv = turn .loop .inv in
     let k = turn .loop .k in
-    let long = record-length book i (start .pre .0 .0) in
-    let wide = between-length text from end (start .pre .1 .upto) in
+    let long = record-length book i (entry .pre .0 .0) in
+    let wide = between-length text from end (entry .pre .1 .upto) in
     matched-longer (bookRecord book i) (between text from end) k (inv .1) (omega (arith, long, wide)) (omega (arith, long, wide))
     (λ z. c .if4 .left (c .before .key-byte2 .ensures ∙ z))
 

@@ -11,12 +11,12 @@ use Rattle.key_book.proofs.search.find_key.Tie as tie
 
 returns : tie.Need-returns
 returns c =
-    let start = c .before .before .before in
-    let text = start .args .text .now in
-    let book = start .args .book .now in
-    let from = start .args .from in
-    let end = start .args .to in
-    sym (long-unlisted book (between text from end) (bookRecords book) 0 (omega (arith, between-length text from end (start .pre .2 .upto))))
+    let entry = c .before .before .before in
+    let text = entry .args .text .now in
+    let book = entry .args .book .now in
+    let from = entry .args .from in
+    let end = entry .args .to in
+    sym (long-unlisted book (between text from end) (bookRecords book) 0 (omega (arith, between-length text from end (entry .pre .2 .upto))))
 
 pub find-key-spec : {M : Type 1} → statement M
 find-key-spec = tie.close (tie.spec (λ c. search needs) returns (λ c κs. search needs) (λ c. search needs))

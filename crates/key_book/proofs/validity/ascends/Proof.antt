@@ -21,26 +21,26 @@ loop-holds c = (search needs, refl)
 
 returns : tie.Need-returns Inv-loop μ-loop
 returns c =
-    let start = c .before .before .before .before .before .before in
+    let entry = c .before .before .before .before .before .before in
     let turn = c .before .before .before .before in
-    let book = start .args .book .now in
-    let i = start .args .i in
+    let book = entry .args .book .now in
+    let i = entry .args .i in
     let inv = turn .loop .inv in
     let k = turn .loop .k in
-    let long = record-length book (i + 1) (start .pre .0) in
+    let long = record-length book (i + 1) (entry .pre .0) in
     sym
     (before-yes (bookRecord book i) (bookRecord book (i + 1)) k (inv .1) (omega (arith, record-length book i (omega arith), long))
     (omega (arith, record-length book i (omega arith), long)) (omega (arith, c .before .before .key-byte .ensures, c .before .key-byte2 .ensures)))
 
 returns-2 : tie.Need-returns-2 Inv-loop μ-loop
 returns-2 c =
-    let start = c .before .before .before .before .before .before .before in
+    let entry = c .before .before .before .before .before .before .before in
     let turn = c .before .before .before .before .before in
-    let book = start .args .book .now in
-    let i = start .args .i in
+    let book = entry .args .book .now in
+    let i = entry .args .i in
     let inv = turn .loop .inv in
     let k = turn .loop .k in
-    let long = record-length book (i + 1) (start .pre .0) in
+    let long = record-length book (i + 1) (entry .pre .0) in
     sym
     (before-no (bookRecord book i) (bookRecord book (i + 1)) k (inv .1) (omega (arith, record-length book i (omega arith), long))
     (omega (arith, record-length book i (omega arith), long))
@@ -48,13 +48,13 @@ returns-2 c =
 
 loop-again : tie.Need-loop-again Inv-loop μ-loop
 loop-again c =
-    let start = c .before .before .before .before .before .before .before in
+    let entry = c .before .before .before .before .before .before .before in
     let turn = c .before .before .before .before .before in
-    let book = start .args .book .now in
-    let i = start .args .i in
+    let book = entry .args .book .now in
+    let i = entry .args .i in
     let inv = turn .loop .inv in
     let k = turn .loop .k in
-    let long = record-length book (i + 1) (start .pre .0) in (
+    let long = record-length book (i + 1) (entry .pre .0) in (
       search needs,
       before-on (bookRecord book i) (bookRecord book (i + 1)) k (inv .1) (omega (arith, record-length book i (omega arith), long))
           (omega (arith, record-length book i (omega arith), long))
@@ -63,15 +63,15 @@ loop-again c =
 
 returns-3 : tie.Need-returns-3 Inv-loop μ-loop
 returns-3 c =
-    let start = c .before .before .before in
+    let entry = c .before .before .before in
     let turn = c .before in
-    let book = start .args .book .now in
-    let i = start .args .i in
+    let book = entry .args .book .now in
+    let i = entry .args .i in
     let inv = turn .loop .inv in
     let k = turn .loop .k in
     sym
     (before-end (bookRecord book i) (bookRecord book (i + 1)) k (inv .1)
-    (omega (arith, record-length book i (omega arith), record-length book (i + 1) (start .pre .0))))
+    (omega (arith, record-length book i (omega arith), record-length book (i + 1) (entry .pre .0))))
 
 pub ascends-spec : {M : Type 1} → statement M
 ascends-spec =

@@ -11,10 +11,10 @@ returns c = λ z. absurd (c .if1 .taken (c .before .key-byte .ensures ∙ z))
 
 returns-2 : tie.Need-returns-2
 returns-2 c =
-    let start = c .before .before .before .before in
-    let book = start .args .book .now in
-    let i = start .args .i in
-    let k = start .args .k in
+    let entry = c .before .before .before .before in
+    let book = entry .args .book .now in
+    let i = entry .args .i in
+    let k = entry .args .k in
     gap-is (bookRecord book i) k (c .key-byte2 .result) (sym (c .before .before .key-byte .ensures) ∙ c .before .if1 .left) (c .key-byte2 .ensures)
 
 pub gap-at-spec : {M : Type 1} → statement M

@@ -9,9 +9,9 @@ use Rattle.key_book.proofs.validity.good_at.Tie as tie
 
 returns : tie.Need-returns
 returns c =
-    let start = c .before .before .before in
-    let book = start .args .book .now in
-    let i = start .args .i in
+    let entry = c .before .before .before in
+    let book = entry .args .book .now in
+    let i = entry .args .i in
     bad-record book i (omega arith) (sym (c .before .good-key .ensures) ∙ not-true _ (c .if1 .taken))
 
 returns-2 : tie.Need-returns-2
@@ -19,9 +19,9 @@ returns-2 c = record { good = sym (c .before .before .good-key .ensures) ∙ not
 
 returns-3 : tie.Need-returns-3
 returns-3 c =
-    let start = c .before .before .before .before .before in
-    let book = start .args .book .now in
-    let i = start .args .i in
+    let entry = c .before .before .before .before .before in
+    let book = entry .args .book .now in
+    let i = entry .args .i in
     good-last book i (c .ascends .result) (sym (c .before .before .before .good-key .ensures) ∙ not-false _ (c .before .before .if1 .left)) (omega arith)
     (c .ascends .ensures)
 

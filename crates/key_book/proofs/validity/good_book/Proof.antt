@@ -20,17 +20,17 @@ loop-holds c = λ j l. absurd (omega arith)
 
 returns : tie.Need-returns Inv-loop μ-loop
 returns c =
-    let start = c .before .before .before .before .before in
+    let entry = c .before .before .before .before .before in
     let turn = c .before .before .before in
-    let book = start .args .book .now in
+    let book = entry .args .book .now in
     let i = turn .loop .i in
     subst (GoodAt book i) (not-true (c .before .good-at .result) (c .if1 .taken)) (c .before .good-at .ensures)
 
 loop-again : tie.Need-loop-again Inv-loop μ-loop
 loop-again c =
-    let start = c .before .before .before .before .before in
+    let entry = c .before .before .before .before .before in
     let turn = c .before .before .before in
-    let book = start .args .book .now in
+    let book = entry .args .book .now in
     let inv = turn .loop .inv in
     let i = turn .loop .i in
     fine-more book i inv (subst (GoodAt book i) (not-false (c .before .good-at .result) (c .if1 .left)) (c .before .good-at .ensures))

@@ -18,51 +18,51 @@ abbrev μ-loop : tie.MeasureT-loop
 
 returns : tie.Need-returns Inv-loop μ-loop
 returns c =
-    let start = c .before .before .before in
-    let book = start .args .book .now in
-    let i = start .args .i in
+    let entry = c .before .before .before in
+    let book = entry .args .book .now in
+    let i = entry .args .i in
     sym (unfilled (bookRecord book i) (sym (c .before .key-byte .ensures) ∙ c .if1 .taken))
 
 loop-holds : tie.Need-loop-holds Inv-loop μ-loop
 loop-holds c =
-    let start = c .before .before .before in
-    let book = start .args .book .now in
-    let i = start .args .i in
-    (search needs, good-start (bookRecord book i) (omega (arith, record-length book i (start .pre .0))) (λ z. c .if1 .left (c .before .key-byte .ensures ∙ z)))
+    let entry = c .before .before .before in
+    let book = entry .args .book .now in
+    let i = entry .args .i in
+    (search needs, good-start (bookRecord book i) (omega (arith, record-length book i (entry .pre .0))) (λ z. c .if1 .left (c .before .key-byte .ensures ∙ z)))
 
 returns-2 : tie.Need-returns-2 Inv-loop μ-loop
 returns-2 c =
-    let start = c .before .before .before .before .before .before .before in
+    let entry = c .before .before .before .before .before .before .before in
     let turn = c .before .before .before in
-    let book = start .args .book .now in
-    let i = start .args .i in
+    let book = entry .args .book .now in
+    let i = entry .args .i in
     let inv = turn .loop .inv in
     let k = turn .loop .k in
     let g = subst (GapIs (bookRecord book i) k) (c .if2 .taken) (c .before .gap-at .ensures) in
-    sym (good-not (bookRecord book i) k (inv .1) (omega (arith, record-length book i (start .pre .0))) (g .0) (g .1))
+    sym (good-not (bookRecord book i) k (inv .1) (omega (arith, record-length book i (entry .pre .0))) (g .0) (g .1))
 
 loop-again : tie.Need-loop-again Inv-loop μ-loop
 loop-again c =
-    let start = c .before .before .before .before .before .before .before in
+    let entry = c .before .before .before .before .before .before .before in
     let turn = c .before .before .before in
-    let book = start .args .book .now in
-    let i = start .args .i in
+    let book = entry .args .book .now in
+    let i = entry .args .i in
     let inv = turn .loop .inv in
     let k = turn .loop .k in (
       search needs,
-      good-on (bookRecord book i) k (inv .1) (omega (arith, record-length book i (start .pre .0)))
+      good-on (bookRecord book i) k (inv .1) (omega (arith, record-length book i (entry .pre .0)))
           (subst (GapIs (bookRecord book i) k) (c .if2 .left) (c .before .gap-at .ensures)),
     )
 
 returns-3 : tie.Need-returns-3 Inv-loop μ-loop
 returns-3 c =
-    let start = c .before .before .before .before .before in
+    let entry = c .before .before .before .before .before in
     let turn = c .before in
-    let book = start .args .book .now in
-    let i = start .args .i in
+    let book = entry .args .book .now in
+    let i = entry .args .i in
     let inv = turn .loop .inv in
     let k = turn .loop .k in
-    sym (good-end (bookRecord book i) k (inv .1) (omega (arith, record-length book i (start .pre .0))))
+    sym (good-end (bookRecord book i) k (inv .1) (omega (arith, record-length book i (entry .pre .0))))
 
 pub good-key-spec : {M : Type 1} → statement M
 good-key-spec =
