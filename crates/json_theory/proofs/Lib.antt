@@ -15,3 +15,4 @@ pub mod Book
 pub mod Promises
 pub mod Trials
 pub mod Rfc
+pub mod Scanning

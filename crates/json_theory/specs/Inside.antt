@@ -2,3 +2,4 @@
 pub mod Derivative
 pub mod Remaining
 pub mod Run
+pub mod Scanning

@@ -1,0 +1,65 @@
+-- `fraction_end` meets its contract.
+use mathlib.Core.Path.{refl, sym, _∙_, subst}
+use Prim.Native.Nat.{_+_, _<_}
+use native.Mathlib.Omega.{arith}
+use borrow.Author.Needs.{needs}
+use Rattle.json_tokens.specs.declared.scan.Scan.the-variants.{Bad}
+use Rattle.json_theory.specs.Parts.{isDigit, point, decimal, mayEnd}
+use Rattle.json_theory.specs.Inside.Scanning.{RunTo, byteAt}
+use Rattle.json_tokens.specs.Tokens.{DigitsIs}
+use Rattle.json_theory.proofs.Scanning.{byte-inside, goes-on}
+use Rattle.json_tokens.proofs.Numbers.{number-on, no-point, a-point, decimals, decimals-end, no-decimals}
+use Rattle.json_tokens.proofs.scan.fraction_end.Statement.{statement}
+use Rattle.json_tokens.proofs.scan.fraction_end.Tie as tie
+
+returns : tie.Need-returns
+returns c =
+    let entry = c .before .before .before .before in
+    let text = entry .args .text .now in
+    let from = entry .args .from in
+    λ a m h. c .exponent-end .ensures a m (no-point text a (byteAt text from) h (λ z. c .before .if1 .taken (c .before .before .byte-at .ensures ∙ z)))
+
+some-digits-requires : tie.Need-some-digits-requires
+some-digits-requires c κs =
+    let entry = c .before .before .before in
+    let text = entry .args .text .now in
+    let from = entry .args .from in
+    let i = byte-inside text from (omega (arith, c .before .byte-at .ensures)) in search needs
+
+exponent-end-requires-2 : tie.Need-exponent-end-requires-2
+exponent-end-requires-2 c κs =
+    let entry = c .before .before .before .before .before .before .before in
+    let text = entry .args .text .now in
+    let from = entry .args .from in
+    let d : (RunTo isDigit text (from + 1) (c .before .end .given .0 .0)) × (from + 1 < (c .before .end .given .0 .0)) = subst (DigitsIs text (from + 1))
+    (c .before .end .given .1) (c .before .before .before .some-digits .ensures) in
+    (d .0 .running .upto, entry .pre .1)
+
+returns-2 : tie.Need-returns-2
+unfolding mayEnd
+returns-2 c =
+    let entry = c .before .before .before .before .before .before .before .before in
+    let text = entry .args .text .now in
+    let from = entry .args .from in
+    λ a m h. let d : (RunTo isDigit text (from + 1) (c .before .before .end .given .0 .0)) × (from + 1 < (c .before .before .end .given .0 .0)) = subst
+    (DigitsIs text (from + 1)) (c .before .before .end .given .1) (c .before .before .before .before .some-digits .ensures) in number-on text a decimal from
+    (c .before .before .end .given .0 .0)
+    (goes-on
+    (a-point text a from h (sym (c .before .before .before .before .before .before .byte-at .ensures) ∙ c .before .before .before .before .before .if1 .left))
+    (decimals text _ _ (d .0) (d .1)))
+    (c .exponent-end2 .result) (c .exponent-end2 .ensures decimal refl (decimals-end text _ _ (d .0)))
+
+returns-3 : tie.Need-returns-3
+returns-3 c =
+    let entry = c .before .before .before .before .before .before .before in
+    let text = entry .args .text .now in
+    let from = entry .args .from in
+    λ a m h. let d = subst (DigitsIs text (from + 1)) (c .before .at .given .1) (c .before .before .before .some-digits .ensures) in number-on text a point from
+    (from + 1) (a-point text a from h (sym (c .before .before .before .before .before .byte-at .ensures) ∙ c .before .before .before .before .if1 .left))
+    (Bad (c .before .at .given .0 .0)) (no-decimals text _ _ (d .0) (d .1))
+
+pub fraction-end-spec : {M : Type 1} → statement M
+fraction-end-spec =
+    tie.close
+    (tie.spec (λ c κs. search needs) (λ c κs. search needs) returns (λ c. search needs) some-digits-requires
+    (λ c. search needs) exponent-end-requires-2 (λ c. search needs) returns-2 returns-3)
