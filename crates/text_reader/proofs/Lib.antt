@@ -2,3 +2,4 @@
 pub mod Marks
 pub mod MarksHold
 pub mod Laid
+pub mod NextItem

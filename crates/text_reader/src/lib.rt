@@ -1,2 +1,3 @@
 // The reader from JSON text to a value table.
-mod key_marks;
+pub mod between;
+pub mod key_marks;
