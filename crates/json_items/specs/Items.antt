@@ -16,7 +16,7 @@ use Rattle.json_tokens.specs.declared.scan.Scan.the-variants.{To, Bad}
 use Rattle.json_items.specs.declared.item.Named.{Named}
 use Rattle.json_items.specs.declared.item.Named.the-variants.{Found, Unlisted, Faulty}
 
--- from state σ at byte p a scan leads to state τ, or to faultAt 12
+-- from state σ at byte p a scan leads to state τ, or to fault 12
 abbrev pub ReadsTo : List ℕ → State → ℕ → State → Scan → Type 0
 ReadsTo text σ p τ (To q) = Leads text σ p τ q × (q ≤ length text)
 ReadsTo text σ p τ (Bad q) = Breaks text σ p q

@@ -97,7 +97,7 @@ module _ (name : List ℕ → ℕ) where
         | Grammar.some w (i → f) (r → g) ↦ λ h. ws-bytes w (f (g h))
         | Grammar.element (x → f) ↦ f
         | Grammar.member {w} {s} x a b (y → f) ↦ λ h. (lit< tt, append-bytes w (quote ∷ s) (chars-bytes w x) (lit< tt, ws-bytes a (lit< tt, ws-bytes b (f h))))
-        | Grammar.close {o} w ↦ λ h. ws-bytes w (closer-byte o, h)
+        | Grammar.closed {o} w ↦ λ h. ws-bytes w (closer-byte o, h)
         | Grammar.next w x (i → f) (r → g) ↦ λ h. ws-bytes w (lit< tt, ws-bytes x (f (g h)))
       ]
 

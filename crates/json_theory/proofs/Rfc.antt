@@ -25,7 +25,7 @@ module _ (name : List ℕ → ℕ) where
         | Grammar.some {o} w (i → k) (r → l) ↦ nested {o = o} (around tight w) (Rfc.some k l)
         | Grammar.element (v → k) ↦ Rfc.element k
         | Grammar.member h a b (v → k) ↦ Rfc.member h (around a b) k
-        | Grammar.close w ↦ Rfc.close (around w tight)
+        | Grammar.closed w ↦ Rfc.closed (around w tight)
         | Grammar.next w x (i → k) (r → l) ↦ Rfc.next (around w x) k l
       ]
 
@@ -34,7 +34,7 @@ module _ (name : List ℕ → ℕ) where
   to-messages (Grammar.message v h w r) = Rfc.message (to-value v) h w (to-messages r)
 
   others-ws : {o : Container} {a s m : List ℕ} {vs : Values} → Ws a s → Others name o s vs m → Others name o a vs m
-  others-ws x (Grammar.close w) = Grammar.close (ws-trans x w)
+  others-ws x (Grammar.closed w) = Grammar.closed (ws-trans x w)
   others-ws x (Grammar.next w y i r) = Grammar.next (ws-trans x w) y i r
 
   content-ws : {o : Container} {a s m : List ℕ} {vs : Values} → Ws a s → Content name o s vs m → Content name o a vs m
@@ -68,7 +68,7 @@ module _ (name : List ℕ → ℕ) where
   member-in h (around a b) v = (_, v .1, tight, Grammar.member h a (ws-trans b (v .2)) (v .3), v .4)
 
   close-in : {o : Container} {s m : List ℕ} → Structural (closer o) s m → OthersIn o s none m
-  close-in (around {t = x} a b) = (x, Grammar.close a, b)
+  close-in (around {t = x} a b) = (x, Grammar.closed a, b)
 
   next-in : {o : Container} {s t u m : List ℕ} {head : Head} {key : ℕ} {c vs : Values} → Structural 0x2C s t → ItemIn o t head key c u → OthersIn o u vs m →
       OthersIn o s (value head key c vs) m
@@ -83,7 +83,7 @@ module _ (name : List ℕ → ℕ) where
         | Rfc.some (i → k) (r → l) ↦ some-in k l
         | Rfc.element (v → k) ↦ (k .0, k .1, k .2, Grammar.element (k .3), k .4)
         | Rfc.member h x (v → k) ↦ member-in h x k
-        | Rfc.close x ↦ close-in x
+        | Rfc.closed x ↦ close-in x
         | Rfc.next x (i → k) (r → l) ↦ next-in x k l
       ]
 

@@ -6,7 +6,7 @@ use mathlib.Core.List.{List, _∷_, _++_}
 use Prim.Native.Nat.{ℕ}
 use Rattle.value_table.specs.Value.{Head, Values, none, value, joinValues}
 use Rattle.json_theory.specs.Rx.{Word}
-use Rattle.json_theory.specs.Grammar.{quote, isSpace, Ws, tight, space, Container, object, headOf, kindOf, closer, Value, Content, nothing, some, Item, Others, close, next, Messages}
+use Rattle.json_theory.specs.Grammar.{quote, isSpace, Ws, tight, space, Container, object, headOf, kindOf, closer, Value, Content, nothing, some, Item, Others, closed, next, Messages}
 use Rattle.json_theory.specs.Inside.Remaining.{stringRest, numberRest}
 use Rattle.json_theory.specs.Steps.{Stack, base, level, add, State, gap, after, need, first, nextKey, inKey, colon, inString, inNumber, inLiteral, wrong}
 use Rattle.json_theory.proofs.Rx.{false-true}
@@ -111,7 +111,7 @@ module _ (name : List ℕ → ℕ) where
   behind-out o key done outer s T h = go (h .2) (h .3)
     where
       go : {s m : List ℕ} {vs : Values} → Others name o s vs m → After outer (value (headOf (kindOf o)) key (joinValues done vs) none) m T → Spaced (Tail o key done outer T) s
-      go (close {m} w) a = (_, w, inl (m, refl, rw join-none at a))
+      go (closed {m} w) a = (_, w, inl (m, refl, rw join-none at a))
       go (next {t} {u} {v} {m} {head} {key = k} {c} {vs} w x i r) a =
           (_, w, inr (t, refl, (u, x, (head, k, c, v, i, (vs, m, r, rw join-snoc a)))))
 
@@ -119,7 +119,7 @@ module _ (name : List ℕ → ℕ) where
   behind-in o key done outer s T h = go (h .0) (h .1) (h .2)
     where
       go : (t : List ℕ) → Ws s t → Tail o key done outer T t → Behind (level o key done outer) s T
-      go t w (inl x) = (none, x .0, close (subst (λ (t : List ℕ). Ws s t) (x .1) w), rw join-none (x .2))
+      go t w (inl x) = (none, x .0, closed (subst (λ (t : List ℕ). Ws s t) (x .1) w), rw join-none (x .2))
       go t w (inr x) =
           let i = x .2 .2 in
           (value (i .0) (i .1) (i .2) (i .5 .0), i .5 .1, next (subst (λ (t : List ℕ). Ws s t) (x .1) w) (x .2 .1) (i .4) (i .5 .2), rw join-snoc at (i .5 .3))

@@ -12,7 +12,7 @@ use Rattle.byte_records.proofs.Tests.{and-parts}
 use Rattle.json_theory.specs.Rx.{Rx, never, empty, range, then, either, star, stop, Word}
 use Rattle.json_theory.specs.Inside.Derivative.{nullable, rest, seq, alt, orNever}
 use Rattle.json_theory.specs.Grammar
-use Rattle.json_theory.specs.Grammar.{quote, tight, isNumber, headOf, kindOf, closer, Value, scalar, nothing, member, close, done as noMessage}
+use Rattle.json_theory.specs.Grammar.{quote, tight, isNumber, headOf, kindOf, closer, Value, scalar, nothing, member, closed, done as noMessage}
 use Rattle.json_theory.specs.Parts.{StringPart, plain, escape, hexes4, hexes3, hexes2, hexes1, tails3, tails2, tails1, behindE0, behindED, behindF0, behindF4, NumberPart, minus, nought, whole, point, decimal, e, signed, power}
 use Rattle.json_theory.specs.Inside.Remaining.{stringRest, numberRest}
 use Rattle.json_theory.specs.Steps.{Stack, base, level, State, gap, after, need, first, nextKey, inKey, colon, inString, inNumber, inLiteral, wrong}
@@ -83,13 +83,13 @@ module _ (name : List ℕ → ℕ) where
   after-some (base ms) v = (0x20 ∷ [], joinValues ms v, (0x20, [], refl, refl, ([], tight, (none, noMessage, sym (join-none (joinValues ms v))))))
   after-some (level o key done outer) v =
       let x = after-some outer (value (headOf (kindOf o)) key (joinValues (joinValues done v) none) none) in
-      (closer o ∷ x .0, x .1, (none, x .0, close tight, x .2))
+      (closer o ∷ x .0, x .1, (none, x .0, closed tight, x .2))
 
   behind-some : (around : Stack) → (u : List ℕ) × (T : Values) × Behind name around u T
   behind-some (base ms) = (0x20 ∷ [], ms, (0x20, [], refl, refl, ([], tight, (none, noMessage, sym (join-none ms)))))
   behind-some (level o key done outer) =
       let x = after-some outer (value (headOf (kindOf o)) key (joinValues done none) none) in
-      (closer o ∷ x .0, x .1, (none, x .0, close tight, x .2))
+      (closer o ∷ x .0, x .1, (none, x .0, closed tight, x .2))
 
   need-some : (key : ℕ) (around : Stack) → (u : List ℕ) × (T : Values) × Spaced (Needed name key around T) u
   need-some key around =

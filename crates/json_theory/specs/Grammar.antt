@@ -148,7 +148,7 @@ module _ (name : List ℕ → ℕ) where
 
     -- *( value-separator .. ) and the closing bracket
     pub data Others : Container → List ℕ → Values → List ℕ → Type 0 where
-      close : {o : Container} {s m : List ℕ} → Ws s (closer o ∷ m) → Others o s none m
+      closed : {o : Container} {s m : List ℕ} → Ws s (closer o ∷ m) → Others o s none m
       next : {o : Container} {s t u v m : List ℕ} {head : Head} {key : ℕ} {c vs : Values} →
           Ws s (0x2C ∷ t) → Ws t u → Item o u head key c v → Others o v vs m → Others o s (value head key c vs) m
 

@@ -33,7 +33,7 @@ module _ (name : List ℕ → ℕ) where
 
     -- *( value-separator .. ) end-..
     pub data RfcOthers : Container → List ℕ → Values → List ℕ → Type 0 where
-      close : {o : Container} {s m : List ℕ} → Structural (closer o) s m → RfcOthers o s none m
+      closed : {o : Container} {s m : List ℕ} → Structural (closer o) s m → RfcOthers o s none m
       next : {o : Container} {s t u m : List ℕ} {head : Head} {key : ℕ} {c vs : Values} →
           Structural 0x2C s t → RfcItem o t head key c u → RfcOthers o u vs m → RfcOthers o s (value head key c vs) m
 

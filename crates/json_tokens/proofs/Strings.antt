@@ -20,7 +20,7 @@ use Rattle.json_theory.proofs.Rx.{false-true}
 use Rattle.byte_records.proofs.Tests.{and-parts}
 use Rattle.json_theory.proofs.Parts.{every, every-at}
 use Rattle.json_theory.proofs.Scanning.{byte-none, byte-inside, running-start, running-one, running-to, running-weaker, goes-one, goes-on, goes-run, stops-here, stops-on}
-use Rattle.json_tokens.proofs.Tokens.{or-right}
+use Rattle.json_tokens.proofs.Tokens.{or-second}
 
 -- the parts of a string as numbers
 abbrev partCode : StringPart → ℕ
@@ -87,7 +87,7 @@ pub first-byte : (t : Turn StringPart) (low high : ℕ) → every (λ c. ltb c l
     (c : ℕ) → low ≤ c → c ≤ high → nextInString plain c ≡ t
 first-byte t low high h c l m =
     same-turn (nextInString plain c) t
-    (or-right (ltb c low) (eqb (turnCode (nextInString plain c)) (turnCode t)) (le-ltb c low l)
+    (or-second (ltb c low) (eqb (turnCode (nextInString plain c)) (turnCode t)) (le-ltb c low l)
     (every-at (λ c. ltb c low || eqb (turnCode (nextInString plain c)) (turnCode t)) (suc high) c h (omega arith)))
 
 pub plain-goes : (c : ℕ) → isPlain c ≡ true → nextInString plain c ≡ go plain
@@ -298,7 +298,7 @@ plain-stuck c l h k =
     let b = and-not (leb 0xC2 c) (ltb c 0xF5) (λ e. le-ltb c 0xF5 (k (leb-true 0xC2 c e))) in
     let t = eqb (turnCode (nextInString plain c)) 14 in
     same-turn (nextInString plain c) stuck
-    (or-right (leb 0xC2 c && ltb c 0xF5) t b (or-right (leb 0x20 c && ltb c 0x80) ((leb 0xC2 c && ltb c 0xF5) || t) a (every-at strange 256 c strange-all l)))
+    (or-second (leb 0xC2 c && ltb c 0xF5) t b (or-second (leb 0x20 c && ltb c 0x80) ((leb 0xC2 c && ltb c 0xF5) || t) a (every-at strange 256 c strange-all l)))
 
 pub plain-inside : (text : List ℕ) (p : ℕ) → isPlain (byteAt text p) ≡ true → p < length text
 plain-inside text p e = string-inside text plain plain p (plain-goes (byteAt text p) e)

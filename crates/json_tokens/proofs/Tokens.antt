@@ -71,11 +71,11 @@ unfolding sameBool
 same-bool true y h = sym h
 same-bool false y h = sym (not-true y h)
 
-pub or-right : (a b : Bool) → a ≡ false → (a || b) ≡ true → b ≡ true
-or-right true b e h = false-true (sym e)
-or-right false b e h = h
+pub or-second : (a b : Bool) → a ≡ false → (a || b) ≡ true → b ≡ true
+or-second true b e h = false-true (sym e)
+or-second false b e h = h
 
 -- from low to high the test is b
 pub tested : (f : ℕ → Bool) (b : Bool) (low high : ℕ) → every (λ c. ltb c low || sameBool b (f c)) (suc high) ≡ true → (c : ℕ) → low ≤ c → c ≤ high → b ≡ f c
 tested f b low high h c l m =
-    same-bool b (f c) (or-right (ltb c low) (sameBool b (f c)) (le-ltb c low l) (every-at (λ c. ltb c low || sameBool b (f c)) (suc high) c h (omega arith)))
+    same-bool b (f c) (or-second (ltb c low) (sameBool b (f c)) (le-ltb c low l) (every-at (λ c. ltb c low || sameBool b (f c)) (suc high) c h (omega arith)))

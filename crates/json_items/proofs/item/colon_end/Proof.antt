@@ -15,18 +15,12 @@ space-end-requires-2 c κs =
 
 returns : tie.Need-returns
 returns c =
-    let entry = c .before .before .before .before .before in
-    let text = entry .args .text .now in
-    let from = entry .args .from in
-    λ key around. colon-leads text from (c .before .before .before .space-end .result) (c .before .before .before .space-end .ensures) key around
+    λ key around. colon-leads _ _ (c .before .before .before .space-end .result) (c .before .before .before .space-end .ensures) key around
     (sym (c .before .before .byte-at .ensures) ∙ c .before .if1 .taken) (c .space-end2 .result) (c .space-end2 .ensures)
 
 returns-2 : tie.Need-returns-2
 returns-2 c =
-    let entry = c .before .before .before .before in
-    let text = entry .args .text .now in
-    let from = entry .args .from in
-    λ key around. colon-breaks text from (c .before .before .space-end .result) (c .before .before .space-end .ensures) key around
+    λ key around. colon-breaks _ _ (c .before .before .space-end .result) (c .before .before .space-end .ensures) key around
     (λ z. c .if1 .left (c .before .byte-at .ensures ∙ z))
 
 pub colon-end-spec : {M : Type 1} → statement M

@@ -12,9 +12,7 @@ use Rattle.json_items.proofs.Keys.{goes-filled}
 find-key-requires : tie.Need-find-key-requires
 find-key-requires c κs =
     let entry = c .before .before .before .before .before .before in
-    let text = entry .args .text .now in
-    let from = entry .args .from in
-    let s : StringTo text from (c .before .quote2 .given .0 .0) false = subst (QuotedIs text from) (c .before .quote2 .given .1)
+    let s : StringTo _ _ (c .before .quote2 .given .0 .0) false = subst (QuotedIs _ _) (c .before .quote2 .given .1)
     (c .before .before .before .string-end .ensures) in (
       entry .pre .1,
       entry .pre .2,
@@ -25,42 +23,30 @@ find-key-requires c κs =
 returns : tie.Need-returns
 returns c =
     let entry = c .before .before .before .before .before .before .before .before in
-    let book = entry .args .book .now in
-    let text = entry .args .text .now in
-    let from = entry .args .from in
-    let s : StringTo text from (c .before .before .before .quote2 .given .0 .0) false = subst (QuotedIs text from) (c .before .before .before .quote2 .given .1)
+    let s : StringTo _ _ (c .before .before .before .quote2 .given .0 .0) false = subst (QuotedIs _ _) (c .before .before .before .quote2 .given .1)
     (c .before .before .before .before .before .string-end .ensures) in
-    named-unlisted text book from (c .before .before .before .quote2 .given .0 .0) (entry .pre .0 .0) (c .before .find-key .result) s
+    named-unlisted _ _ _ (c .before .before .before .quote2 .given .0 .0) (entry .pre .0 .0) (c .before .find-key .result) s
     (c .before .find-key .ensures) (c .if1 .taken)
 
 returns-2 : tie.Need-returns-2
 returns-2 c =
     let entry = c .before .before .before .before .before .before in
-    let book = entry .args .book .now in
-    let text = entry .args .text .now in
-    let from = entry .args .from in
-    named-faulty text book from (c .before .fault .given .0 .0) (entry .pre .0 .0)
-    (subst (QuotedIs text from) (c .before .fault .given .1) (c .before .before .before .string-end .ensures))
+    named-faulty _ _ _ (c .before .fault .given .0 .0) (entry .pre .0 .0)
+    (subst (QuotedIs _ _) (c .before .fault .given .1) (c .before .before .before .string-end .ensures))
 
 returns-3 : tie.Need-returns-3
 returns-3 c =
     let entry = c .before .before .before .before .before .before in
-    let book = entry .args .book .now in
-    let text = entry .args .text .now in
-    let from = entry .args .from in
-    let s : StringTo text from (c .before .quote .given .0 .0) true = subst (QuotedIs text from) (c .before .quote .given .1)
+    let s : StringTo _ _ (c .before .quote .given .0 .0) true = subst (QuotedIs _ _) (c .before .quote .given .1)
     (c .before .before .before .string-end .ensures) in
-    named-escaped text book from (c .before .quote .given .0 .0) (entry .pre .0 .0) s
+    named-escaped _ _ _ (c .before .quote .given .0 .0) (entry .pre .0 .0) s
 
 returns-4 : tie.Need-returns-4
 returns-4 c =
     let entry = c .before .before .before .before .before .before .before .before in
-    let book = entry .args .book .now in
-    let text = entry .args .text .now in
-    let from = entry .args .from in
-    let s : StringTo text from (c .before .before .before .quote2 .given .0 .0) false = subst (QuotedIs text from) (c .before .before .before .quote2 .given .1)
+    let s : StringTo _ _ (c .before .before .before .quote2 .given .0 .0) false = subst (QuotedIs _ _) (c .before .before .before .quote2 .given .1)
     (c .before .before .before .before .before .string-end .ensures) in
-    named-found text book from (c .before .before .before .quote2 .given .0 .0) (entry .pre .0 .0) (c .before .find-key .result) s
+    named-found _ _ _ (c .before .before .before .quote2 .given .0 .0) (entry .pre .0 .0) (c .before .find-key .result) s
     (c .before .find-key .ensures) (c .if1 .left)
 
 pub key-end-spec : {M : Type 1} → statement M

@@ -10,44 +10,28 @@ use Rattle.json_items.proofs.item.text_end.Tie as tie
 
 add-t8 : tie.Need-add-t8
 add-t8 c =
-    let entry = c .before .before .before .before .before in
-    let text = entry .args .text .now in
-    let from = entry .args .from in
-    let s : StringTo text from (c .before .quote .given .0 .0) false = subst (QuotedIs text from) (c .before .quote .given .1)
+    let s : StringTo _ _ (c .before .quote .given .0 .0) false = subst (QuotedIs _ _) (c .before .quote .given .1)
     (c .before .before .before .string-end .ensures) in
     let i = quote-inside s in search needs
 
 add-t9 : tie.Need-add-t9
 add-t9 c =
-    let entry = c .before .before .before .before .before in
-    let text = entry .args .text .now in
-    let from = entry .args .from in
-    let s : StringTo text from (c .before .quote2 .given .0 .0) true = subst (QuotedIs text from) (c .before .quote2 .given .1)
+    let s : StringTo _ _ (c .before .quote2 .given .0 .0) true = subst (QuotedIs _ _) (c .before .quote2 .given .1)
     (c .before .before .before .string-end .ensures) in
     let i = quote-inside s in search needs
 
 returns : tie.Need-returns
 returns c =
-    let entry = c .before .before .before .before .before in
-    let text = entry .args .text .now in
-    let from = entry .args .from in
-    λ around. let s : StringTo text from (c .before .quote .given .0 .0) false = subst (QuotedIs text from) (c .before .quote .given .1)
+    λ around. let s : StringTo _ _ (c .before .quote .given .0 .0) false = subst (QuotedIs _ _) (c .before .quote .given .1)
     (c .before .before .before .string-end .ensures) in text-reads false around s
 
 returns-2 : tie.Need-returns-2
 returns-2 c =
-    let entry = c .before .before .before .before .before in
-    let text = entry .args .text .now in
-    let from = entry .args .from in
-    λ around. let s : StringTo text from (c .before .quote2 .given .0 .0) true = subst (QuotedIs text from) (c .before .quote2 .given .1)
+    λ around. let s : StringTo _ _ (c .before .quote2 .given .0 .0) true = subst (QuotedIs _ _) (c .before .quote2 .given .1)
     (c .before .before .before .string-end .ensures) in text-reads true around s
 
 returns-3 : tie.Need-returns-3
-returns-3 c =
-    let entry = c .before .before .before .before .before in
-    let text = entry .args .text .now in
-    let from = entry .args .from in
-    λ around. string-breaks around (subst (QuotedIs text from) (c .before .fault .given .1) (c .before .before .before .string-end .ensures))
+returns-3 c = λ around. string-breaks around (subst (QuotedIs _ _) (c .before .fault .given .1) (c .before .before .before .string-end .ensures))
 
 pub text-end-spec : {M : Type 1} → statement M
 text-end-spec =

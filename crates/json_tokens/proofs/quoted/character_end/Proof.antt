@@ -18,9 +18,7 @@ escape-end-requires c κs =
 returns : tie.Need-returns
 returns c =
     let entry = c .before .before .before in
-    let text = entry .args .text .now in
-    let at = entry .args .at in
-    escaped-char text at (sym (entry .pre .1) ∙ c .before .if1 .taken) (c .escape-end .result) (c .escape-end .ensures)
+    escaped-char _ _ (sym (entry .pre .1) ∙ c .before .if1 .taken) (c .escape-end .result) (c .escape-end .ensures)
 
 returns-2 : tie.Need-returns-2
 returns-2 c =

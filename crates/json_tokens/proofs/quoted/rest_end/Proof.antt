@@ -23,24 +23,18 @@ loop-holds c = (chars-start (c .before .pre .0), c .before .pre .0)
 
 returns : tie.Need-returns Inv-loop μ-loop
 returns c =
-    let entry = c .before .before .before .before .before in
     let turn = c .before .before .before in
-    let text = entry .args .text .now in
-    let from = entry .args .from in
     let inv = turn .loop .inv in
-    subst (QuotedIs text from) (sym (c .quoted .ensures)) (chars-shut _ _ _ (inv .0) (sym (c .before .before .byte-at .ensures) ∙ c .before .if1 .taken))
+    subst (QuotedIs _ _) (sym (c .quoted .ensures)) (chars-shut _ _ _ (inv .0) (sym (c .before .before .byte-at .ensures) ∙ c .before .if1 .taken))
 
 character-end-requires : tie.Need-character-end-requires Inv-loop μ-loop
 character-end-requires c κs = ((c .before .before .loop .inv .1, c .before .before .before .before .pre .1), c .before .byte-at .ensures, c .if1 .left)
 
 loop-less : tie.Need-loop-less Inv-loop μ-loop
 loop-less c =
-    let entry = c .before .before .before .before .before .before .before .before .before in
     let turn = c .before .before .before .before .before .before .before in
-    let text = entry .args .text .now in
     let inv = turn .loop .inv in
-    let at = turn .loop .at in
-    let h : CharTo text at (c .before .before .end .given .0 .0) = subst (CharIs text at) (c .before .before .end .given .1)
+    let h : CharTo _ _ (c .before .before .end .given .0 .0) = subst (CharIs _ _) (c .before .before .end .given .1)
     (c .before .before .before .before .character-end .ensures) in
     omega (arith, h .some, string-upto (h .goes) (inv .1))
 
@@ -63,12 +57,9 @@ loop-again c =
 
 returns-2 : tie.Need-returns-2 Inv-loop μ-loop
 returns-2 c =
-    let entry = c .before .before .before .before .before .before .before .before in
     let turn = c .before .before .before .before .before .before in
-    let text = entry .args .text .now in
     let inv = turn .loop .inv in
-    let at = turn .loop .at in
-    stops-on (inv .0 .goes) (subst (CharIs text at) (c .before .fault .given .1) (c .before .before .before .character-end .ensures))
+    stops-on (inv .0 .goes) (subst (CharIs _ _) (c .before .fault .given .1) (c .before .before .before .character-end .ensures))
 
 pub rest-end-spec : {M : Type 1} → statement M
 rest-end-spec =

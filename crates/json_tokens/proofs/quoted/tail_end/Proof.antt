@@ -6,18 +6,10 @@ use Rattle.json_tokens.proofs.quoted.tail_end.Statement.{statement}
 use Rattle.json_tokens.proofs.quoted.tail_end.Tie as tie
 
 returns : tie.Need-returns
-returns c =
-    let entry = c .before .before .before in
-    let text = entry .args .text .now in
-    let from = entry .args .from in
-    tail-last text from (sym (c .before .byte-within .ensures) ∙ c .if1 .taken)
+returns c = tail-last _ _ (sym (c .before .byte-within .ensures) ∙ c .if1 .taken)
 
 returns-2 : tie.Need-returns-2
-returns-2 c =
-    let entry = c .before .before .before in
-    let text = entry .args .text .now in
-    let from = entry .args .from in
-    tail-stop text from (sym (c .before .byte-within .ensures) ∙ c .if1 .left)
+returns-2 c = tail-stop _ _ (sym (c .before .byte-within .ensures) ∙ c .if1 .left)
 
 pub tail-end-spec : {M : Type 1} → statement M
 tail-end-spec = tie.close (tie.spec (λ c κs. search needs) (λ c. search needs) returns returns-2)

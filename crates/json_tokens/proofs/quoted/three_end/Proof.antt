@@ -19,21 +19,11 @@ returns : tie.Need-returns
 unfolding nextInString
 returns c =
     let entry = c .before .before .before .before in
-    let text = entry .args .text .now in
-    let high = entry .args .high in
-    let from = entry .args .from in
-    let low = entry .args .low in
-    λ a e. within-on text from low high a tails2 e (entry .pre .1) (sym (c .before .before .byte-within .ensures) ∙ c .before .if1 .taken) (c .two-end .result)
+    λ a e. within-on _ _ _ _ a tails2 e (entry .pre .1) (sym (c .before .before .byte-within .ensures) ∙ c .before .if1 .taken) (c .two-end .result)
     (c .two-end .ensures tails2 (λ x. refl))
 
 returns-2 : tie.Need-returns-2
-returns-2 c =
-    let entry = c .before .before .before in
-    let text = entry .args .text .now in
-    let high = entry .args .high in
-    let from = entry .args .from in
-    let low = entry .args .low in
-    λ a e. within-stop text from low high a tails2 e (sym (c .before .byte-within .ensures) ∙ c .if1 .left)
+returns-2 c = λ a e. within-stop _ _ _ _ a tails2 e (sym (c .before .byte-within .ensures) ∙ c .if1 .left)
 
 pub three-end-spec : {M : Type 1} → statement M
 three-end-spec =

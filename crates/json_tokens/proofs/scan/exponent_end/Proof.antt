@@ -10,11 +10,7 @@ use Rattle.json_tokens.proofs.scan.exponent_end.Statement.{statement}
 use Rattle.json_tokens.proofs.scan.exponent_end.Tie as tie
 
 returns : tie.Need-returns
-returns c =
-    let entry = c .before .before .before .before in
-    let text = entry .args .text .now in
-    let from = entry .args .from in
-    λ a m h. no-exponent text a from m h (ap isE (sym (c .before .before .byte-at .ensures)) ∙ sym (c .before .is-e .ensures) ∙ not-true _ (c .if1 .taken))
+returns c = λ a m h. no-exponent _ a _ m h (ap isE (sym (c .before .before .byte-at .ensures)) ∙ sym (c .before .is-e .ensures) ∙ not-true _ (c .if1 .taken))
 
 some-digits-requires : tie.Need-some-digits-requires
 some-digits-requires c κs =
@@ -37,10 +33,7 @@ some-digits-requires-2 c κs =
 
 returns-2 : tie.Need-returns-2
 returns-2 c =
-    let entry = c .before .before .before .before .before .before .before .before in
-    let text = entry .args .text .now in
-    let from = entry .args .from in
-    λ a m h. with-sign text a from h
+    λ a m h. with-sign _ a _ h
     (ap isE (sym (c .before .before .before .before .before .before .byte-at .ensures)) ∙ sym (c .before .before .before .before .before .is-e .ensures)
     ∙ not-false _ (c .before .before .before .before .if1 .left))
     (ap isSign (sym (c .before .before .before .byte-at2 .ensures)) ∙ sym (c .before .before .is-sign .ensures) ∙ c .before .if2 .taken)
@@ -48,10 +41,7 @@ returns-2 c =
 
 returns-3 : tie.Need-returns-3
 returns-3 c =
-    let entry = c .before .before .before .before .before .before .before .before in
-    let text = entry .args .text .now in
-    let from = entry .args .from in
-    λ a m h. without-sign text a from h
+    λ a m h. without-sign _ a _ h
     (ap isE (sym (c .before .before .before .before .before .before .byte-at .ensures)) ∙ sym (c .before .before .before .before .before .is-e .ensures)
     ∙ not-false _ (c .before .before .before .before .if1 .left))
     (ap isSign (sym (c .before .before .before .byte-at2 .ensures)) ∙ sym (c .before .before .is-sign .ensures) ∙ c .before .if2 .left)

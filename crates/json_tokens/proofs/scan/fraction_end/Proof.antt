@@ -29,34 +29,26 @@ some-digits-requires c κs =
 exponent-end-requires-2 : tie.Need-exponent-end-requires-2
 exponent-end-requires-2 c κs =
     let entry = c .before .before .before .before .before .before .before in
-    let text = entry .args .text .now in
-    let from = entry .args .from in
-    let d : (RunTo isDigit text (from + 1) (c .before .end .given .0 .0)) × (from + 1 < (c .before .end .given .0 .0)) = subst (DigitsIs text (from + 1))
+    let d : (RunTo isDigit _ _ (c .before .end .given .0 .0)) × (_ + 1 < (c .before .end .given .0 .0)) = subst (DigitsIs _ _)
     (c .before .end .given .1) (c .before .before .before .some-digits .ensures) in
     (d .0 .running .upto, entry .pre .1)
 
 returns-2 : tie.Need-returns-2
 unfolding mayEnd
 returns-2 c =
-    let entry = c .before .before .before .before .before .before .before .before in
-    let text = entry .args .text .now in
-    let from = entry .args .from in
-    λ a m h. let d : (RunTo isDigit text (from + 1) (c .before .before .end .given .0 .0)) × (from + 1 < (c .before .before .end .given .0 .0)) = subst
-    (DigitsIs text (from + 1)) (c .before .before .end .given .1) (c .before .before .before .before .some-digits .ensures) in number-on text a decimal from
+    λ a m h. let d : (RunTo isDigit _ _ (c .before .before .end .given .0 .0)) × (_ + 1 < (c .before .before .end .given .0 .0)) = subst
+    (DigitsIs _ _) (c .before .before .end .given .1) (c .before .before .before .before .some-digits .ensures) in number-on _ a decimal _
     (c .before .before .end .given .0 .0)
     (goes-on
-    (a-point text a from h (sym (c .before .before .before .before .before .before .byte-at .ensures) ∙ c .before .before .before .before .before .if1 .left))
-    (decimals text _ _ (d .0) (d .1)))
-    (c .exponent-end2 .result) (c .exponent-end2 .ensures decimal refl (decimals-end text _ _ (d .0)))
+    (a-point _ a _ h (sym (c .before .before .before .before .before .before .byte-at .ensures) ∙ c .before .before .before .before .before .if1 .left))
+    (decimals _ _ _ (d .0) (d .1)))
+    (c .exponent-end2 .result) (c .exponent-end2 .ensures decimal refl (decimals-end _ _ _ (d .0)))
 
 returns-3 : tie.Need-returns-3
 returns-3 c =
-    let entry = c .before .before .before .before .before .before .before in
-    let text = entry .args .text .now in
-    let from = entry .args .from in
-    λ a m h. let d = subst (DigitsIs text (from + 1)) (c .before .at .given .1) (c .before .before .before .some-digits .ensures) in number-on text a point from
-    (from + 1) (a-point text a from h (sym (c .before .before .before .before .before .byte-at .ensures) ∙ c .before .before .before .before .if1 .left))
-    (Bad (c .before .at .given .0 .0)) (no-decimals text _ _ (d .0) (d .1))
+    λ a m h. let d = subst (DigitsIs _ _) (c .before .at .given .1) (c .before .before .before .some-digits .ensures) in number-on _ a point _
+    _ (a-point _ a _ h (sym (c .before .before .before .before .before .byte-at .ensures) ∙ c .before .before .before .before .if1 .left))
+    (Bad (c .before .at .given .0 .0)) (no-decimals _ _ _ (d .0) (d .1))
 
 pub fraction-end-spec : {M : Type 1} → statement M
 fraction-end-spec =

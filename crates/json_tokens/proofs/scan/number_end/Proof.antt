@@ -27,10 +27,7 @@ returns c =
 
 returns-2 : tie.Need-returns-2
 returns-2 c =
-    let entry = c .before .before .before .before in
-    let text = entry .args .text .now in
-    let from = entry .args .from in
-    λ a h. unsigned-number text a from (start-number (byteAt text from) a (λ z. c .before .if1 .left (c .before .before .byte-at .ensures ∙ z)) h)
+    λ a h. unsigned-number _ a _ (start-number _ a (λ z. c .before .if1 .left (c .before .before .byte-at .ensures ∙ z)) h)
     (c .unsigned-end2 .result) (c .unsigned-end2 .ensures)
 
 pub number-end-spec : {M : Type 1} → statement M

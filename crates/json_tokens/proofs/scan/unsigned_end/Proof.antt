@@ -18,10 +18,7 @@ fraction-end-requires c κs =
 returns : tie.Need-returns
 unfolding mayEnd nextInNumber
 returns c =
-    let entry = c .before .before .before .before in
-    let text = entry .args .text .now in
-    let from = entry .args .from in
-    number-on text minus nought from _ (minus-zero text from (sym (c .before .before .byte-at .ensures) ∙ c .before .if1 .taken)) (c .fraction-end .result)
+    number-on _ minus nought _ _ (minus-zero _ _ (sym (c .before .before .byte-at .ensures) ∙ c .before .if1 .taken)) (c .fraction-end .result)
     (c .fraction-end .ensures nought refl refl)
 
 digits-end-requires : tie.Need-digits-end-requires
@@ -38,22 +35,16 @@ fraction-end-requires-2 c κs = (c .digits-end .ensures .running .upto, c .befor
 returns-2 : tie.Need-returns-2
 unfolding mayEnd
 returns-2 c =
-    let entry = c .before .before .before .before .before .before .before in
-    let text = entry .args .text .now in
-    let from = entry .args .from in
-    number-on text minus whole from _
-    (minus-digits text from _ (λ z. c .before .before .before .before .if1 .left (c .before .before .before .before .before .byte-at .ensures ∙ z))
+    number-on _ minus whole _ _
+    (minus-digits _ _ _ (λ z. c .before .before .before .before .if1 .left (c .before .before .before .before .before .byte-at .ensures ∙ z))
     (ap isDigit (sym (c .before .before .before .before .before .byte-at .ensures)) ∙ sym (c .before .before .before .is-digit .ensures)
     ∙ c .before .before .if2 .taken)
     (c .before .digits-end .ensures))
-    (c .fraction-end2 .result) (c .fraction-end2 .ensures whole refl (whole-end text _ _ (c .before .digits-end .ensures)))
+    (c .fraction-end2 .result) (c .fraction-end2 .ensures whole refl (whole-end _ _ _ (c .before .digits-end .ensures)))
 
 returns-3 : tie.Need-returns-3
 returns-3 c =
-    let entry = c .before .before .before .before .before in
-    let text = entry .args .text .now in
-    let from = entry .args .from in
-    no-number text from (λ z. c .before .before .if1 .left (c .before .before .before .byte-at .ensures ∙ z))
+    no-number _ _ (λ z. c .before .before .if1 .left (c .before .before .before .byte-at .ensures ∙ z))
     (ap isDigit (sym (c .before .before .before .byte-at .ensures)) ∙ sym (c .before .is-digit .ensures) ∙ c .if2 .left)
 
 pub unsigned-end-spec : {M : Type 1} → statement M

@@ -20,33 +20,21 @@ loop-holds c = (search needs, word-start (c .before .before .args .text .now) (c
 
 returns : tie.Need-returns Inv-loop μ-loop
 returns c =
-    let entry = c .before .before .before .before .before .before .before in
     let turn = c .before .before .before .before in
-    let text = entry .args .text .now in
-    let word = entry .args .word .now in
-    let from = entry .args .from in
     let inv = turn .loop .inv in
-    word-stop text word from _ (inv .1) (c .before .before .before .loop-test .taken) (λ z. c .if1 .taken (c .before .before .byte-at .ensures ∙ z))
+    word-stop _ _ _ _ (inv .1) (c .before .before .before .loop-test .taken) (λ z. c .if1 .taken (c .before .before .byte-at .ensures ∙ z))
 
 loop-again : tie.Need-loop-again Inv-loop μ-loop
 loop-again c =
-    let entry = c .before .before .before .before .before .before .before in
     let turn = c .before .before .before .before in
-    let text = entry .args .text .now in
-    let word = entry .args .word .now in
-    let from = entry .args .from in
     let inv = turn .loop .inv in
-    (search needs, word-on text word from _ (inv .1) (c .before .before .before .loop-test .taken) (sym (c .before .before .byte-at .ensures) ∙ c .if1 .left))
+    (search needs, word-on _ _ _ _ (inv .1) (c .before .before .before .loop-test .taken) (sym (c .before .before .byte-at .ensures) ∙ c .if1 .left))
 
 returns-2 : tie.Need-returns-2 Inv-loop μ-loop
 returns-2 c =
-    let entry = c .before .before .before .before in
     let turn = c .before in
-    let text = entry .args .text .now in
-    let word = entry .args .word .now in
-    let from = entry .args .from in
     let inv = turn .loop .inv in
-    word-done text word from _ (inv .1) (c .loop-test .left)
+    word-done _ _ _ _ (inv .1) (c .loop-test .left)
 
 pub word-end-spec : {M : Type 1} → statement M
 word-end-spec =

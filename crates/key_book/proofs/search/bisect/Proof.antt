@@ -1,10 +1,10 @@
 -- `bisect` meets its contract.
 use mathlib.Core.Path.{sym, subst}
-use Prim.Native.Nat.{_+_, _-_, _/_, _≤_}
+use Prim.Native.Nat.{_-_, _≤_}
 use native.Mathlib.Omega.{arith}
 use borrow.Author.Needs.{needs}
-use Rattle.json_theory.specs.Book.{bookRecords, bookKeys, keyOf}
-use Rattle.key_book.specs.Records.{bookRecord, OrderIs}
+use Rattle.json_theory.specs.Book.{bookRecords, bookKeys}
+use Rattle.key_book.specs.Records.{OrderIs}
 use Rattle.json_theory.specs.Inside.Scanning.{between}
 use Rattle.key_book.proofs.Halving.{Among, among-none}
 use Rattle.key_book.proofs.Matching.{among-all, halve-left, halve-right, halve-found}
@@ -30,62 +30,37 @@ loop-again : tie.Need-loop-again Inv-loop μ-loop
 loop-again c =
     let entry = c .before .before .before .before .before .before .before in
     let turn = c .before .before .before .before in
-    let text = entry .args .text .now in
-    let book = entry .args .book .now in
-    let from = entry .args .from in
-    let end = entry .args .to in
-    let high = turn .loop .high in
-    let inv = turn .loop .inv in
-    let low = turn .loop .low in (
+    let inv = turn .loop .inv in (
       search needs,
       search needs,
-      halve-right book (between text from end) (entry .pre .1) low high ((low + high) / 2) (omega arith) (inv .2)
-          (subst (OrderIs (keyOf (bookRecord book ((low + high) / 2))) (between text from end)) (c .enum-told .given .1) (c .before .before .compare .ensures)),
+      halve-right _ _ (entry .pre .1) _ _ _ (omega arith) (inv .2)
+          (subst (OrderIs _ _) (c .enum-told .given .1) (c .before .before .compare .ensures)),
     )
 
 returns : tie.Need-returns Inv-loop μ-loop
 returns c =
     let entry = c .before .before .before .before .before .before .before in
     let turn = c .before .before .before .before in
-    let text = entry .args .text .now in
-    let book = entry .args .book .now in
-    let from = entry .args .from in
-    let end = entry .args .to in
-    let high = turn .loop .high in
     let inv = turn .loop .inv in
-    let low = turn .loop .low in
-    halve-found book (between text from end) (entry .pre .1) low high ((low + high) / 2) (omega arith) (inv .2)
-    (subst (OrderIs (keyOf (bookRecord book ((low + high) / 2))) (between text from end)) (c .enum-told2 .given .1) (c .before .before .compare .ensures))
+    halve-found _ _ (entry .pre .1) _ _ _ (omega arith) (inv .2)
+    (subst (OrderIs _ _) (c .enum-told2 .given .1) (c .before .before .compare .ensures))
 
 loop-again-2 : tie.Need-loop-again-2 Inv-loop μ-loop
 loop-again-2 c =
     let entry = c .before .before .before .before .before .before .before in
     let turn = c .before .before .before .before in
-    let text = entry .args .text .now in
-    let book = entry .args .book .now in
-    let from = entry .args .from in
-    let end = entry .args .to in
-    let high = turn .loop .high in
-    let inv = turn .loop .inv in
-    let low = turn .loop .low in (
+    let inv = turn .loop .inv in (
       search needs,
       search needs,
-      halve-left book (between text from end) (entry .pre .1) low high ((low + high) / 2) (omega arith) (inv .2)
-          (subst (OrderIs (keyOf (bookRecord book ((low + high) / 2))) (between text from end)) (c .enum-told3 .given .1) (c .before .before .compare .ensures)),
+      halve-left _ _ (entry .pre .1) _ _ _ (omega arith) (inv .2)
+          (subst (OrderIs _ _) (c .enum-told3 .given .1) (c .before .before .compare .ensures)),
     )
 
 returns-2 : tie.Need-returns-2 Inv-loop μ-loop
 returns-2 c =
-    let entry = c .before .before .before .before in
     let turn = c .before in
-    let text = entry .args .text .now in
-    let book = entry .args .book .now in
-    let from = entry .args .from in
-    let end = entry .args .to in
-    let high = turn .loop .high in
     let inv = turn .loop .inv in
-    let low = turn .loop .low in
-    sym (among-none (between text from end) (bookKeys book) low high (c .loop-test .left) (inv .2))
+    sym (among-none _ _ _ _ (c .loop-test .left) (inv .2))
 
 pub bisect-spec : {M : Type 1} → statement M
 bisect-spec =

@@ -20,12 +20,7 @@ abbrev μ-loop : tie.MeasureT-loop
 loop-holds : tie.Need-loop-holds Inv-loop μ-loop
 loop-holds c =
     let entry = c .before .before in
-    let text = entry .args .text .now in
-    let book = entry .args .book .now in
-    let from = entry .args .from in
-    let end = entry .args .to in
-    let i = entry .args .i in
-    (omega (arith, entry .pre .1 .from), matched-start (bookRecord book i) (between text from end))
+    (omega (arith, entry .pre .1 .from), matched-start _ _)
 
 returns : tie.Need-returns Inv-loop μ-loop
 returns c =

@@ -2,8 +2,6 @@
 use mathlib.Core.Path.{sym}
 use native.Mathlib.Omega.{arith}
 use borrow.Author.Needs.{needs}
-use Rattle.json_theory.specs.Book.{bookRecords}
-use Rattle.json_theory.specs.Inside.Scanning.{between}
 use Rattle.key_book.proofs.Halving.{long-unlisted}
 use Rattle.json_theory.proofs.Scanning.{between-length}
 use Rattle.key_book.proofs.search.find_key.Statement.{statement}
@@ -13,10 +11,9 @@ returns : tie.Need-returns
 returns c =
     let entry = c .before .before .before in
     let text = entry .args .text .now in
-    let book = entry .args .book .now in
     let from = entry .args .from in
     let end = entry .args .to in
-    sym (long-unlisted book (between text from end) (bookRecords book) 0 (omega (arith, between-length text from end (entry .pre .2 .upto))))
+    sym (long-unlisted _ _ _ 0 (omega (arith, between-length text from end (entry .pre .2 .upto))))
 
 pub find-key-spec : {M : Type 1} → statement M
 find-key-spec = tie.close (tie.spec (λ c. search needs) returns (λ c κs. search needs) (λ c. search needs))

@@ -1,7 +1,6 @@
 -- `gap_at` meets its contract.
 use mathlib.Core.Path.{sym, _∙_}
 use borrow.Author.Needs.{needs}
-use Rattle.key_book.specs.Records.{bookRecord}
 use Rattle.key_book.proofs.GoodBook.{gap-is}
 use Rattle.key_book.proofs.validity.gap_at.Statement.{statement}
 use Rattle.key_book.proofs.validity.gap_at.Tie as tie
@@ -10,12 +9,7 @@ returns : tie.Need-returns
 returns c = λ z. absurd (c .if1 .taken (c .before .key-byte .ensures ∙ z))
 
 returns-2 : tie.Need-returns-2
-returns-2 c =
-    let entry = c .before .before .before .before in
-    let book = entry .args .book .now in
-    let i = entry .args .i in
-    let k = entry .args .k in
-    gap-is (bookRecord book i) k (c .key-byte2 .result) (sym (c .before .before .key-byte .ensures) ∙ c .before .if1 .left) (c .key-byte2 .ensures)
+returns-2 c = gap-is _ _ (c .key-byte2 .result) (sym (c .before .before .key-byte .ensures) ∙ c .before .if1 .left) (c .key-byte2 .ensures)
 
 pub gap-at-spec : {M : Type 1} → statement M
 gap-at-spec =

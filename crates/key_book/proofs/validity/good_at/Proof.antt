@@ -8,21 +8,14 @@ use Rattle.key_book.proofs.validity.good_at.Statement.{statement}
 use Rattle.key_book.proofs.validity.good_at.Tie as tie
 
 returns : tie.Need-returns
-returns c =
-    let entry = c .before .before .before in
-    let book = entry .args .book .now in
-    let i = entry .args .i in
-    bad-record book i (omega arith) (sym (c .before .good-key .ensures) ∙ not-true _ (c .if1 .taken))
+returns c = bad-record _ _ (omega arith) (sym (c .before .good-key .ensures) ∙ not-true _ (c .if1 .taken))
 
 returns-2 : tie.Need-returns-2
 returns-2 c = record { good = sym (c .before .before .good-key .ensures) ∙ not-false _ (c .before .if1 .left); up = λ l. absurd (omega arith) }
 
 returns-3 : tie.Need-returns-3
 returns-3 c =
-    let entry = c .before .before .before .before .before in
-    let book = entry .args .book .now in
-    let i = entry .args .i in
-    good-last book i (c .ascends .result) (sym (c .before .before .before .good-key .ensures) ∙ not-false _ (c .before .before .if1 .left)) (omega arith)
+    good-last _ _ (c .ascends .result) (sym (c .before .before .before .good-key .ensures) ∙ not-false _ (c .before .before .if1 .left)) (omega arith)
     (c .ascends .ensures)
 
 pub good-at-spec : {M : Type 1} → statement M

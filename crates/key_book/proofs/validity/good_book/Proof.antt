@@ -19,21 +19,13 @@ loop-holds : tie.Need-loop-holds Inv-loop μ-loop
 loop-holds c = λ j l. absurd (omega arith)
 
 returns : tie.Need-returns Inv-loop μ-loop
-returns c =
-    let entry = c .before .before .before .before .before in
-    let turn = c .before .before .before in
-    let book = entry .args .book .now in
-    let i = turn .loop .i in
-    subst (GoodAt book i) (not-true (c .before .good-at .result) (c .if1 .taken)) (c .before .good-at .ensures)
+returns c = subst (GoodAt _ _) (not-true (c .before .good-at .result) (c .if1 .taken)) (c .before .good-at .ensures)
 
 loop-again : tie.Need-loop-again Inv-loop μ-loop
 loop-again c =
-    let entry = c .before .before .before .before .before in
     let turn = c .before .before .before in
-    let book = entry .args .book .now in
     let inv = turn .loop .inv in
-    let i = turn .loop .i in
-    fine-more book i inv (subst (GoodAt book i) (not-false (c .before .good-at .result) (c .if1 .left)) (c .before .good-at .ensures))
+    fine-more _ _ inv (subst (GoodAt _ _) (not-false (c .before .good-at .result) (c .if1 .left)) (c .before .good-at .ensures))
 
 returns-2 : tie.Need-returns-2 Inv-loop μ-loop
 returns-2 c = book-fine (c .before .before .before .args .book .now) (λ j l. c .before .loop .inv j (omega arith))

@@ -17,18 +17,14 @@ abbrev μ-loop : tie.MeasureT-loop
 μ-loop book i k₀ k = bookSize - k
 
 returns : tie.Need-returns Inv-loop μ-loop
-returns c =
-    let entry = c .before .before .before in
-    let book = entry .args .book .now in
-    let i = entry .args .i in
-    sym (unfilled (bookRecord book i) (sym (c .before .key-byte .ensures) ∙ c .if1 .taken))
+returns c = sym (unfilled _ (sym (c .before .key-byte .ensures) ∙ c .if1 .taken))
 
 loop-holds : tie.Need-loop-holds Inv-loop μ-loop
 loop-holds c =
     let entry = c .before .before .before in
     let book = entry .args .book .now in
     let i = entry .args .i in
-    (search needs, good-start (bookRecord book i) (omega (arith, record-length book i (entry .pre .0))) (λ z. c .if1 .left (c .before .key-byte .ensures ∙ z)))
+    (search needs, good-start _ (omega (arith, record-length book i (entry .pre .0))) (λ z. c .if1 .left (c .before .key-byte .ensures ∙ z)))
 
 returns-2 : tie.Need-returns-2 Inv-loop μ-loop
 returns-2 c =
@@ -37,9 +33,8 @@ returns-2 c =
     let book = entry .args .book .now in
     let i = entry .args .i in
     let inv = turn .loop .inv in
-    let k = turn .loop .k in
-    let g = subst (GapIs (bookRecord book i) k) (c .if2 .taken) (c .before .gap-at .ensures) in
-    sym (good-not (bookRecord book i) k (inv .1) (omega (arith, record-length book i (entry .pre .0))) (g .0) (g .1))
+    let g = subst (GapIs _ _) (c .if2 .taken) (c .before .gap-at .ensures) in
+    sym (good-not _ _ (inv .1) (omega (arith, record-length book i (entry .pre .0))) (g .0) (g .1))
 
 loop-again : tie.Need-loop-again Inv-loop μ-loop
 loop-again c =
@@ -47,11 +42,10 @@ loop-again c =
     let turn = c .before .before .before in
     let book = entry .args .book .now in
     let i = entry .args .i in
-    let inv = turn .loop .inv in
-    let k = turn .loop .k in (
+    let inv = turn .loop .inv in (
       search needs,
-      good-on (bookRecord book i) k (inv .1) (omega (arith, record-length book i (entry .pre .0)))
-          (subst (GapIs (bookRecord book i) k) (c .if2 .left) (c .before .gap-at .ensures)),
+      good-on _ _ (inv .1) (omega (arith, record-length book i (entry .pre .0)))
+          (subst (GapIs _ _) (c .if2 .left) (c .before .gap-at .ensures)),
     )
 
 returns-3 : tie.Need-returns-3 Inv-loop μ-loop
