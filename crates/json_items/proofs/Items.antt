@@ -12,7 +12,7 @@ use Rattle.json_theory.specs.Rx.{within}
 use Rattle.json_theory.specs.Grammar.{headOf, array, object, isSpace}
 use Rattle.json_theory.specs.Parts.{plain, nextInString, NumberPart, minus, nought, whole, nextInNumber, Start, letters, number, string, open′, nothing, start}
 use Rattle.json_theory.specs.Steps.{Stack, add, after, inString, inNumber, inLiteral, colon, begin, need, step}
-use Rattle.json_theory.specs.Book.{bookKeys, placeOf, keyNumber}
+use Rattle.json_theory.specs.Book.{bookRecords, bookKeys, placeOf, keyNumber}
 use Rattle.json_theory.specs.Reader.{keyFault, faultOr, readFrom, limitFault}
 use Rattle.json_theory.specs.Inside.Scanning.{byteAt, Goes, here, on, Stops, between, RunTo}
 use Rattle.json_tokens.specs.Tokens.{StringTo, NumberIs, nextLetter, ScanIs}
@@ -20,8 +20,10 @@ use Rattle.json_items.specs.Items.{ReadsTo, ScalarIs, keyReading, KeyTo,
 use Rattle.json_tokens.specs.declared.scan.Scan.{Scan}
 use Rattle.json_tokens.specs.declared.scan.Scan.the-variants.{To, Bad}
 use Rattle.json_items.specs.declared.item.Named.the-variants.{Unlisted, Faulty}
+use Rattle.json_theory.proofs.Book.{keys-length, place-below}
 use Rattle.json_theory.proofs.Rx.{false-true}
 use Rattle.json_theory.proofs.Scanning.{byte-none, byte-inside}
+use Rattle.json_tokens.proofs.Strings.{goes-up}
 use Rattle.json_tokens.proofs.Numbers.{number-inside}
 use Rattle.json_items.proofs.Leads.{string-leads, number-leads, number-breaks, lettered, word-inside, word-leads, word-breaks, space-leads, loose-colon, loose-need, reads-on, reads-fault, reads-end, either-way}
 use Rattle.json_items.proofs.Keys.{key-leads, key-breaks, string-escapes, plain-number, escaped-number}
@@ -45,6 +47,8 @@ module _ (text book : List ℕ) (p q : ℕ) (l : p ≤ length text) where
   named-found k s e n =
       record {
         some = omega arith;
+        listed = omega (arith, e, place-below (between text p q) 1 (bookKeys book) (omega arith), keys-length (bookRecords book) book);
+        from = omega (arith, goes-up (s .chars .goes));
         upto = quote-inside s;
         reads = λ room around. number-of false k s (plainly k s e) room around ∙ rw (ne-eqb k 0 n) refl;
       }

@@ -8,7 +8,7 @@ use Rattle.value_table.specs.Value.{Head, none, value, member}
 use Rattle.json_theory.specs.Grammar.{headOf}
 use Rattle.json_theory.specs.Parts.{Start, letters, number, string, open′, nothing, plain}
 use Rattle.json_theory.specs.Steps.{Stack, add, State, after, inKey, colon, begin}
-use Rattle.json_theory.specs.Book.{keyNumber}
+use Rattle.json_theory.specs.Book.{bookRecords, keyNumber}
 use Rattle.json_theory.specs.Reader.{keysIn, Reading, faultAt, faultOr, readFrom}
 use Rattle.json_theory.specs.Inside.Scanning.{Leads, Breaks}
 use Rattle.json_tokens.specs.declared.scan.Scan.{Scan}
@@ -39,6 +39,8 @@ keyReading text book room around p = readFrom (keyNumber book) room (inKey plain
 -- a listed key up to its closing quote at q: a fault only where the record has it
 pub record KeyTo (text book : List ℕ) (p k q : ℕ) : Type 0 where
   pub some : 1 ≤ k
+  pub listed : k ≤ bookRecords book
+  pub from : p ≤ q
   pub upto : q < length text
   pub reads : (room : ℕ) (around : Stack) →
       keyReading text book room around p

@@ -113,14 +113,14 @@ unfolding keysFrom
 keys-length zero b = refl
 keys-length (suc n) b = ap suc (keys-length n (drop bookSize b))
 
-place-small : (w : List ℕ) (i : ℕ) (ks : List (List ℕ)) → placeOf w i ks ≤ i + length ks
+pub place-below : (w : List ℕ) (i : ℕ) (ks : List (List ℕ)) → 1 ≤ i → placeOf w i ks < i + length ks
 unfolding placeOf
-place-small w i [] = omega arith
-place-small w i (k ∷ ks) = go (sameBytes w k) (place-small w (suc i) ks)
+place-below w i [] h = omega arith
+place-below w i (k ∷ ks) h = go (sameBytes w k) (place-below w (suc i) ks (omega arith))
   where
-    go : (t : Bool) → placeOf w (suc i) ks ≤ suc i + length ks → cond t i (placeOf w (suc i) ks) ≤ i + suc (length ks)
-    go true h = omega arith
-    go false h = omega arith
+    go : (t : Bool) → placeOf w (suc i) ks < suc i + length ks → cond t i (placeOf w (suc i) ks) < i + suc (length ks)
+    go true l = omega arith
+    go false l = omega arith
 
 -- a book of at most 65,536 bytes
 pub number-small : (b : List ℕ) → length b ≤ maxLength → (w : List ℕ) → keyNumber b w < 65536
@@ -129,7 +129,7 @@ number-small b h w = go (member 0x5C w)
   where
     go : (t : Bool) → cond t 0 (placeOf w 1 (bookKeys b)) < 65536
     go true = omega arith
-    go false = omega (arith, place-small w 1 (bookKeys b), keys-length (bookRecords b) b)
+    go false = omega (arith, place-below w 1 (bookKeys b) (omega arith), keys-length (bookRecords b) b)
 
 -- key i + 1 is the key of the book's record i, spelled without an escape
 pub key-number : (b w : List ℕ) (i : ℕ) → badBook b ≡ false →

@@ -3,3 +3,4 @@ pub mod Marks
 pub mod MarksHold
 pub mod Laid
 pub mod NextItem
+pub mod FieldKey
