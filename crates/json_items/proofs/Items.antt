@@ -16,7 +16,7 @@ use Rattle.json_theory.specs.Book.{bookRecords, bookKeys, placeOf, keyNumber}
 use Rattle.json_theory.specs.Reader.{keyFault, faultOr, readFrom, limitFault}
 use Rattle.json_theory.specs.Inside.Scanning.{byteAt, Goes, here, on, Stops, between, RunTo}
 use Rattle.json_tokens.specs.Tokens.{StringTo, NumberIs, nextLetter, ScanIs}
-use Rattle.json_items.specs.Items.{ReadsTo, ScalarIs, keyReading, KeyTo, NamedIs}
+use Rattle.json_items.specs.Items.{ReadsTo, ScalarIs, keyReading, KeyTo, NamedIs, ColonTo, ColonIs}
 use Rattle.json_tokens.specs.declared.scan.Scan.{Scan}
 use Rattle.json_tokens.specs.declared.scan.Scan.the-variants.{To, Bad}
 use Rattle.json_items.specs.declared.item.Named.the-variants.{Unlisted, Faulty}
@@ -132,17 +132,21 @@ start-inside text p a h = look (ltb p (length text)) refl
 
 -- colons
 module _ (text : List ℕ) (p q : ℕ) (s : RunTo isSpace text p q) (key : ℕ) (around : Stack) where
-  pub colon-leads : byteAt text q ≡ 0x3A → (r : ℕ) → RunTo isSpace text (q + 1) r → ReadsTo text (colon key around) p (need key around) (To r)
+  pub colon-leads : byteAt text q ≡ 0x3A → (r : ℕ) → RunTo isSpace text (q + 1) r → ColonTo text key around p r
   unfolding step limitFault
-  colon-leads h r t = (
-    λ name room.
-        space-leads (colon key around) (loose-colon key around) (s .running) name room
-        ∙ reads-on text q name room (colon key around) (byte-inside text q (omega arith)) (need key around) (rw h refl) (rw h refl)
-        ∙ space-leads (need key around) (loose-need key around) (t .running) name room,
-    t .running .upto,
-  )
+  colon-leads h r t =
+      record {
+        leads =
+            λ name room.
+            space-leads (colon key around) (loose-colon key around) (s .running) name room
+            ∙ reads-on text q name room (colon key around) (byte-inside text q (omega arith)) (need key around) (rw h refl) (rw h refl)
+            ∙ space-leads (need key around) (loose-need key around) (t .running) name room;
+        from = omega (arith, s .running .from, t .running .from);
+        upto = t .running .upto;
+        byte = t .fails;
+      }
 
-  pub colon-breaks : (byteAt text q ≡ 0x3A → ⊥) → ReadsTo text (colon key around) p (need key around) (Bad q)
+  pub colon-breaks : (byteAt text q ≡ 0x3A → ⊥) → ColonIs text key around p (Bad q)
   unfolding step limitFault
   colon-breaks h name room =
       space-leads (colon key around) (loose-colon key around) (s .running) name room

@@ -1,16 +1,16 @@
 -- Keys and scalars as a reading meets them.
 use mathlib.Core.Path.{_≡_}
-use mathlib.Core.Bool.{cond}
+use mathlib.Core.Bool.{false, cond}
 use mathlib.Core.List.{List, []}
 use Prim.Native.Nat.{ℕ, _+_, _≤_, _<_}
 use lib.ListN.{length, drop}
 use Rattle.value_table.specs.Value.{Head, none, value, member}
-use Rattle.json_theory.specs.Grammar.{headOf}
+use Rattle.json_theory.specs.Grammar.{headOf, isSpace}
 use Rattle.json_theory.specs.Parts.{Start, letters, number, string, open′, nothing, plain}
-use Rattle.json_theory.specs.Steps.{Stack, add, State, after, inKey, colon, begin}
+use Rattle.json_theory.specs.Steps.{Stack, add, State, after, need, inKey, colon, begin}
 use Rattle.json_theory.specs.Book.{bookRecords, keyNumber}
 use Rattle.json_theory.specs.Reader.{keysIn, Reading, faultAt, faultOr, readFrom}
-use Rattle.json_theory.specs.Inside.Scanning.{Leads, Breaks}
+use Rattle.json_theory.specs.Inside.Scanning.{byteAt, Leads, Breaks}
 use Rattle.json_tokens.specs.declared.scan.Scan.{Scan}
 use Rattle.json_tokens.specs.declared.scan.Scan.the-variants.{To, Bad}
 use Rattle.json_items.specs.declared.item.Named.{Named}
@@ -20,6 +20,17 @@ use Rattle.json_items.specs.declared.item.Named.the-variants.{Found, Unl
 abbrev pub ReadsTo : List ℕ → State → ℕ → State → Scan → Type 0
 ReadsTo text σ p τ (To q) = Leads text σ p τ q × (q ≤ length text)
 ReadsTo text σ p τ (Bad q) = Breaks text σ p q
+
+-- a colon with the white space around it leads to the first byte of a value
+pub record ColonTo (text : List ℕ) (key : ℕ) (around : Stack) (p q : ℕ) : Type 0 where
+  pub leads : Leads text (colon key around) p (need key around) q
+  pub from : p ≤ q
+  pub upto : q ≤ length text
+  pub byte : isSpace (byteAt text q) ≡ false
+
+abbrev pub ColonIs : List ℕ → ℕ → Stack → ℕ → Scan → Type 0
+ColonIs text key around p (To q) = ColonTo text key around p q
+ColonIs text key around p (Bad q) = Breaks text (colon key around) p q
 
 -- a scalar behind its first byte, at p, which is a value with this head from then on; other values have no scan
 abbrev pub ScalarTo : List ℕ → ℕ → Start → Head → ℕ → Stack → Scan → Type 0

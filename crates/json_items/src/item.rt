@@ -13,10 +13,10 @@ ghost use Prim.Native.Nat.{ℕ, _+_, _≤_};
 ghost use lib.ListN.{length};
 ghost use Rattle.value_table.specs.Value.{maxLength};
 ghost use Rattle.json_theory.specs.Parts.{start, plain};
-ghost use Rattle.json_theory.specs.Steps.{Stack, after, need, colon, inString};
+ghost use Rattle.json_theory.specs.Steps.{Stack, after, colon, inString};
 ghost use Rattle.json_theory.specs.Book.{badBook};
 ghost use Rattle.json_theory.specs.Inside.Scanning.{byteAt, PlaceIn};
-ghost use Rattle.json_items.specs.Items.{ReadsTo, ScalarIs, NamedIs};
+ghost use Rattle.json_items.specs.Items.{ReadsTo, ScalarIs, NamedIs, ColonIs};
 
 // A key's number and the place of its closing quote; or where it turns out to be unlisted or faulty.
 pub enum Named {
@@ -78,7 +78,7 @@ pub fn scalar_end(text: &[u8], at: usize, c: u8) -> Scan
 // The colon behind a key, with the white space around it.
 pub fn colon_end(text: &[u8], from: usize) -> Scan
     requires { ⌜ PlaceIn (now text) from ⌝ }
-    ensures { λ r. ⌜ ((key : ℕ) (around : Stack) → ReadsTo (now (text .entry)) (colon key around) from (need key around) r) ⌝ }
+    ensures { λ r. ⌜ ((key : ℕ) (around : Stack) → ColonIs (now (text .entry)) key around from r) ⌝ }
 {
     let at = space_end(text, from);
     if byte_at(text, at) == 0x3A {

@@ -1,19 +1,19 @@
 -- What stands between two items of a level: white space, a comma, and the end of the text.
-use mathlib.Core.Path.{_≡_, refl, sym, _∙_, ap}
+use mathlib.Core.Path.{_≡_, refl, _∙_}
 use mathlib.Core.Bool.{Bool, true, false, cond}
 use mathlib.Core.List.{List}
-use Prim.Native.Nat.{ℕ, suc, _+_, _≤_, _<_}
+use Prim.Native.Nat.{ℕ, _+_, _≤_, _<_}
 use native.Mathlib.Omega.{arith}
 use lib.Dec.{eqb, ltb}
-use lib.ListN.{length, drop}
+use lib.ListN.{length}
 use borrow.Author.Tests.{ne-eqb, ltb-false}
 use Rattle.value_table.specs.Value.{Values, none}
 use Rattle.json_theory.specs.Grammar.{isSpace, Container, array, object, closer}
 use Rattle.json_theory.specs.Steps.{Stack, base, level, State, gap, after, need, first, nextKey, behindComma, stepAfter, step}
 use Rattle.json_theory.specs.Reader.{depth, limitFault, isWrong}
-use Rattle.json_theory.specs.Inside.Scanning.{byteAt, Running, RunTo, PlaceIn, Leads, Breaks}
+use Rattle.json_theory.specs.Inside.Scanning.{byteAt, Running, RunTo, Leads, Breaks}
 use Rattle.json_items.proofs.Leads.{Loose, space-leads, loose-need, reads-on, reads-fault, reads-end, either-way}
-use Rattle.text_reader.specs.Inside.Progress.{Between, atStart, opened, behind, AwaitsItem, message, firstItem, element, field, StaysOpen, ItemAt}
+use Rattle.text_reader.specs.Inside.Progress.{Between, atStart, opened, behind, message, firstItem, element, field, StaysOpen, ItemAt}
 use Rattle.text_reader.specs.Inside.Items.{EndsFine, NextIs, messageOrEnd}
 use Rattle.text_reader.specs.declared.between.Next.the-variants.{End, Item, Bad}
 

@@ -12,6 +12,7 @@ use Rattle.json_theory.specs.Book.{bookRecords}
 use Rattle.json_theory.specs.Reader.{fine, faultAt, readFrom}
 use Rattle.json_theory.specs.Inside.Scanning.{byteAt, Breaks}
 use Rattle.text_reader.specs.Inside.Progress.{ItemAt, readsFrom}
+use Rattle.json_items.specs.Items.{ColonTo}
 use Rattle.text_reader.specs.Inside.Marks.{markSize, MarksHold}
 use Rattle.text_reader.specs.declared.TextFault.{TextFault}
 use Rattle.text_reader.specs.declared.TextFault.the-variants.{Grammar, Unlisted, Repeated, Deep, Full}
@@ -49,14 +50,21 @@ RefusedBy text book room σ p why q = readsFrom text book room σ p ≡ faultAt 
 -- a new key of the innermost level has been read and marked, and reading goes on in state τ at byte q
 pub record KeyRead (text book seen : List ℕ) (room : ℕ) (σ : State) (p : ℕ) (around : Stack) (k : ℕ) (τ : State) (q : ℕ) : Type 0 where
   pub reads : readsFrom text book room σ p ≡ readsFrom text book room τ q
-  pub from : p ≤ q
-  pub upto : q ≤ length text
   pub marks : MarksHold (bookRecords book) seen around (k ∷ [])
+
+-- where a key that was found from byte p on has led
+abbrev pub KeyPlace : List ℕ → ℕ → Key → Type 0
+KeyPlace text p (Found k q) = (p ≤ q) × (q ≤ length text)
+KeyPlace text p (Wrong why q) = Unit {0}
 
 -- up to its closing quote, and up to its value
 abbrev pub NewKeyIs : (text book seen : List ℕ) → ℕ → State → ℕ → Stack → Key → Type 0
 NewKeyIs text book seen room σ p around (Found k q) = KeyRead text book seen room σ p around k (colon k around) q
 NewKeyIs text book seen room σ p around (Wrong why q) = RefusedBy text book room σ p why q
+
+abbrev pub BehindColon : (text : List ℕ) → ℕ → Stack → ℕ → Key → Type 0
+BehindColon text key around p (Found k q) = (k ≡ key) × ColonTo text key around p q
+BehindColon text key around p (Wrong why q) = (why ≡ Grammar) × Breaks text (colon key around) p q
 
 abbrev pub FieldKeyIs : (text book seen : List ℕ) → ℕ → State → ℕ → Stack → Key → Type 0
 FieldKeyIs text book seen room σ p around (Found k q) = KeyRead text book seen room σ p around k (need k around) q × (isSpace (byteAt text q) ≡ false)

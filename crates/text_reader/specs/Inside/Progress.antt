@@ -1,16 +1,16 @@
 -- How far a text has been read, as the loop holds it: the state of the reading between two items, and the open values.
 use mathlib.Core.Path.{_≡_}
-use mathlib.Core.Bool.{Bool, true, false, cond}
+use mathlib.Core.Bool.{Bool, true, false}
 use mathlib.Core.List.{List, []}
-use Prim.Native.Nat.{ℕ, _*_, _≤_, _<_}
+use Prim.Native.Nat.{ℕ, _≤_}
 use lib.Dec.{eqb}
 use lib.ListN.{length, getD, drop}
-use Rattle.value_table.specs.Value.{recordSize, Head, Values, none, value, maxDepth}
+use Rattle.value_table.specs.Value.{Values, none, value}
 use Rattle.json_theory.specs.Grammar.{Container, array, object, closer, isSpace}
-use Rattle.json_theory.specs.Steps.{Stack, base, level, add, State, gap, after, need, first, nextKey}
+use Rattle.json_theory.specs.Steps.{Stack, base, level, State, gap, after, need, first, nextKey}
 use Rattle.json_theory.specs.Book.{keyNumber}
 use Rattle.json_theory.specs.Reader.{depth, written, Reading, readFrom}
-use Rattle.json_theory.specs.Inside.Scanning.{byteAt, Leads, Breaks}
+use Rattle.json_theory.specs.Inside.Scanning.{byteAt, Leads}
 
 -- the reading of a text from state σ at byte p on, with the book's numbers
 abbrev pub readsFrom : (text book : List ℕ) → ℕ → State → ℕ → Reading

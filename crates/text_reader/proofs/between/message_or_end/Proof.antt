@@ -1,7 +1,6 @@
 -- `message_or_end` meets its contract.
 use mathlib.Core.Path.{refl}
 use borrow.Author.Tests.{lt-ltb, le-ltb}
-use borrow.Author.Needs.{needs}
 use Rattle.text_reader.proofs.between.message_or_end.Statement.{statement}
 use Rattle.text_reader.proofs.between.message_or_end.Tie as tie
 

@@ -1,5 +1,5 @@
 -- `new_key` meets its contract.
-use mathlib.Core.Path.{_≡_, subst, sym, _∙_}
+use mathlib.Core.Path.{subst, sym, _∙_}
 use native.Mathlib.Omega.{arith}
 use borrow.Author.Needs.{needs}
 use Rattle.json_items.specs.Items.{KeyTo, NamedIs}
@@ -18,10 +18,12 @@ has-mark-requires : tie.Need-has-mark-requires
 has-mark-requires c κs = let k = c .before .before in let s = k .before .before .before .before .before .before in key-slot (found k) (s .pre .0 .3) (s .pre .1 .0)
 
 returns : tie.Need-returns
-returns c room key done outer d own m =
+returns c =
     let k = c .before .before .before .before in
-    let s = k .before .before .before .before .before .before in
-    key-repeated (found k) own (rw (s .pre .0 .3) at m) room (rw (sym d, s .pre .0 .3) at (sym (c .if1 .taken) ∙ c .before .has-mark .ensures))
+    let s = k .before .before .before .before .before .before in (
+      tt,
+      λ room key done outer d own m. key-repeated (found k) own (rw (s .pre .0 .3) at m) room (rw (sym d, s .pre .0 .3) at (sym (c .if1 .taken) ∙ c .before .has-mark .ensures)),
+    )
 
 set-mark-requires : tie.Need-set-mark-requires
 set-mark-requires c κs =
@@ -33,22 +35,27 @@ add-t23 : tie.Need-add-t23
 add-t23 c = let k = c .before .before .before .before .before .before .before .before in omega (arith, found k .upto)
 
 returns-2 : tie.Need-returns-2
-returns-2 c room key done outer d own m =
+returns-2 c =
     let s = c .before .before .before .before .before .before .before in
-    subst (NamedIs (s .args .text .now) (s .args .book .now) (s .args .from)) (c .before .place .given .1) (c .before .before .before .key-end .ensures) room _
+    let named = subst (NamedIs (s .args .text .now) (s .args .book .now) (s .args .from)) (c .before .place .given .1) (c .before .before .before .key-end .ensures) in
+    (tt, λ room key done outer d own m. named room _)
 
 returns-3 : tie.Need-returns-3
-returns-3 c room key done outer d own m =
+returns-3 c =
     let s = c .before .before .before .before .before .before .before in
-    subst (NamedIs (s .args .text .now) (s .args .book .now) (s .args .from)) (c .before .quote .given .1) (c .before .before .before .key-end .ensures) room _
+    let named = subst (NamedIs (s .args .text .now) (s .args .book .now) (s .args .from)) (c .before .quote .given .1) (c .before .before .before .key-end .ensures) in
+    (tt, λ room key done outer d own m. named room _)
 
 returns-4 : tie.Need-returns-4
-returns-4 c room key done outer d own m =
+returns-4 c =
     let k = c .before .before .before .before .before .before .before .before in
-    let s = k .before .before .before .before .before .before in
-    key-new (found k) own (rw (s .pre .0 .3) at m) room
-    (rw (sym d, s .pre .0 .3) at (sym (c .before .before .before .before .if1 .left) ∙ c .before .before .before .before .before .has-mark .ensures))
-    (rw (s .pre .0 .3, sym d) at (s .pre .1 .0)) (c .before .before .set-mark .kept .0) (rw (sym d, s .pre .0 .3) at (c .before .before .set-mark .ensures))
+    let s = k .before .before .before .before .before .before in (
+      (omega (arith, found k .from), omega (arith, found k .upto)),
+      λ room key done outer d own m.
+          key-new (found k) own (rw (s .pre .0 .3) at m) room
+          (rw (sym d, s .pre .0 .3) at (sym (c .before .before .before .before .if1 .left) ∙ c .before .before .before .before .before .has-mark .ensures))
+          (rw (s .pre .0 .3, sym d) at (s .pre .1 .0)) (c .before .before .set-mark .kept .0) (rw (sym d, s .pre .0 .3) at (c .before .before .set-mark .ensures)),
+    )
 
 pub new-key-spec : {M : Type 1} → statement M
 new-key-spec =
