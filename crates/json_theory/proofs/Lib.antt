@@ -17,3 +17,4 @@ pub mod Promises
 pub mod Trials
 pub mod Rfc
 pub mod Scanning
+pub mod Laid
