@@ -9,9 +9,10 @@ use lib.Dec.{eqb, ltb}
 use lib.ListN.{length, drop, drop-of-length-le}
 use lib.Seq.{drop-cons}
 use borrow.Author.Tests.{eqb-true, eqb-false, ltb-true, ltb-false, not-true}
-use Rattle.json_theory.specs.Grammar.{quote, isSpace}
+use Rattle.value_table.specs.Value.{Values}
+use Rattle.json_theory.specs.Grammar.{quote, isSpace, Container, array, object}
 use Rattle.json_theory.specs.Parts.{Turn, go, stuck, goIf, plain, nextInString, NumberPart, nextInNumber}
-use Rattle.json_theory.specs.Steps.{Stack, State, after, need, colon, inString, inNumber, inLiteral, stepLiteral, stringTurn, numberTurn, step}
+use Rattle.json_theory.specs.Steps.{Stack, base, level, State, gap, after, need, first, nextKey, colon, inString, inNumber, inLiteral, stepAfter, stepLiteral, stringTurn, numberTurn, step}
 use Rattle.json_theory.specs.Reader.{limitFault, isWrong, Reading, faultAt, finish, faultOr, byteFault, readFrom}
 use Rattle.json_theory.specs.Inside.Scanning.{byteAt, Running, Goes, here, on, Stops, Leads, Breaks}
 use Rattle.json_tokens.specs.Tokens.{StringTo, NumberTo, nextLetter}
@@ -194,3 +195,28 @@ loose-need key around c h name room = (rw h refl, rw h refl)
 pub loose-colon : (key : ℕ) (around : Stack) → Loose (colon key around)
 unfolding step limitFault
 loose-colon key around c h name room = (rw h refl, rw h refl)
+
+pub loose-gap : (ms : Values) → Loose (gap ms)
+unfolding step limitFault
+loose-gap ms c h name room = (rw h refl, rw h refl)
+
+pub loose-after : (o : Container) (key : ℕ) (done : Values) (outer : Stack) → Loose (after (level o key done outer))
+unfolding step limitFault stepAfter
+loose-after o key done outer c h name room = (rw h refl, rw h refl)
+
+pub loose-first : (o : Container) (key : ℕ) (outer : Stack) → Loose (first o key outer)
+unfolding step limitFault
+loose-first array key outer c h name room = (rw h refl, rw h refl)
+loose-first object key outer c h name room = (rw h refl, rw h refl)
+
+pub loose-nextKey : (around : Stack) → Loose (nextKey around)
+unfolding step limitFault
+loose-nextKey around c h name room = (rw h refl, rw h refl)
+
+-- behind a message white space comes first
+pub space-behind : {text : List ℕ} {p q : ℕ} (ms : Values) → p < q → Running isSpace text p q → Leads text (after (base ms)) p (gap ms) q
+unfolding step limitFault stepAfter
+space-behind {text} {p} {q} ms l r name room =
+    let h = r .passes p (omega arith) l in
+    reads-on text p name room (after (base ms)) (omega (arith, r .upto)) (gap ms) (rw h refl) (rw h refl)
+    ∙ space-leads (gap ms) (loose-gap ms) (record { from = omega arith; upto = r .upto; passes = λ i a b. r .passes i (omega arith) b }) name room

@@ -16,3 +16,4 @@ pub mod Promises
 pub mod Trials
 pub mod Rfc
 pub mod Scanning
+pub mod Laid

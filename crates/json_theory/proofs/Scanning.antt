@@ -9,7 +9,7 @@ use lib.ListN.{length, getD, drop, length-take, length-drop}
 use lib.Seq.{getD-take, getD-drop}
 use borrow.Author.Tests.{eqb-true, eqb-false, ltb-true, ltb-false}
 use Rattle.json_theory.specs.Parts.{Turn, go, stuck}
-use Rattle.json_theory.specs.Inside.Scanning.{byteAt, Running, RunTo, between, Goes, here, on, Stops}
+use Rattle.json_theory.specs.Inside.Scanning.{byteAt, PlaceIn, Running, RunTo, between, Goes, here, on, Stops}
 
 -- behind the text stands 0
 pub byte-none : (text : List ℕ) (p : ℕ) → length text ≤ p → byteAt text p ≡ 0
@@ -38,6 +38,9 @@ byte-inside text p h = look (ltb p (length text)) refl
     look : (t : Bool) → ltb p (length text) ≡ t → p < length text
     look true e = ltb-true p (length text) e
     look false e = absurd (omega (arith, byte-none text p (ltb-false p (length text) e)))
+
+pub place-on : (text : List ℕ) (p c : ℕ) → PlaceIn text p → c ≡ byteAt text p → 1 ≤ c → PlaceIn text (p + 1)
+place-on text p c h e l = (omega (arith, byte-inside text p (omega arith)), h .1)
 
 -- runs of parts
 module _ {P : Type 0} {next : P → ℕ → Turn P} {text : List ℕ} where

@@ -25,7 +25,7 @@ unfoldable pub padded : List ℕ → Bool
 padded [] = true
 padded (c ∷ s) = cond (eqb c 0) (allZero s) (padded s)
 
--- a record has a key, which is not empty
+-- a key is not empty
 abbrev pub filled : List ℕ → Bool
 filled [] = false
 filled (c ∷ s) = true

@@ -3,3 +3,4 @@ pub mod Derivative
 pub mod Remaining
 pub mod Run
 pub mod Scanning
+pub mod Laid

@@ -37,7 +37,8 @@ OneReading = (name : List ℕ → ℕ) (text : List ℕ) (ms vs : Values) → Te
 
 -- call 1 accepts the records written
 abbrev pub ReadsTables : Type 0
-ReadsTables = (text book : List ℕ) (n : ℕ) (ms : Values) → HoldsText text book n ms → Table (encode ms) ms (count ms) × (judged (encode ms) ≡ accepted (count ms))
+ReadsTables = (text book : List ℕ) (n : ℕ) (ms : Values) → HoldsText text book n ms →
+    Table (encode ms) ms (count ms) × (judged (encode ms) ≡ accepted (count ms))
 
 -- a key has number i + 1 exactly if it is that of the book's record i, spelled without an escape
 abbrev pub NumbersKeys : Type 0
@@ -59,4 +60,5 @@ pub record Twelve (name : List ℕ → ℕ) (s : List ℕ) (q : ℕ) : Type 0 wh
   pub one-begins : (u : List ℕ) × (ms : Values) × Text name (seen ++ u) ms
 
 abbrev pub TwelveMeans : Type 0
-TwelveMeans = (text book : List ℕ) (n : ℕ) → Bytes text → read text book n .outcome .number ≡ 12 → Twelve (keyNumber book) text (read text book n .outcome .place)
+TwelveMeans = (text book : List ℕ) (n : ℕ) → Bytes text → read text book n .outcome .number ≡ 12 →
+    Twelve (keyNumber book) text (read text book n .outcome .place)

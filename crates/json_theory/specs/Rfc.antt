@@ -23,7 +23,8 @@ module _ (name : List ℕ → ℕ) where
     -- [ value *( value-separator value ) ] end-array, [ member *( value-separator member ) ] end-object
     pub data RfcContent : Container → List ℕ → Values → List ℕ → Type 0 where
       nothing : {o : Container} {s m : List ℕ} → Structural (closer o) s m → RfcContent o s none m
-      some : {o : Container} {s t m : List ℕ} {head : Head} {key : ℕ} {c vs : Values} → RfcItem o s head key c t → RfcOthers o t vs m → RfcContent o s (value head key c vs) m
+      some : {o : Container} {s t m : List ℕ} {head : Head} {key : ℕ} {c vs : Values} →
+          RfcItem o s head key c t → RfcOthers o t vs m → RfcContent o s (value head key c vs) m
 
     -- value; member = string name-separator value
     pub data RfcItem : Container → List ℕ → Head → ℕ → Values → List ℕ → Type 0 where

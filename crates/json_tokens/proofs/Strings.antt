@@ -261,7 +261,9 @@ hex-stop {text} {p} {k} h l e =
 
 pub hex-done : {text : List ℕ} {p k : ℕ} → Goes nextInString text hexes4 p (hexAfter k) (p + k) → 4 ≤ k → k ≤ 4 → Goes nextInString text hexes4 p plain (p + k)
 unfolding hexAfter
-hex-done {text} {p} {k} h l m = let z : k ≡ 4 = omega arith in subst (λ (j : ℕ). Goes nextInString text hexes4 p (hexAfter j) (p + j) → Goes nextInString text hexes4 p plain (p + j)) (sym z) (λ g. g) h
+hex-done {text} {p} {k} h l m =
+    let z : k ≡ 4 = omega arith in
+    subst (λ (j : ℕ). Goes nextInString text hexes4 p (hexAfter j) (p + j) → Goes nextInString text hexes4 p plain (p + j)) (sym z) (λ g. g) h
 
 module _ (text : List ℕ) (p low high : ℕ) (a b : StringPart) (e : (c : ℕ) → nextInString a c ≡ goIf (within low high c) b) where
   pub within-on : 0x80 ≤ low → within low high (byteAt text p) ≡ true → (r : Scan) → TailIs text b (p + 1) r → TailIs text a p r

@@ -10,7 +10,7 @@ use lib.ListN.{length, getD, take, drop, drop-of-length-le, length-take, length-
 use lib.Seq.{drop-cons, drop-drop, getD-take, getD-drop}
 use borrow.Author.Tests.{eqb-true, eqb-false, eq-eqb, ne-eqb, lt-ltb, le-ltb, not-false}
 use Rattle.json_theory.specs.Book.{bookSize, keyOf, allZero, padded, filled, goodRecord, before, bookRecords, keysFrom, goodFrom, precedes, ascending, bookKeys, badBook}
-use Rattle.key_book.specs.Records.{bookRecord, GapIs, Fine, GoodAt}
+use Rattle.key_book.specs.Records.{bookRecord, HasRecord, GapIs, Fine, GoodAt}
 use Rattle.byte_records.proofs.Tests.{and-parts}
 use Rattle.key_book.proofs.Halving.{before-padded}
 
@@ -66,27 +66,51 @@ good-end r k g l = g ∙ rw (from-on r k (omega arith), drop-of-length-le r {i =
     look true = refl
     look false = refl
 
--- two records in order
-pub before-on : (x y : List ℕ) (k : ℕ) → before x y ≡ before (drop k x) (drop k y) → k < length x → k < length y → getD x k 0 ≡ getD y k 0 → before x y ≡ before (drop (k + 1) x) (drop (k + 1) y)
-unfolding before
-before-on x y k h l m e = h ∙ rw (from-on x k l, from-on y k m, le-ltb (getD x k 0) (getD y k 0) (omega arith), eq-eqb (getD x k 0) (getD y k 0) e) refl
+-- record i and the next one, which have their first k bytes alike
+pub record Alike (book : List ℕ) (i k : ℕ) : Type 0 where
+  has : HasRecord book (i + 1)
+  same : before (bookRecord book i) (bookRecord book (i + 1)) ≡ before (drop k (bookRecord book i)) (drop k (bookRecord book (i + 1)))
 
-pub before-yes : (x y : List ℕ) (k : ℕ) → before x y ≡ before (drop k x) (drop k y) → k < length x → k < length y → getD x k 0 < getD y k 0 → before x y ≡ true
-unfolding before
-before-yes x y k h l m e = h ∙ rw (from-on x k l, from-on y k m, lt-ltb (getD x k 0) (getD y k 0) e) refl
+pub alike-start : {book : List ℕ} {i : ℕ} → HasRecord book (i + 1) → Alike book i 0
+alike-start h = record { has = h; same = refl }
 
-pub before-no : (x y : List ℕ) (k : ℕ) → before x y ≡ before (drop k x) (drop k y) → k < length x → k < length y → getD y k 0 < getD x k 0 → before x y ≡ false
-unfolding before
-before-no x y k h l m e =
-    h ∙ rw (from-on x k l, from-on y k m, le-ltb (getD x k 0) (getD y k 0) (omega arith), ne-eqb (getD x k 0) (getD y k 0) (λ z. omega arith)) refl
+module _ {book : List ℕ} {i k : ℕ} (m : Alike book i k) where
+  first-on : k < bookSize → drop k (bookRecord book i) ≡ getD (bookRecord book i) k 0 ∷ drop (k + 1) (bookRecord book i)
+  first-on l = from-on (bookRecord book i) k (omega (arith, record-length book i (omega (arith, m .has .0))))
 
-pub before-end : (x y : List ℕ) (k : ℕ) → before x y ≡ before (drop k x) (drop k y) → length y ≤ k → before x y ≡ false
-unfolding before
-before-end x y k h l = h ∙ rw (drop-of-length-le y {i = k} l) (none (drop k x))
-  where
-    none : (s : List ℕ) → before s [] ≡ false
-    none [] = refl
-    none (c ∷ s) = refl
+  second-on : k < bookSize → drop k (bookRecord book (i + 1)) ≡ getD (bookRecord book (i + 1)) k 0 ∷ drop (k + 1) (bookRecord book (i + 1))
+  second-on l = from-on (bookRecord book (i + 1)) k (omega (arith, record-length book (i + 1) (m .has .0)))
+
+  pub alike-on : k < bookSize → getD (bookRecord book i) k 0 ≡ getD (bookRecord book (i + 1)) k 0 → Alike book i (k + 1)
+  unfolding before
+  alike-on l e =
+      let a = getD (bookRecord book i) k 0 in
+      let b = getD (bookRecord book (i + 1)) k 0 in
+      record { has = m .has; same = m .same ∙ rw (first-on l, second-on l, le-ltb a b (omega arith), eq-eqb a b e) refl }
+
+  pub alike-less : k < bookSize → getD (bookRecord book i) k 0 < getD (bookRecord book (i + 1)) k 0 → true ≡ before (bookRecord book i) (bookRecord book (i + 1))
+  unfolding before
+  alike-less l e =
+      let a = getD (bookRecord book i) k 0 in
+      let b = getD (bookRecord book (i + 1)) k 0 in
+      sym (m .same ∙ rw (first-on l, second-on l, lt-ltb a b e) refl)
+
+  pub alike-more : k < bookSize → getD (bookRecord book (i + 1)) k 0 < getD (bookRecord book i) k 0 → false ≡ before (bookRecord book i) (bookRecord book (i + 1))
+  unfolding before
+  alike-more l e =
+      let a = getD (bookRecord book i) k 0 in
+      let b = getD (bookRecord book (i + 1)) k 0 in
+      sym (m .same ∙ rw (first-on l, second-on l, le-ltb a b (omega arith), ne-eqb a b (λ z. omega arith)) refl)
+
+  pub alike-end : bookSize ≤ k → false ≡ before (bookRecord book i) (bookRecord book (i + 1))
+  unfolding before
+  alike-end l =
+      let e = record-length book (i + 1) (m .has .0) in
+      sym (m .same ∙ rw (drop-of-length-le (bookRecord book (i + 1)) {i = k} (omega arith)) (none (drop k (bookRecord book i))))
+    where
+      none : (s : List ℕ) → before s [] ≡ false
+      none [] = refl
+      none (c ∷ s) = refl
 
 -- a whole book
 record-next : (b : List ℕ) (i : ℕ) → bookRecord (drop bookSize b) i ≡ bookRecord b (suc i)

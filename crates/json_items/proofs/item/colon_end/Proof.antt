@@ -9,8 +9,7 @@ use Rattle.json_items.proofs.item.colon_end.Tie as tie
 
 space-end-requires-2 : tie.Need-space-end-requires-2
 space-end-requires-2 c κs =
-    let entry = c .before .before .before .before in
-    let text = entry .args .text .now in
+    let text = c .before .before .before .before .args .text .now in
     let i = byte-inside text (c .before .before .space-end .result) (omega (arith, c .before .byte-at .ensures)) in search needs
 
 returns : tie.Need-returns

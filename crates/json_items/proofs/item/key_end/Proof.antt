@@ -30,16 +30,14 @@ returns c =
 
 returns-2 : tie.Need-returns-2
 returns-2 c =
-    let entry = c .before .before .before .before .before .before in
-    named-faulty _ _ _ (c .before .fault .given .0 .0) (entry .pre .0 .0)
+    named-faulty _ _ _ (c .before .fault .given .0 .0) (c .before .before .before .before .before .before .pre .0 .0)
     (subst (QuotedIs _ _) (c .before .fault .given .1) (c .before .before .before .string-end .ensures))
 
 returns-3 : tie.Need-returns-3
 returns-3 c =
-    let entry = c .before .before .before .before .before .before in
     let s : StringTo _ _ (c .before .quote .given .0 .0) true = subst (QuotedIs _ _) (c .before .quote .given .1)
     (c .before .before .before .string-end .ensures) in
-    named-escaped _ _ _ (c .before .quote .given .0 .0) (entry .pre .0 .0) s
+    named-escaped _ _ _ (c .before .quote .given .0 .0) (c .before .before .before .before .before .before .pre .0 .0) s
 
 returns-4 : tie.Need-returns-4
 returns-4 c =

@@ -16,9 +16,7 @@ escape-end-requires c κs =
     let i = byte-inside text at (omega (arith, entry .pre)) in search needs
 
 returns : tie.Need-returns
-returns c =
-    let entry = c .before .before .before in
-    escaped-char _ _ (sym (entry .pre .1) ∙ c .before .if1 .taken) (c .escape-end .result) (c .escape-end .ensures)
+returns c = escaped-char _ _ (sym (c .before .before .before .pre .1) ∙ c .before .if1 .taken) (c .escape-end .result) (c .escape-end .ensures)
 
 returns-2 : tie.Need-returns-2
 returns-2 c =

@@ -20,19 +20,15 @@ loop-holds c = (search needs, hex-start (c .before .args .text .now) (c .before 
 
 returns : tie.Need-returns Inv-loop μ-loop
 returns c =
-    let turn = c .before .before .before .before in
-    let inv = turn .loop .inv in
-    hex-stop (inv .1) (c .before .before .before .loop-test .taken)
+    hex-stop (c .before .before .before .before .loop .inv .1) (c .before .before .before .loop-test .taken)
     (ap isHex (sym (c .before .before .byte-at .ensures)) ∙ sym (c .before .is-hex .ensures) ∙ not-true _ (c .if1 .taken))
 
 loop-again : tie.Need-loop-again Inv-loop μ-loop
-loop-again c =
-    let turn = c .before .before .before .before in
-    let inv = turn .loop .inv in (
-      search needs,
-      hex-on (inv .1) (c .before .before .before .loop-test .taken)
-          (ap isHex (sym (c .before .before .byte-at .ensures)) ∙ sym (c .before .is-hex .ensures) ∙ not-false _ (c .if1 .left)),
-    )
+loop-again c = (
+  search needs,
+  hex-on (c .before .before .before .before .loop .inv .1) (c .before .before .before .loop-test .taken)
+      (ap isHex (sym (c .before .before .byte-at .ensures)) ∙ sym (c .before .is-hex .ensures) ∙ not-false _ (c .if1 .left)),
+)
 
 returns-2 : tie.Need-returns-2 Inv-loop μ-loop
 returns-2 c = hex-done (c .before .loop .inv .1) (c .loop-test .left) (c .before .loop .inv .0)

@@ -24,19 +24,16 @@ loop-holds c = (chars-start (c .before .pre .0), c .before .pre .0)
 returns : tie.Need-returns Inv-loop μ-loop
 returns c =
     let turn = c .before .before .before in
-    let inv = turn .loop .inv in
-    subst (QuotedIs _ _) (sym (c .quoted .ensures)) (chars-shut _ _ _ (inv .0) (sym (c .before .before .byte-at .ensures) ∙ c .before .if1 .taken))
+    subst (QuotedIs _ _) (sym (c .quoted .ensures)) (chars-shut _ _ _ (turn .loop .inv .0) (sym (c .before .before .byte-at .ensures) ∙ c .before .if1 .taken))
 
 character-end-requires : tie.Need-character-end-requires Inv-loop μ-loop
 character-end-requires c κs = ((c .before .before .loop .inv .1, c .before .before .before .before .pre .1), c .before .byte-at .ensures, c .if1 .left)
 
 loop-less : tie.Need-loop-less Inv-loop μ-loop
 loop-less c =
-    let turn = c .before .before .before .before .before .before .before in
-    let inv = turn .loop .inv in
     let h : CharTo _ _ (c .before .before .end .given .0 .0) = subst (CharIs _ _) (c .before .before .end .given .1)
     (c .before .before .before .before .character-end .ensures) in
-    omega (arith, h .some, string-upto (h .goes) (inv .1))
+    omega (arith, h .some, string-upto (h .goes) (c .before .before .before .before .before .before .before .loop .inv .1))
 
 loop-again : tie.Need-loop-again Inv-loop μ-loop
 loop-again c =
@@ -58,8 +55,7 @@ loop-again c =
 returns-2 : tie.Need-returns-2 Inv-loop μ-loop
 returns-2 c =
     let turn = c .before .before .before .before .before .before in
-    let inv = turn .loop .inv in
-    stops-on (inv .0 .goes) (subst (CharIs _ _) (c .before .fault .given .1) (c .before .before .before .character-end .ensures))
+    stops-on (turn .loop .inv .0 .goes) (subst (CharIs _ _) (c .before .fault .given .1) (c .before .before .before .character-end .ensures))
 
 pub rest-end-spec : {M : Type 1} → statement M
 rest-end-spec =

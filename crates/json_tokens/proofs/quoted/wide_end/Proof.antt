@@ -5,7 +5,7 @@ use borrow.Author.Needs.{needs}
 use Rattle.json_theory.specs.Parts.{go, tails1, tails2, tails3, behindE0, behindED, behindF0, behindF4, nextInString, plain}
 use Rattle.json_theory.specs.Inside.Scanning.{byteAt}
 use Rattle.json_theory.proofs.Parts.{every}
-use Rattle.json_theory.proofs.Scanning.{byte-inside, stops-here}
+use Rattle.json_theory.proofs.Scanning.{place-on, stops-here}
 use Rattle.json_tokens.proofs.Strings.{first-byte, wide-three, lead-on, plain-stuck}
 use Rattle.json_tokens.proofs.quoted.wide_end.Statement.{statement}
 use Rattle.json_tokens.proofs.quoted.wide_end.Tie as tie
@@ -13,51 +13,37 @@ use Rattle.json_tokens.proofs.quoted.wide_end.Tie as tie
 two-end-requires : tie.Need-two-end-requires
 two-end-requires c κs =
     let entry = c .before .before in
-    let text = entry .args .text .now in
-    let from = entry .args .from in
-    let i = byte-inside text from (omega (arith, entry .pre)) in search needs
+    (place-on (entry .args .text .now) (entry .args .from) (entry .args .c) (entry .pre .0) (entry .pre .1) (omega arith), omega arith)
 
 two-end-requires-2 : tie.Need-two-end-requires-2
 two-end-requires-2 c κs =
     let entry = c .before .before in
-    let text = entry .args .text .now in
-    let from = entry .args .from in
-    let i = byte-inside text from (omega (arith, entry .pre)) in search needs
+    (place-on (entry .args .text .now) (entry .args .from) (entry .args .c) (entry .pre .0) (entry .pre .1) (omega arith), omega arith)
 
 three-end-requires : tie.Need-three-end-requires
 three-end-requires c κs =
     let entry = c .before .before in
-    let text = entry .args .text .now in
-    let from = entry .args .from in
-    let i = byte-inside text from (omega (arith, entry .pre)) in search needs
+    (place-on (entry .args .text .now) (entry .args .from) (entry .args .c) (entry .pre .0) (entry .pre .1) (omega arith), omega arith)
 
 three-end-requires-2 : tie.Need-three-end-requires-2
 three-end-requires-2 c κs =
     let entry = c .before .before in
-    let text = entry .args .text .now in
-    let from = entry .args .from in
-    let i = byte-inside text from (omega (arith, entry .pre)) in search needs
+    (place-on (entry .args .text .now) (entry .args .from) (entry .args .c) (entry .pre .0) (entry .pre .1) (omega arith), omega arith)
 
 tail-end-requires : tie.Need-tail-end-requires
 tail-end-requires c κs =
     let entry = c .before .before .before .before in
-    let text = entry .args .text .now in
-    let from = entry .args .from in
-    let i = byte-inside text from (omega (arith, entry .pre)) in search needs
+    place-on (entry .args .text .now) (entry .args .from) (entry .args .c) (entry .pre .0) (entry .pre .1) (omega arith)
 
 two-end-requires-3 : tie.Need-two-end-requires-3
 two-end-requires-3 c κs =
     let entry = c .before .before .before .before .before in
-    let text = entry .args .text .now in
-    let from = entry .args .from in
-    let i = byte-inside text from (omega (arith, entry .pre)) in search needs
+    (place-on (entry .args .text .now) (entry .args .from) (entry .args .c) (entry .pre .0) (entry .pre .1) (omega arith), omega arith)
 
 three-end-requires-3 : tie.Need-three-end-requires-3
 three-end-requires-3 c κs =
     let entry = c .before .before .before .before .before .before in
-    let text = entry .args .text .now in
-    let from = entry .args .from in
-    let i = byte-inside text from (omega (arith, entry .pre)) in search needs
+    (place-on (entry .args .text .now) (entry .args .from) (entry .args .c) (entry .pre .0) (entry .pre .1) (omega arith), omega arith)
 
 returns : tie.Need-returns
 unfolding every nextInString

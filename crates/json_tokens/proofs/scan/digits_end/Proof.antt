@@ -25,8 +25,7 @@ returns c = record { running = c .before .before .before .before .loop .inv; fai
 loop-again : tie.Need-loop-again Inv-loop μ-loop
 loop-again c =
     let turn = c .before .before .before .before in
-    let inv = turn .loop .inv in
-    running-on inv (c .before .before .before .loop-test .taken) (sym (c .before .is-digit .ensures) ∙ not-false _ (c .if1 .left))
+    running-on (turn .loop .inv) (c .before .before .before .loop-test .taken) (sym (c .before .is-digit .ensures) ∙ not-false _ (c .if1 .left))
 
 returns-2 : tie.Need-returns-2 Inv-loop μ-loop
 returns-2 c = run-out (c .before .loop .inv) (c .loop-test .left) refl

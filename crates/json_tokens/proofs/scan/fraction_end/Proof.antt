@@ -28,10 +28,9 @@ some-digits-requires c κs =
 
 exponent-end-requires-2 : tie.Need-exponent-end-requires-2
 exponent-end-requires-2 c κs =
-    let entry = c .before .before .before .before .before .before .before in
     let d : (RunTo isDigit _ _ (c .before .end .given .0 .0)) × (_ + 1 < (c .before .end .given .0 .0)) = subst (DigitsIs _ _)
     (c .before .end .given .1) (c .before .before .before .some-digits .ensures) in
-    (d .0 .running .upto, entry .pre .1)
+    (d .0 .running .upto, c .before .before .before .before .before .before .before .pre .1)
 
 returns-2 : tie.Need-returns-2
 unfolding mayEnd

@@ -21,20 +21,15 @@ loop-holds c = (search needs, word-start (c .before .before .args .text .now) (c
 returns : tie.Need-returns Inv-loop μ-loop
 returns c =
     let turn = c .before .before .before .before in
-    let inv = turn .loop .inv in
-    word-stop _ _ _ _ (inv .1) (c .before .before .before .loop-test .taken) (λ z. c .if1 .taken (c .before .before .byte-at .ensures ∙ z))
+    word-stop _ _ _ _ (turn .loop .inv .1) (c .before .before .before .loop-test .taken) (λ z. c .if1 .taken (c .before .before .byte-at .ensures ∙ z))
 
 loop-again : tie.Need-loop-again Inv-loop μ-loop
 loop-again c =
-    let turn = c .before .before .before .before in
-    let inv = turn .loop .inv in
+    let inv = c .before .before .before .before .loop .inv in
     (search needs, word-on _ _ _ _ (inv .1) (c .before .before .before .loop-test .taken) (sym (c .before .before .byte-at .ensures) ∙ c .if1 .left))
 
 returns-2 : tie.Need-returns-2 Inv-loop μ-loop
-returns-2 c =
-    let turn = c .before in
-    let inv = turn .loop .inv in
-    word-done _ _ _ _ (inv .1) (c .loop-test .left)
+returns-2 c = word-done _ _ _ _ (c .before .loop .inv .1) (c .loop-test .left)
 
 pub word-end-spec : {M : Type 1} → statement M
 word-end-spec =

@@ -27,40 +27,28 @@ loop-holds c =
     (search needs, search needs, among-all (between text from end) book)
 
 loop-again : tie.Need-loop-again Inv-loop μ-loop
-loop-again c =
-    let entry = c .before .before .before .before .before .before .before in
-    let turn = c .before .before .before .before in
-    let inv = turn .loop .inv in (
-      search needs,
-      search needs,
-      halve-right _ _ (entry .pre .1) _ _ _ (omega arith) (inv .2)
-          (subst (OrderIs _ _) (c .enum-told .given .1) (c .before .before .compare .ensures)),
-    )
+loop-again c = (
+  search needs,
+  search needs,
+  halve-right _ _ (c .before .before .before .before .before .before .before .pre .1) _ _ _ (omega arith) (c .before .before .before .before .loop .inv .2)
+      (subst (OrderIs _ _) (c .enum-told .given .1) (c .before .before .compare .ensures)),
+)
 
 returns : tie.Need-returns Inv-loop μ-loop
 returns c =
-    let entry = c .before .before .before .before .before .before .before in
-    let turn = c .before .before .before .before in
-    let inv = turn .loop .inv in
-    halve-found _ _ (entry .pre .1) _ _ _ (omega arith) (inv .2)
+    halve-found _ _ (c .before .before .before .before .before .before .before .pre .1) _ _ _ (omega arith) (c .before .before .before .before .loop .inv .2)
     (subst (OrderIs _ _) (c .enum-told2 .given .1) (c .before .before .compare .ensures))
 
 loop-again-2 : tie.Need-loop-again-2 Inv-loop μ-loop
-loop-again-2 c =
-    let entry = c .before .before .before .before .before .before .before in
-    let turn = c .before .before .before .before in
-    let inv = turn .loop .inv in (
-      search needs,
-      search needs,
-      halve-left _ _ (entry .pre .1) _ _ _ (omega arith) (inv .2)
-          (subst (OrderIs _ _) (c .enum-told3 .given .1) (c .before .before .compare .ensures)),
-    )
+loop-again-2 c = (
+  search needs,
+  search needs,
+  halve-left _ _ (c .before .before .before .before .before .before .before .pre .1) _ _ _ (omega arith) (c .before .before .before .before .loop .inv .2)
+      (subst (OrderIs _ _) (c .enum-told3 .given .1) (c .before .before .compare .ensures)),
+)
 
 returns-2 : tie.Need-returns-2 Inv-loop μ-loop
-returns-2 c =
-    let turn = c .before in
-    let inv = turn .loop .inv in
-    sym (among-none _ _ _ _ (c .loop-test .left) (inv .2))
+returns-2 c = sym (among-none _ _ _ _ (c .loop-test .left) (c .before .loop .inv .2))
 
 pub bisect-spec : {M : Type 1} → statement M
 bisect-spec =

@@ -24,8 +24,7 @@ returns c = subst (GoodAt _ _) (not-true (c .before .good-at .result) (c .if1 .t
 loop-again : tie.Need-loop-again Inv-loop μ-loop
 loop-again c =
     let turn = c .before .before .before in
-    let inv = turn .loop .inv in
-    fine-more _ _ inv (subst (GoodAt _ _) (not-false (c .before .good-at .result) (c .if1 .left)) (c .before .good-at .ensures))
+    fine-more _ _ (turn .loop .inv) (subst (GoodAt _ _) (not-false (c .before .good-at .result) (c .if1 .left)) (c .before .good-at .ensures))
 
 returns-2 : tie.Need-returns-2 Inv-loop μ-loop
 returns-2 c = book-fine (c .before .before .before .args .book .now) (λ j l. c .before .loop .inv j (omega arith))

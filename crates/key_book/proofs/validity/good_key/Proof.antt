@@ -29,22 +29,18 @@ loop-holds c =
 returns-2 : tie.Need-returns-2 Inv-loop μ-loop
 returns-2 c =
     let entry = c .before .before .before .before .before .before .before in
-    let turn = c .before .before .before in
     let book = entry .args .book .now in
     let i = entry .args .i in
-    let inv = turn .loop .inv in
     let g = subst (GapIs _ _) (c .if2 .taken) (c .before .gap-at .ensures) in
-    sym (good-not _ _ (inv .1) (omega (arith, record-length book i (entry .pre .0))) (g .0) (g .1))
+    sym (good-not _ _ (c .before .before .before .loop .inv .1) (omega (arith, record-length book i (entry .pre .0))) (g .0) (g .1))
 
 loop-again : tie.Need-loop-again Inv-loop μ-loop
 loop-again c =
     let entry = c .before .before .before .before .before .before .before in
-    let turn = c .before .before .before in
     let book = entry .args .book .now in
-    let i = entry .args .i in
-    let inv = turn .loop .inv in (
+    let i = entry .args .i in (
       search needs,
-      good-on _ _ (inv .1) (omega (arith, record-length book i (entry .pre .0)))
+      good-on _ _ (c .before .before .before .loop .inv .1) (omega (arith, record-length book i (entry .pre .0)))
           (subst (GapIs _ _) (c .if2 .left) (c .before .gap-at .ensures)),
     )
 
@@ -54,9 +50,8 @@ returns-3 c =
     let turn = c .before in
     let book = entry .args .book .now in
     let i = entry .args .i in
-    let inv = turn .loop .inv in
     let k = turn .loop .k in
-    sym (good-end (bookRecord book i) k (inv .1) (omega (arith, record-length book i (entry .pre .0))))
+    sym (good-end (bookRecord book i) k (turn .loop .inv .1) (omega (arith, record-length book i (entry .pre .0))))
 
 pub good-key-spec : {M : Type 1} → statement M
 good-key-spec =
