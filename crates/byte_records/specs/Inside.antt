@@ -1,3 +1,4 @@
 -- What only proofs cite.
 pub mod Fits
 pub mod Chain
+pub mod Numbers

@@ -1,6 +1,5 @@
 -- The laws behind inference in place.
 pub mod Part
-pub mod Numbers
 pub mod KeyBytes
 pub mod Arrival
 pub mod Runs

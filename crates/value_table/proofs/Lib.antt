@@ -13,3 +13,4 @@ pub mod Latest
 pub mod Levels
 pub mod WalkLoop
 pub mod Acceptance
+pub mod Stores

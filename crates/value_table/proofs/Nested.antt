@@ -8,7 +8,7 @@ use lib.Dec.{eqb, leb}
 use borrow.Author.Tests.{leb-true, leb-false, le-leb}
 use Rattle.value_table.specs.Value.{recordKind, records, keyAt, Distinct}
 use Rattle.value_table.specs.Judged.{Open, close, enter}
-use Rattle.value_table.proofs.Keys.{distinct-snoc}
+use Rattle.value_table.proofs.TableLayout.{distinct-snoc}
 use Rattle.value_table.proofs.Faultless.{FaultlessIn}
 
 -- from record i on, in a table of n records

@@ -1,6 +1,7 @@
 // The lower library: judges value tables.
 mod faults;
 pub mod record;
+pub mod record_store;
 mod walk;
 
 ghost use mathlib.Core.Path.{_≡_};

@@ -17,9 +17,9 @@ pub const SIZE: usize = 8;
 // Where the fields of a record begin in it: behind those that stand before them in the format.
 const ZERO_OFFSET: usize = 1;
 
-const KEY_OFFSET: usize = 2;
+pub const KEY_OFFSET: usize = 2;
 
-const SPAN_OFFSET: usize = 4;
+pub const SPAN_OFFSET: usize = 4;
 
 // The most bytes of a table or a type, and the largest depth of a value.
 pub const MAX_LENGTH: usize = 65536;

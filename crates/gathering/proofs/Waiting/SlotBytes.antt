@@ -8,7 +8,7 @@ use lib.ListN.{length, take, drop, getD, set, replicate, length-take, length-dro
 use lib.Seq.{drop-drop, drop-at, length-take-le, sets, length-sets}
 use Rattle.byte_records.specs.Number.{bytesOf, numberAt}
 use Rattle.gathering.specs.Inside.Gathering.{keyPart, slotSize, slotsOf, HasSlots}
-use Rattle.inference.proofs.InPlace.Numbers.{length-numbers, numbers-at, numbers-zero, sets-drop, numbers-set}
+use Rattle.byte_records.proofs.Numbers.{length-numbers, numbers-at, numbers-zero, sets-drop, numbers-set}
 
 -- a hash of 16 bits, scaled to the number of slots
 module _ (x n : ℕ) where

@@ -15,7 +15,8 @@ use Rattle.counting_theory.specs.Label.{Equivalence, Label, Counting, CountingT
 use Rattle.counting_theory.specs.Inside.Times.{times}
 use Rattle.counting_theory.specs.Raw.{raw, profileOf}
 use Rattle.counting_theory.specs.Encoding.{typeSize}
-use Rattle.inference.specs.Inside.Inferring.{numbersOf, TableRun, ArenaHolds}
+use Rattle.byte_records.specs.Inside.Numbers.{numbersOf}
+use Rattle.inference.specs.Inside.Inferring.{TableRun, ArenaHolds}
 
 -- where the slots begin in a working buffer of n bytes, behind those for the keys
 abbrev pub keyPart : ℕ → ℕ

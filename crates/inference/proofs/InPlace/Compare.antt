@@ -14,7 +14,7 @@ use Rattle.counting_theory.proofs.KeyOrder.{Comparing, comparing-start, left-si
 use Rattle.type_arena.specs.Inside.Arena.{keysIn, FieldsInside}
 use Rattle.type_arena.proofs.Fields.{inside-chain}
 use Rattle.inference.specs.Inside.Inferring.{keysOf}
-use Rattle.inference.proofs.InPlace.Numbers.{length-numbers, numbers-at}
+use Rattle.byte_records.proofs.Numbers.{length-numbers, numbers-at}
 
 -- the span of a key, and key i of w
 abbrev pub oneKey : ℕ → ℕ

@@ -22,7 +22,8 @@ use Rattle.counting_theory.specs.Raw.{ascending, raw}
 use Rattle.counting_theory.specs.Encoding.{typeSize, typeKind, typeKey, typeSpan, encode}
 use Rattle.type_arena.specs.Inside.Arena.{byFlag, labelAt, RecordIn}
 use Rattle.counting_theory.specs.Inside.Times.{times}
-use Rattle.inference.specs.Inside.Inferring.{numbersOf, StandsAt, ArenaHolds, Starts, split, grown, Counted, Grown, AddedAt, labelFor, ItemAt, EqualRecords, resumed}
+use Rattle.byte_records.specs.Inside.Numbers.{numbersOf}
+use Rattle.inference.specs.Inside.Inferring.{StandsAt, ArenaHolds, Starts, split, grown, Counted, Grown, AddedAt, labelFor, ItemAt, EqualRecords, resumed}
 use Rattle.inference.specs.Inside.ScalarFields.{AddedSoFar, plain, fieldStart, withScalar}
 use Rattle.counting_theory.proofs.Label.{kind-eq, key-eq}
 use Rattle.counting_theory.proofs.LabelOrder.{kind-less, kind-more, key-more, no-record}

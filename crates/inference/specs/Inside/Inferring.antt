@@ -4,10 +4,10 @@ use mathlib.Core.Path.{_≡_}
 use mathlib.Core.Bool.{Bool, true, cond}
 use mathlib.Core.List.{List, [], _∷_, _++_}
 use mathlib.Core.Option.{Option, none, some}
-use Prim.Native.Nat.{ℕ, zero, suc, _+_, _-_, _*_, _/_, _≤_, _<_, Ordering, Ordering·lt as lt, Ordering·eq as eq, Ordering·gt as gt}
+use Prim.Native.Nat.{ℕ, suc, _+_, _-_, _*_, _/_, _≤_, _<_, Ordering, Ordering·lt as lt, Ordering·eq as eq, Ordering·gt as gt}
 use lib.Dec.{eqb, ltb}
-use lib.ListN.{length, take, drop}
-use Rattle.byte_records.specs.Number.{numberOf}
+use lib.ListN.{length}
+use Rattle.byte_records.specs.Inside.Numbers.{numbersOf}
 use Rattle.value_table.specs.Value.{maxLength, recordKind, Values, keys, Distinct, ValidAt}
 use Rattle.value_table.specs.Value as table
 use Rattle.value_table.specs.Inside.RecordBytes.{recordAt}
@@ -34,11 +34,6 @@ use Rattle.counting_theory.specs.Encoding.{typeSize, typeKind, typeSpan, header
 use Rattle.type_arena.specs.Inside.Arena.{keysIn, labelAt}
 use Rattle.type_arena.specs.Inside.LabelOrder.{orderingOf}
 use Rattle.type_arena.specs.Inside.Payload.{itemPayload}
-
--- the first n numbers in bytes, each of `width` bytes
-unfoldable pub numbersOf : ℕ → ℕ → List ℕ → List ℕ
-numbersOf width zero w = []
-numbersOf width (suc n) w = numberOf (take width w) ∷ numbersOf width n (drop width w)
 
 -- the bytes of a key, and the first n keys of a key list in bytes
 abbrev pub keySize : ℕ

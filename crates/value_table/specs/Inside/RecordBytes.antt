@@ -3,10 +3,18 @@ use mathlib.Core.Path.{_≡_}
 use mathlib.Core.List.{List}
 use Prim.Native.Nat.{ℕ, _*_, _≤_}
 use lib.ListN.{take, drop}
-use Rattle.value_table.specs.Value.{recordSize, lastScalar, kindAt, zeroAt, spanAt}
+use Rattle.byte_records.specs.Format.{widthOf}
+use Rattle.value_table.specs.Value.{valueFormat, recordSize, header, lastScalar, kindAt, zeroAt, spanAt}
 
 abbrev pub recordAt : List ℕ → ℕ → List ℕ
 recordAt b i = take recordSize (drop (recordSize * i) b)
+
+-- where the span stands in a record, and the bytes of one
+abbrev pub spanOffset : ℕ
+spanOffset = widthOf (take 3 valueFormat)
+
+abbrev pub headerOf : ℕ → ℕ → ℕ → List ℕ
+headerOf kind key span = header (record { kind = kind }) key span
 
 -- record i is a scalar with a zero byte 1 and span 1
 pub record PlainScalar (b : List ℕ) (i : ℕ) : Type 0 where

@@ -6,9 +6,9 @@ use native.Mathlib.Nat.{zero-add, suc-add, add-suc, add-comm, mul-zero, mul-suc}
 use native.Mathlib.Omega.{arith}
 use lib.ListN.{length, take, drop, getD, set, replicate, take-append-drop, length-drop}
 use lib.Seq.{drop-drop, length-take-le, take-append-le, drop-append-le, take-at, drop-at, take-set-le, drop-set-add, sets, sets-eq}
 use Rattle.byte_records.specs.Number.{bytesOf, numberOf, numberAt}
 use Rattle.byte_records.proofs.Number.{length-bytesOf, numberOf-bytesOf}
-use Rattle.inference.specs.Inside.Inferring.{numbersOf}
+use Rattle.byte_records.specs.Inside.Numbers.{numbersOf}
 
 module _ (width : ℕ) where
   next-at : (i : ℕ) → width * suc i ≡ width + width * i

@@ -1,0 +1,6 @@
+-- What only proofs and contracts inside the crates above cite.
+pub mod Derivative
+pub mod Remaining
+pub mod Run
+pub mod Scanning
+pub mod Laid

@@ -1,0 +1,322 @@
+-- The laws of strings.
+use mathlib.Core.Path.{_≡_, refl, sym, _∙_, ap, subst}
+use mathlib.Core.Bool.{Bool, true, false, cond, not, _&&_, _||_}
+use mathlib.Core.List.{List}
+use Prim.Native.Nat.{ℕ, zero, suc, _+_, _≤_, _<_}
+use native.Mathlib.Omega.{arith}
+use lib.Dec.{eqb, leb, ltb}
+use lib.ListN.{length}
+use borrow.Author.Tests.{eqb-true, eqb-false, eq-eqb, ne-eqb, ltb-true, ltb-false, le-ltb, leb-true, leb-false, le-leb, not-true}
+use Rattle.json_theory.specs.Rx.{within}
+use Rattle.json_theory.specs.Grammar.{quote}
+use Rattle.json_theory.specs.Parts.{Turn, go, ended, stuck, goIf, StringPart, plain, escape, hexes4, hexes3, hexes2, hexes1, tails3, tails2, tails1, behindE0, behindED, behindF0, behindF4, isHex, isEscape, nextInString}
+use Rattle.json_theory.specs.Inside.Scanning.{byteAt, Running, Goes, here, on, Stops}
+use Rattle.json_tokens.specs.Tokens.{isPlain, isOther, ScanIs, TailTo, TailIs, CharTo, CharIs, CharsTo, StringTo, QuotedIs, quotedOf}
+use Rattle.json_tokens.specs.declared.scan.Scan.{Scan}
+use Rattle.json_tokens.specs.declared.scan.Scan.the-variants.{To, Bad}
+use Rattle.json_tokens.specs.declared.scan.Quoted.{Quoted}
+use Rattle.json_tokens.specs.declared.scan.Quoted.the-variants.{Plain, Escaped, Broken}
+use Rattle.json_theory.proofs.Rx.{false-true}
+use Rattle.byte_records.proofs.Tests.{and-parts}
+use Rattle.json_theory.proofs.Parts.{every, every-at}
+use Rattle.json_theory.proofs.Scanning.{byte-none, byte-inside, running-start, running-one, running-to, running-weaker, goes-one, goes-on, goes-run, stops-here, stops-on}
+use Rattle.json_tokens.proofs.Tokens.{or-second}
+
+-- the parts of a string as numbers
+abbrev partCode : StringPart → ℕ
+partCode plain = 0
+partCode escape = 1
+partCode hexes4 = 2
+partCode hexes3 = 3
+partCode hexes2 = 4
+partCode hexes1 = 5
+partCode tails3 = 6
+partCode tails2 = 7
+partCode tails1 = 8
+partCode behindE0 = 9
+partCode behindED = 10
+partCode behindF0 = 11
+partCode behindF4 = 12
+
+abbrev turnCode : Turn StringPart → ℕ
+turnCode (go part) = partCode part
+turnCode ended = 13
+turnCode stuck = 14
+
+-- a turn by its code
+turnOf : ℕ → Turn StringPart
+turnOf n =
+    cond (eqb n 0) (go plain)
+    (cond (eqb n 1) (go escape)
+    (cond (eqb n 2) (go hexes4)
+    (cond (eqb n 3) (go hexes3)
+    (cond (eqb n 4) (go hexes2)
+    (cond (eqb n 5) (go hexes1)
+    (cond (eqb n 6) (go tails3)
+    (cond (eqb n 7) (go tails2)
+    (cond (eqb n 8) (go tails1)
+    (cond (eqb n 9) (go behindE0)
+    (cond (eqb n 10) (go behindED)
+    (cond (eqb n 11) (go behindF0)
+    (cond (eqb n 12) (go behindF4)
+    (cond (eqb n 13) ended stuck)))))))))))))
+
+turn-back : (t : Turn StringPart) → turnOf (turnCode t) ≡ t
+unfolding turnOf
+turn-back (go plain) = refl
+turn-back (go escape) = refl
+turn-back (go hexes4) = refl
+turn-back (go hexes3) = refl
+turn-back (go hexes2) = refl
+turn-back (go hexes1) = refl
+turn-back (go tails3) = refl
+turn-back (go tails2) = refl
+turn-back (go tails1) = refl
+turn-back (go behindE0) = refl
+turn-back (go behindED) = refl
+turn-back (go behindF0) = refl
+turn-back (go behindF4) = refl
+turn-back ended = refl
+turn-back stuck = refl
+
+same-turn : (t u : Turn StringPart) → eqb (turnCode t) (turnCode u) ≡ true → t ≡ u
+same-turn t u h = sym (turn-back t) ∙ ap turnOf (eqb-true (turnCode t) (turnCode u) h) ∙ turn-back u
+
+-- from low to high the first byte of a char gives t
+pub first-byte : (t : Turn StringPart) (low high : ℕ) → every (λ c. ltb c low || eqb (turnCode (nextInString plain c)) (turnCode t)) (suc high) ≡ true →
+    (c : ℕ) → low ≤ c → c ≤ high → nextInString plain c ≡ t
+first-byte t low high h c l m =
+    same-turn (nextInString plain c) t
+    (or-second (ltb c low) (eqb (turnCode (nextInString plain c)) (turnCode t)) (le-ltb c low l)
+    (every-at (λ c. ltb c low || eqb (turnCode (nextInString plain c)) (turnCode t)) (suc high) c h (omega arith)))
+
+pub plain-goes : (c : ℕ) → isPlain c ≡ true → nextInString plain c ≡ go plain
+unfolding nextInString
+plain-goes c h =
+    let a = and-parts (not (eqb c quote)) (not (eqb c 0x5C) && within 0x20 0x7F c) h in
+    let b = and-parts (not (eqb c 0x5C)) (within 0x20 0x7F c) (a .1) in
+    rw (not-true (eqb c quote) (a .0), not-true (eqb c 0x5C) (b .0), b .1) refl
+
+pub plain-other : (c : ℕ) → isPlain c ≡ true → isOther c ≡ true
+plain-other c h =
+    let a = and-parts (not (eqb c quote)) (not (eqb c 0x5C) && within 0x20 0x7F c) h in
+    and-parts (not (eqb c 0x5C)) (within 0x20 0x7F c) (a .1) .0
+
+high-other : (c : ℕ) → 0x80 ≤ c → isOther c ≡ true
+high-other c l = rw (ne-eqb c 0x5C (λ e. omega arith)) refl
+
+-- no part goes on with 0
+zero-stuck : (a : StringPart) → nextInString a 0 ≡ stuck
+unfolding nextInString
+zero-stuck plain = refl
+zero-stuck escape = refl
+zero-stuck hexes4 = refl
+zero-stuck hexes3 = refl
+zero-stuck hexes2 = refl
+zero-stuck hexes1 = refl
+zero-stuck tails3 = refl
+zero-stuck tails2 = refl
+zero-stuck tails1 = refl
+zero-stuck behindE0 = refl
+zero-stuck behindED = refl
+zero-stuck behindF0 = refl
+zero-stuck behindF4 = refl
+
+pub string-inside : (text : List ℕ) (a b : StringPart) (p : ℕ) → nextInString a (byteAt text p) ≡ go b → p < length text
+string-inside text a b p h = look (ltb p (length text)) refl
+  where
+    look : (t : Bool) → ltb p (length text) ≡ t → p < length text
+    look true e = ltb-true p (length text) e
+    look false e =
+        let z : nextInString a 0 ≡ go b = rw (byte-none text p (ltb-false p (length text) e)) at h in
+        let y = zero-stuck a in
+        absurd (let x : _≡_ {A = ℕ} 0 1 = cc in omega arith)
+
+pub string-upto : {text : List ℕ} {a b : StringPart} {p q : ℕ} → Goes nextInString text a p b q → p ≤ length text → q ≤ length text
+string-upto here l = l
+string-upto {text} {a} {b} {p} (on {b = d} e h) l = string-upto h (omega (arith, string-inside text a d p e))
+
+pub goes-up : {text : List ℕ} {a b : StringPart} {p q : ℕ} → Goes nextInString text a p b q → p ≤ q
+goes-up here = omega arith
+goes-up (on e h) = omega (arith, goes-up h)
+
+-- hexadecimal digits
+unfoldable pub hexAfter : ℕ → StringPart
+hexAfter zero = hexes4
+hexAfter (suc zero) = hexes3
+hexAfter (suc (suc zero)) = hexes2
+hexAfter (suc (suc (suc zero))) = hexes1
+hexAfter (suc (suc (suc (suc k)))) = plain
+
+pub hex-turn : (k c : ℕ) → k < 4 → nextInString (hexAfter k) c ≡ goIf (isHex c) (hexAfter (k + 1))
+unfolding nextInString hexAfter
+hex-turn zero c l = refl
+hex-turn (suc zero) c l = refl
+hex-turn (suc (suc zero)) c l = refl
+hex-turn (suc (suc (suc zero))) c l = refl
+hex-turn (suc (suc (suc (suc k)))) c l = absurd (omega arith)
+
+pub go-if : {P : Type 0} (t : Bool) (b : P) → t ≡ true → goIf t b ≡ go b
+go-if t b h = rw h refl
+
+pub stuck-if : {P : Type 0} (t : Bool) (b : P) → t ≡ false → goIf t b ≡ stuck
+stuck-if t b h = rw h refl
+
+-- escapes behind the u
+pub escape-turn : (c : ℕ) → (c ≡ 0x75 → ⊥) → nextInString escape c ≡ goIf (isEscape c) plain
+unfolding nextInString
+escape-turn c h = rw (ne-eqb c 0x75 h) refl
+
+pub escape-u : (c : ℕ) → c ≡ 0x75 → nextInString escape c ≡ go hexes4
+unfolding nextInString
+escape-u c h = rw (eq-eqb c 0x75 h) refl
+
+-- tails
+pub within-inside : (text : List ℕ) (p low high : ℕ) → 0x80 ≤ low → within low high (byteAt text p) ≡ true → (0x80 ≤ byteAt text p) × (p < length text)
+within-inside text p low high l h =
+    let a = and-parts (leb low (byteAt text p)) (leb (byteAt text p) high) h in
+    let b : 0x80 ≤ byteAt text p = omega (arith, leb-true low (byteAt text p) (a .0)) in
+    (b, byte-inside text p (omega arith))
+
+module _ (text : List ℕ) where
+  pub tail-done : {p : ℕ} → p ≤ length text → TailTo text plain p p
+  tail-done l = record { goes = here; clean = running-start l }
+
+  pub tail-on : (a b : StringPart) (p : ℕ) → nextInString a (byteAt text p) ≡ go b → 0x80 ≤ byteAt text p → (r : Scan) → TailIs text b (p + 1) r → TailIs text a p r
+  tail-on a b p e l (To q) h = record { goes = on e (h .goes); clean = running-to (running-one (byte-inside text p (omega arith)) (high-other (byteAt text p) l)) (h .clean) }
+  tail-on a b p e l (Bad q) h = stops-on (goes-one e) h
+
+  pub lead-on : (b : StringPart) (p : ℕ) → nextInString plain (byteAt text p) ≡ go b → 0x80 ≤ byteAt text p → (r : Scan) → TailIs text b (p + 1) r → CharIs text p r
+  lead-on b p e l (To q) h =
+      let t = tail-on plain b p e l (To q) h in
+      record { goes = t .goes; some = omega (arith, h .clean .from); clean = λ n. t .clean }
+  lead-on b p e l (Bad q) h = stops-on (goes-one e) h
+
+  pub escaped-char : (p : ℕ) → byteAt text p ≡ 0x5C → (r : Scan) → ScanIs nextInString text escape (p + 1) plain r → CharIs text p r
+  unfolding nextInString
+  escaped-char p e (To q) h = record { goes = on (ap (nextInString plain) e) h; some = omega (arith, goes-up h); clean = λ n. absurd (n e) }
+  escaped-char p e (Bad q) h = stops-on (goes-one (ap (nextInString plain) e)) h
+
+  pub plain-char : (p : ℕ) → isPlain (byteAt text p) ≡ true → p < length text → CharTo text p (p + 1)
+  plain-char p e l =
+      record { goes = goes-one (plain-goes (byteAt text p) e); some = omega arith; clean = λ n. running-one l (plain-other (byteAt text p) e) }
+
+-- chars in a row
+module _ {text : List ℕ} where
+  pub chars-start : {p : ℕ} → p ≤ length text → CharsTo text p p false
+  chars-start l = record { goes = here; escapes = running-start l }
+
+  pub chars-on : (p q r : ℕ) (t : Bool) → CharsTo text p q t → CharTo text q r → CharsTo text p r (t || eqb (byteAt text q) 0x5C)
+  chars-on p q r true h k =
+      let z = h .escapes in
+      record { goes = goes-on (h .goes) (k .goes); escapes = record { place = z .place; low = z .low; high = omega (arith, z .high, k .some); is = z .is } }
+  chars-on p q r false h k = look (eqb (byteAt text q) 0x5C) refl
+    where
+      look : (u : Bool) → eqb (byteAt text q) 0x5C ≡ u → CharsTo text p r u
+      look true e =
+          record {
+            goes = goes-on (h .goes) (k .goes);
+            escapes = record { place = q; low = h .escapes .from; high = k .some; is = eqb-true (byteAt text q) 0x5C e };
+          }
+      look false e = record { goes = goes-on (h .goes) (k .goes); escapes = running-to (h .escapes) (k .clean (eqb-false (byteAt text q) 0x5C e)) }
+
+  pub chars-shut : (p q : ℕ) (t : Bool) → CharsTo text p q t → byteAt text q ≡ quote → QuotedIs text p (quotedOf q t)
+  chars-shut p q true h e = record { chars = h; shut = e }
+  chars-shut p q false h e = record { chars = h; shut = e }
+
+  -- a run of plain chars
+  pub chars-plain : {p q : ℕ} → Running isPlain text p q → CharsTo text p q false
+  chars-plain r = record { goes = goes-run plain plain-goes r; escapes = running-weaker plain-other r }
+
+  string-on : {p q r : ℕ} (t : Bool) → CharsTo text p q false → StringTo text q r t → StringTo text p r t
+  string-on false h k =
+      record { chars = record { goes = goes-on (h .goes) (k .chars .goes); escapes = running-to (h .escapes) (k .chars .escapes) }; shut = k .shut }
+  string-on true h k =
+      let z = k .chars .escapes in
+      record {
+        chars = record { goes = goes-on (h .goes) (k .chars .goes); escapes = record { place = z .place; low = omega (arith, z .low, h .escapes .from); high = z .high; is = z .is } };
+        shut = k .shut;
+      }
+
+  pub quoted-on : {p q : ℕ} → CharsTo text p q false → (r : Quoted) → QuotedIs text q r → QuotedIs text p r
+  quoted-on h (Plain r) k = string-on false h k
+  quoted-on h (Escaped r) k = string-on true h k
+  quoted-on h (Broken r) k = stops-on (h .goes) k
+
+-- the parts of a char, as its functions go
+pub hex-start : (text : List ℕ) (p : ℕ) → Goes nextInString text hexes4 p (hexAfter 0) (p + 0)
+unfolding hexAfter
+hex-start text p = let z : p + 0 ≡ p = omega arith in rw z here
+
+pub hex-on : {text : List ℕ} {p k : ℕ} → Goes nextInString text hexes4 p (hexAfter k) (p + k) → k < 4 → isHex (byteAt text (p + k)) ≡ true →
+    Goes nextInString text hexes4 p (hexAfter (k + 1)) (p + (k + 1))
+hex-on {text} {p} {k} h l e =
+    let z : p + (k + 1) ≡ p + k + 1 = omega arith in
+    rw z (goes-on h (goes-one (hex-turn k (byteAt text (p + k)) l ∙ go-if (isHex (byteAt text (p + k))) (hexAfter (k + 1)) e)))
+
+pub hex-stop : {text : List ℕ} {p k : ℕ} → Goes nextInString text hexes4 p (hexAfter k) (p + k) → k < 4 → isHex (byteAt text (p + k)) ≡ false →
+    Stops nextInString text hexes4 p (p + k)
+hex-stop {text} {p} {k} h l e =
+    stops-on h (stops-here (hex-turn k (byteAt text (p + k)) l ∙ stuck-if (isHex (byteAt text (p + k))) (hexAfter (k + 1)) e))
+
+pub hex-done : {text : List ℕ} {p k : ℕ} → Goes nextInString text hexes4 p (hexAfter k) (p + k) → 4 ≤ k → k ≤ 4 → Goes nextInString text hexes4 p plain (p + k)
+unfolding hexAfter
+hex-done {text} {p} {k} h l m =
+    let z : k ≡ 4 = omega arith in
+    subst (λ (j : ℕ). Goes nextInString text hexes4 p (hexAfter j) (p + j) → Goes nextInString text hexes4 p plain (p + j)) (sym z) (λ g. g) h
+
+module _ (text : List ℕ) (p low high : ℕ) (a b : StringPart) (e : (c : ℕ) → nextInString a c ≡ goIf (within low high c) b) where
+  pub within-on : 0x80 ≤ low → within low high (byteAt text p) ≡ true → (r : Scan) → TailIs text b (p + 1) r → TailIs text a p r
+  within-on l h = tail-on text a b p (e (byteAt text p) ∙ go-if (within low high (byteAt text p)) b h) (within-inside text p low high l h .0)
+
+  pub within-stop : within low high (byteAt text p) ≡ false → Stops nextInString text a p p
+  within-stop h = stops-here (e (byteAt text p) ∙ stuck-if (within low high (byteAt text p)) b h)
+
+pub tail-last : (text : List ℕ) (p : ℕ) → within 0x80 0xBF (byteAt text p) ≡ true → TailTo text tails1 p (p + 1)
+unfolding nextInString
+tail-last text p h =
+    within-on text p 0x80 0xBF tails1 plain (λ c. refl) (omega arith) h (To (p + 1)) (tail-done text (omega (arith, within-inside text p 0x80 0xBF (omega arith) h .1)))
+
+pub tail-stop : (text : List ℕ) (p : ℕ) → within 0x80 0xBF (byteAt text p) ≡ false → Stops nextInString text tails1 p p
+unfolding nextInString
+tail-stop text p h = within-stop text p 0x80 0xBF tails1 plain (λ c. refl) h
+
+-- no char begins so
+strange : ℕ → Bool
+strange c = (leb 0x20 c && ltb c 0x80) || ((leb 0xC2 c && ltb c 0xF5) || eqb (turnCode (nextInString plain c)) 14)
+
+strange-all : every strange 256 ≡ true
+unfolding every strange nextInString
+strange-all = refl
+
+and-not : (s t : Bool) → (s ≡ true → t ≡ false) → (s && t) ≡ false
+and-not true t h = h refl
+and-not false t h = refl
+
+pub plain-stuck : (c : ℕ) → c < 256 → (0x20 ≤ c → 0x80 ≤ c) → (0xC2 ≤ c → 0xF5 ≤ c) → nextInString plain c ≡ stuck
+unfolding strange
+plain-stuck c l h k =
+    let a = and-not (leb 0x20 c) (ltb c 0x80) (λ e. le-ltb c 0x80 (h (leb-true 0x20 c e))) in
+    let b = and-not (leb 0xC2 c) (ltb c 0xF5) (λ e. le-ltb c 0xF5 (k (leb-true 0xC2 c e))) in
+    let t = eqb (turnCode (nextInString plain c)) 14 in
+    same-turn (nextInString plain c) stuck
+    (or-second (leb 0xC2 c && ltb c 0xF5) t b (or-second (leb 0x20 c && ltb c 0x80) ((leb 0xC2 c && ltb c 0xF5) || t) a (every-at strange 256 c strange-all l)))
+
+pub plain-inside : (text : List ℕ) (p : ℕ) → isPlain (byteAt text p) ≡ true → p < length text
+plain-inside text p e = string-inside text plain plain p (plain-goes (byteAt text p) e)
+
+-- neither the quote, a \ nor plain: below 20 or above 7F
+pub wide-first : (c : ℕ) → (c ≡ quote → ⊥) → (c ≡ 0x5C → ⊥) → isPlain c ≡ false → 0x20 ≤ c → 0x80 ≤ c
+wide-first c h k e l = look (leb c 0x7F) refl (rw (ne-eqb c quote h, ne-eqb c 0x5C k, le-leb 0x20 c l) at e)
+  where
+    look : (t : Bool) → leb c 0x7F ≡ t → t ≡ false → 0x80 ≤ c
+    look true f g = false-true (sym g)
+    look false f g = omega (arith, leb-false c 0x7F f)
+
+pub wide-three : (c : ℕ) → 0xE1 ≤ c → c ≤ 0xEF → (c ≡ 0xED → ⊥) → nextInString plain c ≡ go tails2
+unfolding every nextInString
+wide-three c l m n = look (ltb c 0xED) refl
+  where
+    look : (t : Bool) → ltb c 0xED ≡ t → nextInString plain c ≡ go tails2
+    look true e = first-byte (go tails2) 0xE1 0xEC refl c l (omega (arith, ltb-true c 0xED e))
+    look false e = first-byte (go tails2) 0xEE 0xEF refl c (omega (arith, ltb-false c 0xED e)) m

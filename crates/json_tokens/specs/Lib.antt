@@ -1,0 +1,2 @@
+-- What the contracts of the scanners cite beside the theory.
+pub mod Tokens

@@ -1,0 +1,107 @@
+-- What the scanners answer: where a token ends, or the byte with which it cannot go on.
+use mathlib.Core.Path.{_≡_}
+use mathlib.Core.Bool.{Bool, true, false, cond, not, _&&_, _||_}
+use mathlib.Core.List.{List, [], _∷_}
+use Prim.Native.Nat.{ℕ, _≤_, _<_}
+use lib.Dec.{eqb}
+use Rattle.json_theory.specs.Rx.{within}
+use Rattle.json_theory.specs.Grammar.{quote}
+use Rattle.json_theory.specs.Parts.{Turn, go, ended, stuck, goIf, StringPart, plain, nextInString, NumberPart, point, e, isDigit, isE, nextInNumber, mayEnd}
+use Rattle.json_tokens.specs.declared.scan.Scan.{Scan}
+use Rattle.json_tokens.specs.declared.scan.Scan.the-variants.{To, Bad}
+use Rattle.json_tokens.specs.declared.scan.Quoted.{Quoted}
+use Rattle.json_tokens.specs.declared.scan.Quoted.the-variants.{Plain, Escaped, Broken}
+use Rattle.json_theory.specs.Inside.Scanning.{byteAt, Running, RunTo, Goes, Stops}
+
+-- a char of one byte, which is neither the quote nor a \; and any byte but a \
+abbrev pub isPlain : ℕ → Bool
+isPlain c = not (eqb c quote) && (not (eqb c 0x5C) && within 0x20 0x7F c)
+
+abbrev pub isOther : ℕ → Bool
+isOther c = not (eqb c 0x5C)
+
+-- a scan from part a to part b
+abbrev pub ScanIs : {P : Type 0} → (P → ℕ → Turn P) → List ℕ → P → ℕ → P → Scan → Type 0
+ScanIs next text a p b (To q) = Goes next text a p b q
+ScanIs next text a p b (Bad q) = Stops next text a p q
+
+-- the bytes of a char behind its first, from part a on: none is a \
+pub record TailTo (text : List ℕ) (a : StringPart) (p q : ℕ) : Type 0 where
+  pub goes : Goes nextInString text a p plain q
+  pub clean : Running isOther text p q
+
+abbrev pub TailIs : List ℕ → StringPart → ℕ → Scan → Type 0
+TailIs text a p (To q) = TailTo text a p q
+TailIs text a p (Bad q) = Stops nextInString text a p q
+
+-- a whole char: none of its bytes is a \, unless the first
+pub record CharTo (text : List ℕ) (p q : ℕ) : Type 0 where
+  pub goes : Goes nextInString text plain p plain q
+  pub some : p < q
+  pub clean : (byteAt text p ≡ 0x5C → ⊥) → Running isOther text p q
+
+abbrev pub CharIs : List ℕ → ℕ → Scan → Type 0
+CharIs text p (To q) = CharTo text p q
+CharIs text p (Bad q) = Stops nextInString text plain p q
+
+-- whether a \ is among the bytes from p to q
+pub record Slash (text : List ℕ) (p q : ℕ) : Type 0 where
+  pub place : ℕ
+  pub low : p ≤ place
+  pub high : place < q
+  pub is : byteAt text place ≡ 0x5C
+
+abbrev pub Escapes : Bool → List ℕ → ℕ → ℕ → Type 0
+Escapes false text p q = Running isOther text p q
+Escapes true text p q = Slash text p q
+
+-- the chars of a string from p to q, with or without an escape; and up to the closing quote at q
+pub record CharsTo (text : List ℕ) (p q : ℕ) (escaped : Bool) : Type 0 where
+  pub goes : Goes nextInString text plain p plain q
+  pub escapes : Escapes escaped text p q
+
+pub record StringTo (text : List ℕ) (p q : ℕ) (escaped : Bool) : Type 0 where
+  pub chars : CharsTo text p q escaped
+  pub shut : byteAt text q ≡ quote
+
+abbrev pub QuotedIs : List ℕ → ℕ → Quoted → Type 0
+QuotedIs text p (Plain q) = StringTo text p q false
+QuotedIs text p (Escaped q) = StringTo text p q true
+QuotedIs text p (Broken q) = Stops nextInString text plain p q
+
+abbrev pub quotedOf : ℕ → Bool → Quoted
+quotedOf q true = Escaped q
+quotedOf q false = Plain q
+
+abbrev pub isSign : ℕ → Bool
+isSign c = eqb c 0x2B || eqb c 0x2D
+
+-- one digit or more
+abbrev pub DigitsIs : List ℕ → ℕ → Scan → Type 0
+DigitsIs text p (To q) = RunTo isDigit text p q × (p < q)
+DigitsIs text p (Bad q) = (q ≡ p) × (isDigit (byteAt text p) ≡ false)
+
+-- a number from part a at byte p: byte q is the first that it cannot go on with, and it may end there or not
+pub record NumberTo (text : List ℕ) (a : NumberPart) (p q : ℕ) (ends : Bool) : Type 0 where
+  pub part : NumberPart
+  pub goes : Goes nextInNumber text a p part q
+  pub stays : nextInNumber part (byteAt text q) ≡ stuck
+  pub end : mayEnd part ≡ ends
+
+abbrev pub NumberIs : List ℕ → NumberPart → ℕ → Scan → Type 0
+NumberIs text a p (To q) = NumberTo text a p q true
+NumberIs text a p (Bad q) = NumberTo text a p q false
+
+-- behind a part of a number that may be its end: an exponent or nothing; and the same with a fraction before it
+abbrev pub ExponentIs : List ℕ → ℕ → Scan → Type 0
+ExponentIs text p r = (a : NumberPart) → mayEnd a ≡ true → nextInNumber a (byteAt text p) ≡ goIf (isE (byteAt text p)) e → NumberIs text a p r
+
+abbrev pub FractionIs : List ℕ → ℕ → Scan → Type 0
+FractionIs text p r =
+    (a : NumberPart) → mayEnd a ≡ true → nextInNumber a (byteAt text p) ≡ cond (eqb (byteAt text p) 0x2E) (go point) (goIf (isE (byteAt text p)) e) →
+    NumberIs text a p r
+
+-- the letters of a word that are to come
+unfoldable pub nextLetter : List ℕ → ℕ → Turn (List ℕ)
+nextLetter [] c = ended
+nextLetter (l ∷ ls) c = goIf (eqb c l) ls

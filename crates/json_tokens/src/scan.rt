@@ -1,0 +1,186 @@
+// Tokens of the text: each function goes from the left over one and says where it ends, or which byte is the fault.
+ghost use mathlib.Core.Path.{_≡_};
+ghost use mathlib.Core.Bool.{true, false};
+ghost use mathlib.Core.List.{[]};
+ghost use Prim.Native.Nat.{_≤_, _+_};
+ghost use lib.ListN.{length};
+ghost use Rattle.json_theory.specs.Grammar.{isSpace};
+ghost use Rattle.json_theory.specs.Parts.{isDigit, isE, NumberPart, minus, number, start};
+ghost use Rattle.json_theory.specs.Inside.Scanning.{byteAt, PlaceIn, RunTo};
+ghost use Rattle.json_tokens.specs.Tokens.{DigitsIs, NumberIs, ExponentIs, FractionIs, isSign, nextLetter, ScanIs};
+
+// Where a token ends, or the byte with which it cannot go on.
+pub enum Scan {
+    To(usize),
+    Bad(usize),
+}
+
+// Where the closing quote of a string is, and whether an escape came before it; or the byte with which it cannot go on.
+pub enum Quoted {
+    Plain(usize),
+    Escaped(usize),
+    Broken(usize),
+}
+
+// The byte at `at`; 0, which no token goes on with, at the end.
+pub fn byte_at(text: &[u8], at: usize) -> u8
+    ensures { λ r. ⌜ r ≡ byteAt (now (text .entry)) at ⌝ }
+{
+    if at < text.len() { text[at] } else { 0 }
+}
+
+pub fn is_space(c: u8) -> bool
+    ensures { λ r. ⌜ r ≡ isSpace c ⌝ }
+{
+    if c == 0x20 {
+        return true;
+    }
+    if c == 0x09 {
+        return true;
+    }
+    if c == 0x0A {
+        return true;
+    }
+    c == 0x0D
+}
+
+// The first byte from `from` that is no white space, or the end.
+pub fn space_end(text: &[u8], from: usize) -> usize
+    requires { ⌜ PlaceIn (now text) from ⌝ }
+    ensures { λ r. ⌜ RunTo isSpace (now (text .entry)) from r ⌝ }
+{
+    let mut at = from;
+    while at < text.len() {
+        if !is_space(text[at]) {
+            return at;
+        }
+        at += 1;
+    }
+    at
+}
+
+fn is_digit(c: u8) -> bool
+    ensures { λ r. ⌜ r ≡ isDigit c ⌝ }
+{
+    if c < 0x30 {
+        return false;
+    }
+    c <= 0x39
+}
+
+// The end of a run of digits.
+fn digits_end(text: &[u8], from: usize) -> usize
+    requires { ⌜ PlaceIn (now text) from ⌝ }
+    ensures { λ r. ⌜ RunTo isDigit (now (text .entry)) from r ⌝ }
+{
+    let mut at = from;
+    while at < text.len() {
+        if !is_digit(text[at]) {
+            return at;
+        }
+        at += 1;
+    }
+    at
+}
+
+// One digit or more.
+fn some_digits(text: &[u8], from: usize) -> Scan
+    requires { ⌜ PlaceIn (now text) from ⌝ }
+    ensures { λ r. ⌜ DigitsIs (now (text .entry)) from r ⌝ }
+{
+    let end = digits_end(text, from);
+    if end == from {
+        Scan::Bad(from)
+    } else {
+        Scan::To(end)
+    }
+}
+
+fn is_e(c: u8) -> bool
+    ensures { λ r. ⌜ r ≡ isE c ⌝ }
+{
+    if c == 0x45 {
+        return true;
+    }
+    c == 0x65
+}
+
+fn is_sign(c: u8) -> bool
+    ensures { λ r. ⌜ r ≡ isSign c ⌝ }
+{
+    if c == 0x2B {
+        return true;
+    }
+    c == 0x2D
+}
+
+// An exponent, or nothing, behind a part of a number that may be its end.
+fn exponent_end(text: &[u8], from: usize) -> Scan
+    requires { ⌜ PlaceIn (now text) from ⌝ }
+    ensures { λ r. ⌜ ExponentIs (now (text .entry)) from r ⌝ }
+{
+    if !is_e(byte_at(text, from)) {
+        return Scan::To(from);
+    }
+    if is_sign(byte_at(text, from + 1)) {
+        some_digits(text, from + 2)
+    } else {
+        some_digits(text, from + 1)
+    }
+}
+
+// A fraction and an exponent, or one of them, or nothing.
+fn fraction_end(text: &[u8], from: usize) -> Scan
+    requires { ⌜ PlaceIn (now text) from ⌝ }
+    ensures { λ r. ⌜ FractionIs (now (text .entry)) from r ⌝ }
+{
+    if byte_at(text, from) != 0x2E {
+        return exponent_end(text, from);
+    }
+    match some_digits(text, from + 1) {
+        Scan::To(end) => exponent_end(text, end),
+        Scan::Bad(at) => Scan::Bad(at),
+    }
+}
+
+// A number after its sign.
+fn unsigned_end(text: &[u8], from: usize) -> Scan
+    requires { ⌜ PlaceIn (now text) from ⌝ }
+    ensures { λ r. ⌜ NumberIs (now (text .entry)) minus from r ⌝ }
+{
+    let c = byte_at(text, from);
+    if c == 0x30 {
+        return fraction_end(text, from + 1);
+    }
+    if is_digit(c) {
+        return fraction_end(text, digits_end(text, from + 1));
+    }
+    Scan::Bad(from)
+}
+
+// A number, whose first byte is at `from`.
+pub fn number_end(text: &[u8], from: usize) -> Scan
+    requires { ⌜ PlaceIn (now text) from ⌝ }
+    ensures { λ r. ⌜ ((a : NumberPart) → start (byteAt (now (text .entry)) from) ≡ number a → NumberIs (now (text .entry)) a (from + 1) r) ⌝ }
+{
+    if byte_at(text, from) == 0x2D {
+        unsigned_end(text, from + 1)
+    } else {
+        unsigned_end(text, from)
+    }
+}
+
+// A word of the grammar.
+pub fn word_end(text: &[u8], from: usize, word: &[u8]) -> Scan
+    requires { ⌜ PlaceIn (now text) from × (length (now word) ≤ 8) ⌝ }
+    ensures { λ r. ⌜ ScanIs nextLetter (now (text .entry)) (now (word .entry)) from [] r ⌝ }
+{
+    let mut k = 0;
+    while k < word.len() {
+        if byte_at(text, from + k) != word[k] {
+            return Scan::Bad(from + k);
+        }
+        k += 1;
+    }
+    Scan::To(from + k)
+}

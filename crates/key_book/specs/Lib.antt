@@ -1,0 +1,2 @@
+-- What the contracts on a key book cite beside the theory.
+pub mod Records

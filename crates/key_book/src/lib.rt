@@ -1,0 +1,3 @@
+// The key book: whether it is good, and the number of a key.
+pub mod search;
+pub mod validity;

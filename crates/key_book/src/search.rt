@@ -1,0 +1,73 @@
+// The number of a key, by halving the book.
+use crate::validity::SIZE;
+use crate::validity::key_byte;
+ghost use mathlib.Core.Path.{_≡_};
+ghost use mathlib.Core.Bool.{false};
+ghost use Prim.Native.Nat.{_+_, _≤_, _<_};
+ghost use lib.ListN.{length};
+ghost use Rattle.value_table.specs.Value.{maxLength};
+ghost use Rattle.json_theory.specs.Book.{bookSize, keyOf, bookKeys, badBook, placeOf};
+ghost use Rattle.json_theory.specs.Inside.Scanning.{Running, between};
+ghost use Rattle.key_book.specs.Records.{bookRecord, HasRecord, OrderIs, isFilled};
+
+pub enum Order {
+    Less,
+    Same,
+    More,
+}
+
+// Key i against the bytes of the text from `from` to `to`, of which there are up to 32.
+fn compare(book: &[u8], i: usize, text: &[u8], from: usize, to: usize) -> Order
+    requires { ⌜ HasRecord (now book) i × Running isFilled (now text) from to × (to ≤ from + bookSize) ⌝ }
+    ensures { λ r. ⌜ OrderIs (keyOf (bookRecord (now (book .entry)) i)) (between (now (text .entry)) from to) r ⌝ }
+{
+    let mut k = 0;
+    while from + k < to {
+        let a = key_byte(book, i, k);
+        let b = text[from + k];
+        if a < b {
+            return Order::Less;
+        }
+        if b < a {
+            return Order::More;
+        }
+        k += 1;
+    }
+    if k == SIZE {
+        return Order::Same;
+    }
+    if key_byte(book, i, k) == 0 {
+        Order::Same
+    } else {
+        Order::More
+    }
+}
+
+// The number of the key that the text has from `from` to `to`, or 0.
+fn bisect(book: &[u8], text: &[u8], from: usize, to: usize) -> usize
+    requires { ⌜ (length (now book) ≤ maxLength) × (badBook (now book) ≡ false) × Running isFilled (now text) from to × (to ≤ from + bookSize) ⌝ }
+    ensures { λ r. ⌜ r ≡ placeOf (between (now (text .entry)) from to) 1 (bookKeys (now (book .entry))) ⌝ }
+{
+    let mut low = 0;
+    let mut high = book.len() / SIZE;
+    while low < high {
+        let middle = (low + high) / 2;
+        match compare(book, middle, text, from, to) {
+            Order::Less => low = middle + 1,
+            Order::Same => return middle + 1,
+            Order::More => high = middle,
+        }
+    }
+    0
+}
+
+// The number of the key that the text has from `from` to `to`, or 0.
+pub fn find_key(book: &[u8], text: &[u8], from: usize, to: usize) -> usize
+    requires { ⌜ (length (now book) ≤ maxLength) × (badBook (now book) ≡ false) × Running isFilled (now text) from to ⌝ }
+    ensures { λ r. ⌜ r ≡ placeOf (between (now (text .entry)) from to) 1 (bookKeys (now (book .entry))) ⌝ }
+{
+    if SIZE < to - from {
+        return 0;
+    }
+    bisect(book, text, from, to)
+}

@@ -1,0 +1,83 @@
+-- A key of a field: repeated or new, by its mark.
+use mathlib.Core.Path.{_≡_, refl, sym, _∙_}
+use mathlib.Core.Bool.{Bool, true, false}
+use mathlib.Core.List.{List, []}
+use Prim.Native.Nat.{ℕ, _+_, _≤_}
+use native.Mathlib.Omega.{arith}
+use lib.Dec.{eqb}
+use lib.ListN.{length, getD, set}
+use Rattle.value_table.specs.Value.{Values, none, keys, member}
+use Rattle.json_theory.specs.Grammar.{object, isSpace}
+use Rattle.json_theory.specs.Parts.{plain}
+use Rattle.json_theory.specs.Steps.{Stack, base, level, State, first, nextKey, inKey, colon, item, step}
+use Rattle.json_theory.specs.Book.{bookRecords, keyNumber}
+use Rattle.json_theory.specs.Reader.{depth, written, faultAt, limitFault}
+use Rattle.json_items.specs.Items.{KeyTo}
+use Rattle.text_reader.specs.Inside.Marks.{marksOf, slotOf, Slot, MarksHold}
+use Rattle.text_reader.specs.Inside.Progress.{readsFrom, AwaitsItem, firstItem, field, StaysOpen}
+use Rattle.text_reader.specs.Inside.Items.{KeyRead, MarksRow, BehindColon, FieldKeyIs, KeyPlace}
+use Rattle.text_reader.specs.declared.field.Key.{Key}
+use Rattle.text_reader.specs.declared.field.Key.the-variants.{Found, Wrong}
+use Rattle.json_theory.specs.Inside.Scanning.{byteAt}
+use Rattle.json_theory.proofs.Scanning.{byte-inside}
+use Rattle.json_items.proofs.Leads.{reads-on, reads-fault, reads-end, either-way}
+use borrow.Author.Tests.{ne-eqb}
+use Rattle.text_reader.proofs.MarksHold.{marks-member, marks-key}
+
+module _ {text book : List ℕ} {p k q : ℕ} (t : KeyTo text book p k q) where
+  pub key-slot : {listed d : ℕ} {seen : List ℕ} → listed ≡ bookRecords book → MarksRow listed seen d → Slot listed seen d k
+  key-slot e r = record { room = r .room; small = r .small; level-low = r .level-low; some = t .some; listed-key = omega (arith, t .listed) }
+
+  module _ {seen : List ℕ} {key mark : ℕ} {done : Values} {outer : Stack} (own : written outer + 1 ≡ mark)
+      (m : MarksHold (bookRecords book) seen (level object key done outer) []) (room : ℕ) where
+    -- the mark tells whether the object has the key
+    has : (b : Bool) → b ≡ eqb (getD (marksOf (bookRecords book) seen) (slotOf (bookRecords book) (depth outer) k) 0) mark → member k (keys done) ≡ b
+    has b e = sym (marks-member k m (t .some) (t .listed)) ∙ rw own (sym e)
+
+    pub key-repeated : true ≡ eqb (getD (marksOf (bookRecords book) seen) (slotOf (bookRecords book) (depth outer) k) 0) mark →
+        readsFrom text book room (inKey plain [] (level object key done outer)) p ≡ faultAt 6 q
+    key-repeated e = t .reads room (level object key done outer) ∙ rw (has true e) refl
+
+    pub key-new : {seen′ : List ℕ} → false ≡ eqb (getD (marksOf (bookRecords book) seen) (slotOf (bookRecords book) (depth outer) k) 0) mark →
+        MarksRow (bookRecords book) seen (depth outer) → length seen′ ≡ length seen →
+        marksOf (bookRecords book) seen′ ≡ set (marksOf (bookRecords book) seen) (slotOf (bookRecords book) (depth outer) k) mark →
+        KeyRead text book seen′ room (inKey plain [] (level object key done outer)) p (level object key done outer) k (colon k (level object key done outer)) (q + 1)
+    key-new e r same stored =
+        record {
+          reads = t .reads room (level object key done outer) ∙ rw (has false e) refl;
+          marks = marks-key k m (key-slot refl r) same (stored ∙ rw (sym own) refl);
+        }
+
+-- the first byte of a field: its opening quote, or a fault
+module _ (text book : List ℕ) (room p : ℕ) where
+  pub quote-opens : (key : ℕ) (done : Values) (outer : Stack) (σ : State) → AwaitsItem σ (level object key done outer) → byteAt text p ≡ 0x22 →
+      readsFrom text book room σ p ≡ readsFrom text book room (inKey plain [] (level object key done outer)) (p + 1)
+  unfolding step item limitFault
+  quote-opens key none outer σ firstItem h =
+      reads-on text p (keyNumber book) room (first object key outer) (byte-inside text p (omega arith)) (inKey plain [] (level object key none outer)) (rw h refl) (rw h refl)
+  quote-opens key done outer σ field h =
+      reads-on text p (keyNumber book) room (nextKey (level object key done outer)) (byte-inside text p (omega arith)) (inKey plain [] (level object key done outer)) (rw h refl) (rw h refl)
+
+  pub no-quote : (key : ℕ) (done : Values) (outer : Stack) (σ : State) → AwaitsItem σ (level object key done outer) → isSpace (byteAt text p) ≡ false →
+      StaysOpen (level object key done outer) (byteAt text p) → (byteAt text p ≡ 0x22 → ⊥) → readsFrom text book room σ p ≡ faultAt 12 p
+  unfolding step item limitFault
+  no-quote key none outer σ firstItem a b h =
+      either-way text p
+      (λ l. reads-fault text p (keyNumber book) room (first object key outer) l (rw (a, b, ne-eqb (byteAt text p) 0x22 h) refl))
+      (λ l. reads-end text p (keyNumber book) room (first object key outer) l)
+  no-quote key done outer σ field a b h =
+      either-way text p
+      (λ l. reads-fault text p (keyNumber book) room (nextKey (level object key done outer)) l (rw (a, ne-eqb (byteAt text p) 0x22 h) refl))
+      (λ l. reads-end text p (keyNumber book) room (nextKey (level object key done outer)) l)
+
+-- a key that was read, and its colon
+pub key-colon : (text book seen : List ℕ) (room p : ℕ) (σ : State) (around : Stack) (k q : ℕ) (r : Key) → KeyRead text book seen room σ p around k (colon k around) q →
+    BehindColon text k around q r → FieldKeyIs text book seen room σ p around r
+key-colon text book seen room p σ around k q (Found j n) h b =
+    let e = b .0 in
+    (record { reads = h .reads ∙ b .1 .leads (keyNumber book) room ∙ rw (sym e) refl; marks = rw e (h .marks) }, b .1 .byte)
+key-colon text book seen room p σ around k q (Wrong why n) h b = h .reads ∙ b .1 (keyNumber book) room ∙ rw (b .0) refl
+
+pub colon-place : (text : List ℕ) (k p q : ℕ) → p + 1 ≤ q → (r : Key) → ((around : Stack) → BehindColon text k around q r) → KeyPlace text p r
+colon-place text k p q l (Found j n) h = let t = h (base none) .1 in (omega (arith, t .from), t .upto)
+colon-place text k p q l (Wrong why n) h = tt

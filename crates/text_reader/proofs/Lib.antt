@@ -1,0 +1,6 @@
+-- The laws behind the contracts; a folder for each function's proof.
+pub mod Marks
+pub mod MarksHold
+pub mod Laid
+pub mod NextItem
+pub mod FieldKey

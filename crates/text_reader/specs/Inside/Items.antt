@@ -1,0 +1,77 @@
+-- What the functions between two items answer.
+use mathlib.Core.Path.{_≡_}
+use mathlib.Core.Bool.{false, cond}
+use mathlib.Core.List.{List, [], _∷_}
+use Prim.Native.Nat.{ℕ, _*_, _≤_, _<_}
+use lib.Dec.{ltb}
+use lib.ListN.{length, drop}
+use Rattle.value_table.specs.Value.{Values, maxDepth, maxLength}
+use Rattle.json_theory.specs.Grammar.{isSpace}
+use Rattle.json_theory.specs.Steps.{Stack, base, State, need, colon}
+use Rattle.json_theory.specs.Book.{bookRecords}
+use Rattle.json_theory.specs.Reader.{fine, faultAt, readFrom}
+use Rattle.json_theory.specs.Inside.Scanning.{byteAt, Breaks}
+use Rattle.text_reader.specs.Inside.Progress.{ItemAt, readsFrom}
+use Rattle.json_items.specs.Items.{ColonTo}
+use Rattle.text_reader.specs.Inside.Marks.{markSize, MarksHold}
+use Rattle.text_reader.specs.declared.TextFault.{TextFault}
+use Rattle.text_reader.specs.declared.TextFault.the-variants.{Grammar, Unlisted, Repeated, Deep, Full}
+use Rattle.text_reader.specs.declared.field.Key.{Key}
+use Rattle.text_reader.specs.declared.field.Key.the-variants.{Found, Wrong}
+use Rattle.text_reader.specs.declared.between.Next.{Next}
+use Rattle.text_reader.specs.declared.between.Next.the-variants.{End, Item, Bad}
+
+-- the text ends, and these are all its messages
+pub record EndsFine (text : List ℕ) (σ : State) (p : ℕ) (around : Stack) : Type 0 where
+  pub messages : Values
+  pub is-base : around ≡ base messages
+  pub reads : (name : List ℕ → ℕ) (room : ℕ) → readFrom name room σ p (drop p text) ≡ fine messages
+
+abbrev pub NextIs : List ℕ → State → ℕ → Stack → Next → Type 0
+NextIs text σ p around End = EndsFine text σ p around
+NextIs text σ p around (Item q) = ItemAt text σ p around q
+NextIs text σ p around (Bad q) = Breaks text σ p q
+
+abbrev pub messageOrEnd : List ℕ → ℕ → Next
+messageOrEnd text p = cond (ltb p (length text)) (Item p) End
+
+-- the refusal numbers of document 02
+abbrev pub numberOfTextFault : TextFault → ℕ
+numberOfTextFault Grammar = 12
+numberOfTextFault Unlisted = 13
+numberOfTextFault Repeated = 6
+numberOfTextFault Deep = 7
+numberOfTextFault Full = 11
+
+-- the reading from state σ at byte p is refused
+abbrev pub RefusedBy : (text book : List ℕ) → ℕ → State → ℕ → TextFault → ℕ → Type 0
+RefusedBy text book room σ p why q = readsFrom text book room σ p ≡ faultAt (numberOfTextFault why) q
+
+-- a new key of the innermost level has been read and marked, and reading goes on in state τ at byte q
+pub record KeyRead (text book seen : List ℕ) (room : ℕ) (σ : State) (p : ℕ) (around : Stack) (k : ℕ) (τ : State) (q : ℕ) : Type 0 where
+  pub reads : readsFrom text book room σ p ≡ readsFrom text book room τ q
+  pub marks : MarksHold (bookRecords book) seen around (k ∷ [])
+
+-- where a key that was found from byte p on has led
+abbrev pub KeyPlace : List ℕ → ℕ → Key → Type 0
+KeyPlace text p (Found k q) = (p ≤ q) × (q ≤ length text)
+KeyPlace text p (Wrong why q) = Unit {0}
+
+-- up to its closing quote, and up to its value
+abbrev pub NewKeyIs : (text book seen : List ℕ) → ℕ → State → ℕ → Stack → Key → Type 0
+NewKeyIs text book seen room σ p around (Found k q) = KeyRead text book seen room σ p around k (colon k around) q
+NewKeyIs text book seen room σ p around (Wrong why q) = RefusedBy text book room σ p why q
+
+abbrev pub BehindColon : (text : List ℕ) → ℕ → Stack → ℕ → Key → Type 0
+BehindColon text key around p (Found k q) = (k ≡ key) × ColonTo text key around p q
+BehindColon text key around p (Wrong why q) = (why ≡ Grammar) × Breaks text (colon key around) p q
+
+abbrev pub FieldKeyIs : (text book seen : List ℕ) → ℕ → State → ℕ → Stack → Key → Type 0
+FieldKeyIs text book seen room σ p around (Found k q) = KeyRead text book seen room σ p around k (need k around) q × (isSpace (byteAt text q) ≡ false)
+FieldKeyIs text book seen room σ p around (Wrong why q) = RefusedBy text book room σ p why q
+
+-- the marks of a level have their place
+pub record MarksRow (listed : ℕ) (seen : List ℕ) (d : ℕ) : Type 0 where
+  pub room : markSize * (maxDepth * listed) ≤ length seen
+  pub small : length seen ≤ 2 * maxLength
+  pub level-low : d < maxDepth

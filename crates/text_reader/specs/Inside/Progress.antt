@@ -1,0 +1,54 @@
+-- How far a text has been read, as the loop holds it: the state of the reading between two items, and the open values.
+use mathlib.Core.Path.{_≡_}
+use mathlib.Core.Bool.{Bool, true, false}
+use mathlib.Core.List.{List, []}
+use Prim.Native.Nat.{ℕ, _≤_}
+use lib.Dec.{eqb}
+use lib.ListN.{length, getD, drop}
+use Rattle.value_table.specs.Value.{Values, none, value}
+use Rattle.json_theory.specs.Grammar.{Container, array, object, closer, isSpace}
+use Rattle.json_theory.specs.Steps.{Stack, base, level, State, gap, after, need, first, nextKey}
+use Rattle.json_theory.specs.Book.{keyNumber}
+use Rattle.json_theory.specs.Reader.{depth, written, Reading, readFrom}
+use Rattle.json_theory.specs.Inside.Scanning.{byteAt, Leads}
+
+-- the reading of a text from state σ at byte p on, with the book's numbers
+abbrev pub readsFrom : (text book : List ℕ) → ℕ → State → ℕ → Reading
+readsFrom text book room σ p = readFrom (keyNumber book) room σ p (drop p text)
+
+abbrev pub isObject : Container → Bool
+isObject array = false
+isObject object = true
+
+-- the record of each open value, and whether it is an object, by depth
+abbrev pub LevelsHold : List ℕ → List Bool → Stack → Type 0
+LevelsHold records objects (base ms) = Unit {0}
+LevelsHold records objects (level o key done outer) =
+    (getD records (depth outer) 0 ≡ written outer) × (getD objects (depth outer) false ≡ isObject o) × LevelsHold records objects outer
+
+-- the state between two items of the innermost level: at the start, right behind a bracket, or behind a value
+pub data Between : Bool → State → Stack → Type 0 where
+  atStart : Between true (gap none) (base none)
+  opened : {o : Container} {key : ℕ} {outer : Stack} → Between true (first o key outer) (level o key none outer)
+  behind : {around : Stack} → Between false (after around) around
+
+-- the state before an item of the innermost level
+pub data AwaitsItem : State → Stack → Type 0 where
+  message : {ms : Values} → AwaitsItem (gap ms) (base ms)
+  firstItem : {o : Container} {key : ℕ} {outer : Stack} → AwaitsItem (first o key outer) (level o key none outer)
+  element : {key : ℕ} {done : Values} {outer : Stack} → AwaitsItem (need 0 (level array key done outer)) (level array key done outer)
+  field : {key : ℕ} {done : Values} {outer : Stack} → AwaitsItem (nextKey (level object key done outer)) (level object key done outer)
+
+-- the byte c does not shut the innermost level
+abbrev pub StaysOpen : Stack → ℕ → Type 0
+StaysOpen (base ms) c = Unit {0}
+StaysOpen (level o key done outer) c = eqb c (closer o) ≡ false
+
+-- reading on from state σ at byte p comes to an item at byte q, whose first byte is no white space
+pub record ItemAt (text : List ℕ) (σ : State) (p : ℕ) (around : Stack) (q : ℕ) : Type 0 where
+  pub state : State
+  pub awaits : AwaitsItem state around
+  pub leads : Leads text σ p state q
+  pub from : p ≤ q
+  pub upto : q ≤ length text
+  pub byte : isSpace (byteAt text q) ≡ false

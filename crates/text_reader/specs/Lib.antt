@@ -1,0 +1,2 @@
+-- The reader of texts.
+pub mod Inside

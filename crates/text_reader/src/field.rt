@@ -1,0 +1,98 @@
+// The key of a field.
+use crate::TextFault;
+use crate::key_marks::has_mark;
+use crate::key_marks::set_mark;
+use json_items::item::Named;
+use json_items::item::colon_end;
+use json_items::item::key_end;
+use json_tokens::scan::Scan;
+use json_tokens::scan::byte_at;
+ghost use mathlib.Core.Path.{_≡_};
+ghost use mathlib.Core.Bool.{false};
+ghost use mathlib.Core.List.{[]};
+ghost use Prim.Native.Nat.{ℕ, _+_, _≤_, _<_};
+ghost use lib.ListN.{length};
+ghost use Rattle.value_table.specs.Value.{maxLength, Values};
+ghost use Rattle.json_theory.specs.Grammar.{object, isSpace};
+ghost use Rattle.json_theory.specs.Parts.{plain};
+ghost use Rattle.json_theory.specs.Steps.{Stack, level as inside, State, inKey};
+ghost use Rattle.json_theory.specs.Book.{badBook, bookRecords};
+ghost use Rattle.json_theory.specs.Reader.{depth as depthOf, written};
+ghost use Rattle.json_theory.specs.Inside.Scanning.{byteAt, PlaceIn};
+ghost use Rattle.text_reader.specs.Inside.Marks.{MarksHold};
+ghost use Rattle.text_reader.specs.Inside.Progress.{AwaitsItem, StaysOpen};
+ghost use Rattle.text_reader.specs.Inside.Items.{NewKeyIs, BehindColon, FieldKeyIs, KeyPlace, MarksRow};
+
+// A key's number and the byte from which the text goes on, or a fault and its byte.
+pub enum Key {
+    Found(usize, usize),
+    Wrong(TextFault, usize),
+}
+
+// The key behind its opening quote, in the object at a level: it is marked, unless the object has it.
+fn new_key(
+    text: &[u8],
+    book: &[u8],
+    seen: &mut [u8],
+    from: usize,
+    listed: usize,
+    level: usize,
+    mark: usize,
+) -> Key
+    requires { ⌜ PlaceIn (now text) from × (length (now book) ≤ maxLength) × (badBook (now book) ≡ false) × (listed ≡ bookRecords (now book)) ⌝ }
+    requires { ⌜ MarksRow listed (now seen) level × (mark < 65536) ⌝ }
+    ensures { λ r. ⌜ KeyPlace (now (text .entry)) from r ⌝ }
+    ensures { λ r. ⌜ ((room key : ℕ) (done : Values) (outer : Stack) → depthOf outer ≡ level → written outer + 1 ≡ mark →
+        MarksHold listed (now (seen .entry)) (inside object key done outer) [] →
+        NewKeyIs (now (text .entry)) (now (book .entry)) (now (seen .exit)) room (inKey plain [] (inside object key done outer)) from (inside object key done outer) r) ⌝ }
+{
+    match key_end(text, book, from) {
+        Named::Faulty(place) => Key::Wrong(TextFault::Grammar, place),
+        Named::Unlisted(quote) => Key::Wrong(TextFault::Unlisted, quote),
+        Named::Found(key, quote) => {
+            if has_mark(seen, listed, level, key, mark) {
+                return Key::Wrong(TextFault::Repeated, quote);
+            }
+            set_mark(seen, listed, level, key, mark);
+            Key::Found(key, quote + 1)
+        }
+    }
+}
+
+// The value behind a key that was read up to its closing quote.
+fn behind_colon(text: &[u8], key: usize, from: usize) -> Key
+    requires { ⌜ PlaceIn (now text) from ⌝ }
+    ensures { λ r. ⌜ ((around : Stack) → BehindColon (now (text .entry)) key around from r) ⌝ }
+{
+    match colon_end(text, from) {
+        Scan::To(at) => Key::Found(key, at),
+        Scan::Bad(place) => Key::Wrong(TextFault::Grammar, place),
+    }
+}
+
+// The key of the field that begins at `at`, in the object at a level, up to its value.
+pub fn field_key(
+    text: &[u8],
+    book: &[u8],
+    seen: &mut [u8],
+    at: usize,
+    listed: usize,
+    level: usize,
+    mark: usize,
+) -> Key
+    requires { ⌜ PlaceIn (now text) at × (length (now book) ≤ maxLength) × (badBook (now book) ≡ false) × (listed ≡ bookRecords (now book)) ⌝ }
+    requires { ⌜ MarksRow listed (now seen) level × (mark < 65536) ⌝ }
+    ensures { λ r. ⌜ KeyPlace (now (text .entry)) at r ⌝ }
+    ensures { λ r. ⌜ ((room key : ℕ) (done : Values) (outer : Stack) (σ : State) → AwaitsItem σ (inside object key done outer) →
+        isSpace (byteAt (now (text .entry)) at) ≡ false → StaysOpen (inside object key done outer) (byteAt (now (text .entry)) at) →
+        depthOf outer ≡ level → written outer + 1 ≡ mark → MarksHold listed (now (seen .entry)) (inside object key done outer) [] →
+        FieldKeyIs (now (text .entry)) (now (book .entry)) (now (seen .exit)) room σ at (inside object key done outer) r) ⌝ }
+{
+    if byte_at(text, at) != 0x22 {
+        return Key::Wrong(TextFault::Grammar, at);
+    }
+    match new_key(text, book, seen, at + 1, listed, level, mark) {
+        Key::Wrong(why, place) => Key::Wrong(why, place),
+        Key::Found(key, from) => behind_colon(text, key, from),
+    }
+}

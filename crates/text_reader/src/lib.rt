@@ -1,0 +1,14 @@
+// The reader from JSON text to a value table.
+pub mod between;
+pub mod field;
+pub mod key_marks;
+
+// What is wrong with a text: a byte with which it cannot go on, a key that is not listed or comes again, a value that is too deep, or one
+// for which the table has no room.
+pub enum TextFault {
+    Grammar,
+    Unlisted,
+    Repeated,
+    Deep,
+    Full,
+}
