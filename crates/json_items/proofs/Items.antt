@@ -15,8 +15,8 @@ use Rattle.json_theory.specs.Steps.{Stack, add, after, inString, inNumber, inLi
 use Rattle.json_theory.specs.Book.{bookRecords, bookKeys, placeOf, keyNumber}
 use Rattle.json_theory.specs.Reader.{keyFault, faultOr, readFrom, limitFault}
 use Rattle.json_theory.specs.Inside.Scanning.{byteAt, Goes, here, on, Stops, between, RunTo}
-use Rattle.json_tokens.specs.Tokens.{StringTo, NumberIs, nextLetter, ScanIs}
-use Rattle.json_items.specs.Items.{ReadsTo, ScalarIs, keyReading, KeyTo, NamedIs, ColonTo, ColonIs}
+use Rattle.json_tokens.specs.Inside.Tokens.{StringTo, NumberIs, nextLetter, ScanIs}
+use Rattle.json_items.specs.Inside.Items.{ReadsTo, ScalarIs, keyReading, KeyTo, NamedIs, ColonTo, ColonIs}
 use Rattle.json_tokens.specs.declared.scan.Scan.{Scan}
 use Rattle.json_tokens.specs.declared.scan.Scan.the-variants.{To, Bad}
 use Rattle.json_items.specs.declared.item.Named.the-variants.{Unlisted, Faulty}

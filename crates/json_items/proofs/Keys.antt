@@ -14,11 +14,11 @@ use Rattle.json_theory.specs.Parts.{StringPart, plain, nextInString}
 use Rattle.json_theory.specs.Steps.{Stack, inKey, colon, keyTurn, step}
 use Rattle.json_theory.specs.Reader.{keyFault, keyEnds, limitFault, faultAt, faultOr, readFrom}
 use Rattle.json_theory.specs.Inside.Scanning.{byteAt, Running, Goes, here, on, Stops, between}
-use Rattle.json_tokens.specs.Tokens.{StringTo}
+use Rattle.json_tokens.specs.Inside.Tokens.{StringTo}
 use Rattle.json_theory.proofs.Scanning.{byte-none, between-length, between-byte, running-start, running-one, running-to}
 use Rattle.json_tokens.proofs.Strings.{string-inside, string-upto, goes-up}
 use Rattle.json_theory.specs.Book.{bookKeys, placeOf, keyNumber}
-use Rattle.key_book.specs.Records.{isFilled}
+use Rattle.key_book.specs.Inside.Records.{isFilled}
 use Rattle.json_theory.proofs.Parts.{no-control}
 use Rattle.json_items.proofs.Leads.{reads-one, reads-on, reads-fault, reads-end, either-way}
 

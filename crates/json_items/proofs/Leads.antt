@@ -15,7 +15,7 @@ use Rattle.json_theory.specs.Parts.{Turn, go, stuck, goIf, plain, nextInString,
 use Rattle.json_theory.specs.Steps.{Stack, base, level, State, gap, after, need, first, nextKey, colon, inString, inNumber, inLiteral, stepAfter, stepLiteral, stringTurn, numberTurn, step}
 use Rattle.json_theory.specs.Reader.{limitFault, isWrong, Reading, faultAt, finish, faultOr, byteFault, readFrom}
 use Rattle.json_theory.specs.Inside.Scanning.{byteAt, Running, Goes, here, on, Stops, Leads, Breaks}
-use Rattle.json_tokens.specs.Tokens.{StringTo, NumberTo, nextLetter}
+use Rattle.json_tokens.specs.Inside.Tokens.{StringTo, NumberTo, nextLetter}
 use Rattle.byte_records.proofs.Tests.{and-parts}
 use Rattle.json_theory.proofs.Scanning.{byte-none}
 use Rattle.json_tokens.proofs.Strings.{string-inside}

@@ -1,2 +1,2 @@
 -- What the contracts on items cite beside the theory.
-pub mod Items
+pub mod Inside

@@ -16,7 +16,7 @@ ghost use Rattle.json_theory.specs.Parts.{start, plain};
 ghost use Rattle.json_theory.specs.Steps.{Stack, after, colon, inString};
 ghost use Rattle.json_theory.specs.Book.{badBook};
 ghost use Rattle.json_theory.specs.Inside.Scanning.{byteAt, PlaceIn};
-ghost use Rattle.json_items.specs.Items.{ReadsTo, ScalarIs, NamedIs, ColonIs};
+ghost use Rattle.json_items.specs.Inside.Items.{ReadsTo, ScalarIs, NamedIs, ColonIs};
 
 // A key's number and the place of its closing quote; or where it turns out to be unlisted or faulty.
 pub enum Named {

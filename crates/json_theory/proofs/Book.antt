@@ -8,27 +8,11 @@ use native.Mathlib.Omega.{arith}
 use lib.Dec.{eqb, ltb}
 use lib.ListN.{length, getD, drop}
 use borrow.Author.Tests.{eqb-true, eq-eqb, ltb-true, lt-ltb, le-ltb, not-false}
+use Rattle.byte_records.proofs.Tests.{same-eq, same-refl, and-parts}
 use Rattle.byte_records.specs.Number.{sameBytes}
 use Rattle.value_table.specs.Value.{member, maxLength}
-use Rattle.byte_records.proofs.Tests.{and-parts}
 use Rattle.json_theory.specs.Book.{bookSize, before, bookRecords, keysFrom, precedes, ascending, bookKeys, goodFrom, badBook, placeOf, keyNumber}
 use Rattle.json_theory.proofs.Rx.{false-true, or-out}
-
-pub same-eq : (a b : List ℕ) → sameBytes a b ≡ true → a ≡ b
-unfolding sameBytes
-same-eq [] [] h = refl
-same-eq [] (y ∷ b) h = false-true h
-same-eq (x ∷ a) [] h = false-true h
-same-eq (x ∷ a) (y ∷ b) h =
-    let p = and-parts (eqb x y) (sameBytes a b) h in
-    let e = eqb-true x y (p .0) in
-    let f = same-eq a b (p .1) in
-    cc
-
-same-refl : (a : List ℕ) → sameBytes a a ≡ true
-unfolding sameBytes
-same-refl [] = refl
-same-refl (x ∷ a) = rw (eq-eqb x x refl) (same-refl a)
 
 -- a strict order
 pub before-irreflexive : (a : List ℕ) → before a a ≡ false

@@ -16,4 +16,3 @@ pub mod Promises
 pub mod Trials
 pub mod Rfc
 pub mod Scanning
-pub mod Laid

@@ -3,4 +3,3 @@ pub mod Derivative
 pub mod Remaining
 pub mod Run
 pub mod Scanning
-pub mod Laid

@@ -13,7 +13,7 @@ use Rattle.json_theory.specs.Rx.{within}
 use Rattle.json_theory.specs.Grammar.{quote, array, object}
 use Rattle.json_theory.specs.Parts.{go, stuck, goIf, isDigit, isE, NumberPart, minus, nought, whole, point, decimal, e, signed, power, nextInNumber, mayEnd, Start, letters, number, string, open′, nothing, start}
 use Rattle.json_theory.specs.Inside.Scanning.{byteAt, RunTo, Goes, here, on, Stops}
-use Rattle.json_tokens.specs.Tokens.{isSign, DigitsIs, NumberTo, NumberIs, nextLetter}
+use Rattle.json_tokens.specs.Inside.Tokens.{isSign, DigitsIs, NumberTo, NumberIs, nextLetter}
 use Rattle.json_tokens.specs.declared.scan.Scan.{Scan}
 use Rattle.json_tokens.specs.declared.scan.Scan.the-variants.{To, Bad}
 use Rattle.json_theory.proofs.Rx.{false-true}

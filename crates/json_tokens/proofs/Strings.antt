@@ -11,7 +11,7 @@ use Rattle.json_theory.specs.Rx.{within}
 use Rattle.json_theory.specs.Grammar.{quote}
 use Rattle.json_theory.specs.Parts.{Turn, go, ended, stuck, goIf, StringPart, plain, escape, hexes4, hexes3, hexes2, hexes1, tails3, tails2, tails1, behindE0, behindED, behindF0, behindF4, isHex, isEscape, nextInString}
 use Rattle.json_theory.specs.Inside.Scanning.{byteAt, Running, Goes, here, on, Stops}
-use Rattle.json_tokens.specs.Tokens.{isPlain, isOther, ScanIs, TailTo, TailIs, CharTo, CharIs, CharsTo, StringTo, QuotedIs, quotedOf}
+use Rattle.json_tokens.specs.Inside.Tokens.{isPlain, isOther, ScanIs, TailTo, TailIs, CharTo, CharIs, CharsTo, StringTo, QuotedIs, quotedOf}
 use Rattle.json_tokens.specs.declared.scan.Scan.{Scan}
 use Rattle.json_tokens.specs.declared.scan.Scan.the-variants.{To, Bad}
 use Rattle.json_tokens.specs.declared.scan.Quoted.{Quoted}

@@ -12,7 +12,7 @@ use borrow.Author.Tests.{ne-eqb, le-ltb, not-true}
 use Rattle.json_theory.specs.Grammar.{isSpace}
 use Rattle.json_theory.specs.Parts.{Turn, isEscape}
 use Rattle.json_theory.specs.Inside.Scanning.{Goes}
-use Rattle.json_tokens.specs.Tokens.{ScanIs}
+use Rattle.json_tokens.specs.Inside.Tokens.{ScanIs}
 use Rattle.json_tokens.specs.declared.scan.Scan.{Scan}
 use Rattle.json_tokens.specs.declared.scan.Scan.the-variants.{To, Bad}
 use Rattle.json_theory.proofs.Parts.{every, every-at}

@@ -1,2 +1,2 @@
 -- What the contracts of the scanners cite beside the theory.
-pub mod Tokens
+pub mod Inside

@@ -7,7 +7,7 @@ ghost use lib.ListN.{length};
 ghost use Rattle.json_theory.specs.Grammar.{isSpace};
 ghost use Rattle.json_theory.specs.Parts.{isDigit, isE, NumberPart, minus, number, start};
 ghost use Rattle.json_theory.specs.Inside.Scanning.{byteAt, PlaceIn, RunTo};
-ghost use Rattle.json_tokens.specs.Tokens.{DigitsIs, NumberIs, ExponentIs, FractionIs, isSign, nextLetter, ScanIs};
+ghost use Rattle.json_tokens.specs.Inside.Tokens.{DigitsIs, NumberIs, ExponentIs, FractionIs, isSign, nextLetter, ScanIs};
 
 // Where a token ends, or the byte with which it cannot go on.
 pub enum Scan {

@@ -10,7 +10,7 @@ use lib.ListN.{length, getD, take, drop, drop-of-length-le, length-take, length-
 use lib.Seq.{drop-cons, drop-drop, getD-take, getD-drop}
 use borrow.Author.Tests.{eqb-true, eqb-false, eq-eqb, ne-eqb, lt-ltb, le-ltb, not-false}
 use Rattle.json_theory.specs.Book.{bookSize, keyOf, allZero, padded, filled, goodRecord, before, bookRecords, keysFrom, goodFrom, precedes, ascending, bookKeys, badBook}
-use Rattle.key_book.specs.Records.{bookRecord, HasRecord, GapIs, Fine, GoodAt}
+use Rattle.key_book.specs.Inside.Records.{bookRecord, HasRecord, GapIs, Fine, GoodAt}
 use Rattle.byte_records.proofs.Tests.{and-parts}
 use Rattle.key_book.proofs.Halving.{before-padded}
 

@@ -10,9 +10,9 @@ use lib.Seq.{drop-drop}
 use borrow.Author.Tests.{eqb-true, eqb-false, eq-eqb, ne-eqb, ltb-true, ltb-false, lt-ltb, le-ltb}
 use Rattle.byte_records.specs.Number.{sameBytes}
 use Rattle.json_theory.specs.Book.{bookSize, keyOf, allZero, padded, before, keysFrom, precedes, ascending, placeOf}
-use Rattle.byte_records.proofs.Tests.{and-parts}
+use Rattle.byte_records.proofs.Tests.{and-parts, same-eq}
 use Rattle.json_theory.proofs.Rx.{false-true}
-use Rattle.json_theory.proofs.Book.{same-eq, before-irreflexive, before-trans, ascends, place-found}
+use Rattle.json_theory.proofs.Book.{before-irreflexive, before-trans, ascends, place-found}
 
 -- earlier keys come first
 pub ascends-at : (ks : List (List ℕ)) (i j : ℕ) → ascending ks ≡ true → i < j → j < length ks → before (getD ks i []) (getD ks j []) ≡ true

@@ -9,7 +9,7 @@ use lib.ListN.{length, getD, drop, drop-of-length-le}
 use borrow.Author.Tests.{eqb-false, eq-eqb, ne-eqb, lt-ltb, not-true}
 use Rattle.json_theory.specs.Book.{bookSize, keyOf, before, bookRecords, bookKeys, badBook, placeOf}
 use Rattle.json_theory.specs.Inside.Scanning.{byteAt, Running, between}
-use Rattle.key_book.specs.Records.{bookRecord, HasRecord, isFilled}
+use Rattle.key_book.specs.Inside.Records.{bookRecord, HasRecord, isFilled}
 use Rattle.json_theory.proofs.Book.{place-of, keys-length}
 use Rattle.json_theory.proofs.Scanning.{between-length, between-byte}
 use Rattle.key_book.proofs.Halving.{key-at, Among, among-left, among-right}

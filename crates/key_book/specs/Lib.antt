@@ -1,2 +1,2 @@
 -- What the contracts on a key book cite beside the theory.
-pub mod Records
+pub mod Inside

@@ -8,7 +8,7 @@ ghost use lib.ListN.{length};
 ghost use Rattle.value_table.specs.Value.{maxLength};
 ghost use Rattle.json_theory.specs.Book.{bookSize, keyOf, bookKeys, badBook, placeOf};
 ghost use Rattle.json_theory.specs.Inside.Scanning.{Running, between};
-ghost use Rattle.key_book.specs.Records.{bookRecord, HasRecord, OrderIs, isFilled};
+ghost use Rattle.key_book.specs.Inside.Records.{bookRecord, HasRecord, OrderIs, isFilled};
 
 pub enum Order {
     Less,

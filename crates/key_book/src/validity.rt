@@ -5,7 +5,7 @@ ghost use Prim.Native.Nat.{_+_, _*_, _≤_, _<_};
 ghost use lib.ListN.{length, getD};
 ghost use Rattle.value_table.specs.Value.{maxLength};
 ghost use Rattle.json_theory.specs.Book.{bookSize, before, goodRecord, bookRecords, badBook};
-ghost use Rattle.key_book.specs.Records.{bookRecord, HasRecord, GapIs, GoodAt};
+ghost use Rattle.key_book.specs.Inside.Records.{bookRecord, HasRecord, GapIs, GoodAt};
 
 pub const SIZE: usize = 32;
 

@@ -12,7 +12,7 @@ use Rattle.json_theory.specs.Parts.{plain}
 use Rattle.json_theory.specs.Steps.{Stack, base, level, State, first, nextKey, inKey, colon, item, step}
 use Rattle.json_theory.specs.Book.{bookRecords, keyNumber}
 use Rattle.json_theory.specs.Reader.{depth, written, faultAt, limitFault}
-use Rattle.json_items.specs.Items.{KeyTo}
+use Rattle.json_items.specs.Inside.Items.{KeyTo}
 use Rattle.text_reader.specs.Inside.Marks.{marksOf, slotOf, Slot, MarksHold}
 use Rattle.text_reader.specs.Inside.Progress.{readsFrom, AwaitsItem, firstItem, field, StaysOpen}
 use Rattle.text_reader.specs.Inside.Items.{KeyRead, MarksRow, BehindColon, FieldKeyIs, KeyPlace}

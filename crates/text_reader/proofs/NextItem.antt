@@ -2,7 +2,7 @@
 use mathlib.Core.Path.{_≡_, refl, _∙_}
 use mathlib.Core.Bool.{Bool, true, false, cond}
 use mathlib.Core.List.{List}
-use Prim.Native.Nat.{ℕ, _+_, _≤_, _<_}
+use Prim.Native.Nat.{ℕ, _+_, _≤_}
 use native.Mathlib.Omega.{arith}
 use lib.Dec.{eqb, ltb}
 use lib.ListN.{length}
@@ -11,36 +11,11 @@ use Rattle.value_table.specs.Value.{Values, none}
 use Rattle.json_theory.specs.Grammar.{isSpace, Container, array, object, closer}
 use Rattle.json_theory.specs.Steps.{Stack, base, level, State, gap, after, need, first, nextKey, behindComma, stepAfter, step}
 use Rattle.json_theory.specs.Reader.{depth, limitFault, isWrong}
-use Rattle.json_theory.specs.Inside.Scanning.{byteAt, Running, RunTo, Leads, Breaks}
-use Rattle.json_items.proofs.Leads.{Loose, space-leads, loose-need, reads-on, reads-fault, reads-end, either-way}
+use Rattle.json_theory.specs.Inside.Scanning.{byteAt, RunTo, Leads, Breaks}
+use Rattle.json_items.proofs.Leads.{space-leads, loose-gap, loose-after, loose-need, loose-first, loose-nextKey, space-behind, reads-on, reads-fault, reads-end, either-way}
 use Rattle.text_reader.specs.Inside.Progress.{Between, atStart, opened, behind, message, firstItem, element, field, StaysOpen, ItemAt}
 use Rattle.text_reader.specs.Inside.Items.{EndsFine, NextIs, messageOrEnd}
 use Rattle.text_reader.specs.declared.between.Next.the-variants.{End, Item, Bad}
-
-loose-gap : (ms : Values) → Loose (gap ms)
-unfolding step limitFault
-loose-gap ms c h name room = (rw h refl, rw h refl)
-
-loose-after : (o : Container) (key : ℕ) (done : Values) (outer : Stack) → Loose (after (level o key done outer))
-unfolding step limitFault stepAfter
-loose-after o key done outer c h name room = (rw h refl, rw h refl)
-
-loose-first : (o : Container) (key : ℕ) (outer : Stack) → Loose (first o key outer)
-unfolding step limitFault
-loose-first array key outer c h name room = (rw h refl, rw h refl)
-loose-first object key outer c h name room = (rw h refl, rw h refl)
-
-loose-nextKey : (around : Stack) → Loose (nextKey around)
-unfolding step limitFault
-loose-nextKey around c h name room = (rw h refl, rw h refl)
-
--- behind a message white space comes first
-space-behind : {text : List ℕ} {p q : ℕ} (ms : Values) → p < q → Running isSpace text p q → Leads text (after (base ms)) p (gap ms) q
-unfolding step limitFault stepAfter
-space-behind {text} {p} {q} ms l r name room =
-    let h = r .passes p (omega arith) l in
-    reads-on text p name room (after (base ms)) (omega (arith, r .upto)) (gap ms) (rw h refl) (rw h refl)
-    ∙ space-leads (gap ms) (loose-gap ms) (record { from = omega arith; upto = r .upto; passes = λ i a b. r .passes i (omega arith) b }) name room
 
 module _ {text : List ℕ} {p q : ℕ} (run : RunTo isSpace text p q) where
   -- no white space behind a message

@@ -4,26 +4,9 @@ use mathlib.Core.Bool.{Bool, true, false, cond}
 use mathlib.Core.List.{List, [], _∷_, List·Permᴰ, List·Permᴰ·nil, List·Permᴰ·cons, List·Permᴰ·swap, List·Permᴰ·trans, Permᴰ·refl, Permᴰ·symm}
 use Prim.Native.Nat.{ℕ, _+_, _≤_}
 use native.Mathlib.Omega.{arith}
-use borrow.Author.Tests.{eqb-true, eq-eqb}
 use Rattle.byte_records.specs.Number.{sameBytes}
-use Rattle.byte_records.proofs.Tests.{and-parts}
+use Rattle.byte_records.proofs.Tests.{same-refl, same-eq}
 use Rattle.counting_theory.specs.Ways.{occurrences}
-
-same-refl : (m : List ℕ) → sameBytes m m ≡ true
-unfolding sameBytes
-same-refl [] = refl
-same-refl (x ∷ m) = rw (eq-eqb x x refl) (same-refl m)
-
-same-eq : (m k : List ℕ) → sameBytes m k ≡ true → m ≡ k
-unfolding sameBytes
-same-eq [] [] h = refl
-same-eq [] (y ∷ k) h = cc
-same-eq (x ∷ m) [] h = cc
-same-eq (x ∷ m) (y ∷ k) h =
-    let p = and-parts _ _ h in
-    let z = eqb-true x y (p .0) in
-    let w = same-eq m k (p .1) in
-    cc
 
 occurs-head : (m : List ℕ) (xs : List (List ℕ)) → 1 ≤ occurrences m (m ∷ xs)
 unfolding occurrences

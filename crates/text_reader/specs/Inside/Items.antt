@@ -12,7 +12,7 @@ use Rattle.json_theory.specs.Book.{bookRecords}
 use Rattle.json_theory.specs.Reader.{fine, faultAt, readFrom}
 use Rattle.json_theory.specs.Inside.Scanning.{byteAt, Breaks}
 use Rattle.text_reader.specs.Inside.Progress.{ItemAt, readsFrom}
-use Rattle.json_items.specs.Items.{ColonTo}
+use Rattle.json_items.specs.Inside.Items.{ColonTo}
 use Rattle.text_reader.specs.Inside.Marks.{markSize, MarksHold}
 use Rattle.text_reader.specs.declared.TextFault.{TextFault}
 use Rattle.text_reader.specs.declared.TextFault.the-variants.{Grammar, Unlisted, Repeated, Deep, Full}

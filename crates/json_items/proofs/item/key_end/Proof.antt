@@ -3,7 +3,7 @@ use mathlib.Core.Path.{subst}
 use mathlib.Core.Bool.{true, false}
 use native.Mathlib.Omega.{arith}
 use borrow.Author.Needs.{needs}
-use Rattle.json_tokens.specs.Tokens.{StringTo, QuotedIs}
+use Rattle.json_tokens.specs.Inside.Tokens.{StringTo, QuotedIs}
 use Rattle.json_items.proofs.Items.{named-found, named-unlisted, named-escaped, named-faulty}
 use Rattle.json_items.proofs.item.key_end.Statement.{statement}
 use Rattle.json_items.proofs.item.key_end.Tie as tie

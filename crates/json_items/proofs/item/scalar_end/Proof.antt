@@ -8,7 +8,7 @@ use Rattle.value_table.specs.Value.{none, value}
 use Rattle.json_theory.specs.Grammar.{headOf}
 use Rattle.json_theory.specs.Parts.{start}
 use Rattle.json_theory.specs.Steps.{add, begin}
-use Rattle.json_items.specs.Items.{ScalarIs}
+use Rattle.json_items.specs.Inside.Items.{ScalarIs}
 use Rattle.json_theory.proofs.Scanning.{byte-inside}
 use Rattle.json_items.proofs.Leads.{lettered}
 use Rattle.json_items.proofs.Items.{word-reads, scalar-number, start-inside}

@@ -2,7 +2,7 @@
 use mathlib.Core.Path.{subst}
 use mathlib.Core.Bool.{true, false}
 use borrow.Author.Needs.{needs}
-use Rattle.json_tokens.specs.Tokens.{StringTo, QuotedIs}
+use Rattle.json_tokens.specs.Inside.Tokens.{StringTo, QuotedIs}
 use Rattle.json_items.proofs.Leads.{string-breaks}
 use Rattle.json_items.proofs.Items.{quote-inside, text-reads}
 use Rattle.json_items.proofs.item.text_end.Statement.{statement}

@@ -2,7 +2,7 @@
 use mathlib.Core.Path.{sym, _∙_, ap}
 use native.Mathlib.Omega.{arith}
 use borrow.Author.Needs.{needs}
-use Rattle.json_tokens.specs.Tokens.{isPlain}
+use Rattle.json_tokens.specs.Inside.Tokens.{isPlain}
 use Rattle.json_theory.proofs.Scanning.{byte-inside}
 use Rattle.json_tokens.proofs.Strings.{escaped-char, plain-char, plain-inside, wide-first}
 use Rattle.json_tokens.proofs.quoted.character_end.Statement.{statement}

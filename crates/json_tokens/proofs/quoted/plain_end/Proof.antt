@@ -5,7 +5,7 @@ use lib.ListN.{length}
 use borrow.Author.Tests.{not-true, not-false}
 use borrow.Author.Needs.{needs}
 use Rattle.json_theory.specs.Inside.Scanning.{Running}
-use Rattle.json_tokens.specs.Tokens.{isPlain}
+use Rattle.json_tokens.specs.Inside.Tokens.{isPlain}
 use Rattle.json_theory.proofs.Scanning.{running-start, running-on, run-out}
 use Rattle.json_tokens.proofs.quoted.plain_end.Statement.{statement}
 use Rattle.json_tokens.proofs.quoted.plain_end.Tie as tie

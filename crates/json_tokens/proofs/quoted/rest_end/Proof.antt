@@ -6,7 +6,7 @@ use native.Mathlib.Omega.{arith}
 use lib.Dec.{eqb}
 use lib.ListN.{length}
 use borrow.Author.Needs.{needs}
-use Rattle.json_tokens.specs.Tokens.{CharIs, CharTo, CharsTo, QuotedIs}
+use Rattle.json_tokens.specs.Inside.Tokens.{CharIs, CharTo, CharsTo, QuotedIs}
 use Rattle.json_theory.proofs.Scanning.{stops-on}
 use Rattle.json_tokens.proofs.Strings.{string-upto, chars-start, chars-on, chars-shut}
 use Rattle.json_tokens.proofs.quoted.rest_end.Statement.{statement}

@@ -4,7 +4,7 @@ use Prim.Native.Nat.{_+_}
 use borrow.Author.Tests.{not-true, not-false}
 use borrow.Author.Needs.{needs}
 use Rattle.json_theory.specs.Parts.{isE}
-use Rattle.json_tokens.specs.Tokens.{isSign}
+use Rattle.json_tokens.specs.Inside.Tokens.{isSign}
 use Rattle.json_tokens.proofs.Numbers.{e-inside, sign-inside, no-exponent, with-sign, without-sign}
 use Rattle.json_tokens.proofs.scan.exponent_end.Statement.{statement}
 use Rattle.json_tokens.proofs.scan.exponent_end.Tie as tie

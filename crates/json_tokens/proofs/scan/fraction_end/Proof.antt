@@ -6,7 +6,7 @@ use borrow.Author.Needs.{needs}
 use Rattle.json_tokens.specs.declared.scan.Scan.the-variants.{Bad}
 use Rattle.json_theory.specs.Parts.{isDigit, point, decimal, mayEnd}
 use Rattle.json_theory.specs.Inside.Scanning.{RunTo, byteAt}
-use Rattle.json_tokens.specs.Tokens.{DigitsIs}
+use Rattle.json_tokens.specs.Inside.Tokens.{DigitsIs}
 use Rattle.json_theory.proofs.Scanning.{byte-inside, goes-on}
 use Rattle.json_tokens.proofs.Numbers.{number-on, no-point, a-point, decimals, decimals-end, no-decimals}
 use Rattle.json_tokens.proofs.scan.fraction_end.Statement.{statement}

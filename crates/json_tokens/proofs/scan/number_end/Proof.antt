@@ -4,7 +4,7 @@ use Prim.Native.Nat.{_+_}
 use native.Mathlib.Omega.{arith}
 use borrow.Author.Needs.{needs}
 use Rattle.json_theory.specs.Inside.Scanning.{byteAt}
-use Rattle.json_tokens.specs.Tokens.{NumberIs}
+use Rattle.json_tokens.specs.Inside.Tokens.{NumberIs}
 use Rattle.json_theory.proofs.Scanning.{byte-inside}
 use Rattle.json_tokens.proofs.Numbers.{start-minus, start-number, unsigned-number}
 use Rattle.json_tokens.proofs.scan.number_end.Statement.{statement}

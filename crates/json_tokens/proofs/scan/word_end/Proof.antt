@@ -4,7 +4,7 @@ use Prim.Native.Nat.{_+_, _-_, _≤_}
 use lib.ListN.{length, drop}
 use borrow.Author.Needs.{needs}
 use Rattle.json_theory.specs.Inside.Scanning.{Goes}
-use Rattle.json_tokens.specs.Tokens.{nextLetter}
+use Rattle.json_tokens.specs.Inside.Tokens.{nextLetter}
 use Rattle.json_tokens.proofs.Numbers.{word-start, word-on, word-stop, word-done}
 use Rattle.json_tokens.proofs.scan.word_end.Statement.{statement}
 use Rattle.json_tokens.proofs.scan.word_end.Tie as tie

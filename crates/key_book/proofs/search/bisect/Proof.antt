@@ -4,7 +4,7 @@ use Prim.Native.Nat.{_-_, _≤_}
 use native.Mathlib.Omega.{arith}
 use borrow.Author.Needs.{needs}
 use Rattle.json_theory.specs.Book.{bookRecords, bookKeys}
-use Rattle.key_book.specs.Records.{OrderIs}
+use Rattle.key_book.specs.Inside.Records.{OrderIs}
 use Rattle.json_theory.specs.Inside.Scanning.{between}
 use Rattle.key_book.proofs.Halving.{Among, among-none}
 use Rattle.key_book.proofs.Matching.{among-all, halve-left, halve-right, halve-found}

@@ -4,7 +4,7 @@ use Prim.Native.Nat.{ℕ, _-_, _<_}
 use native.Mathlib.Omega.{arith}
 use borrow.Author.Tests.{not-true, not-false}
 use borrow.Author.Needs.{needs}
-use Rattle.key_book.specs.Records.{Fine, GoodAt}
+use Rattle.key_book.specs.Inside.Records.{Fine, GoodAt}
 use Rattle.key_book.proofs.GoodBook.{fine-more, book-fine}
 use Rattle.key_book.proofs.validity.good_book.Statement.{statement}
 use Rattle.key_book.proofs.validity.good_book.Tie as tie

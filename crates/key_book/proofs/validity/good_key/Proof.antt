@@ -5,7 +5,7 @@ use native.Mathlib.Omega.{arith}
 use lib.ListN.{drop}
 use borrow.Author.Needs.{needs}
 use Rattle.json_theory.specs.Book.{bookSize, padded, goodRecord}
-use Rattle.key_book.specs.Records.{bookRecord, GapIs}
+use Rattle.key_book.specs.Inside.Records.{bookRecord, GapIs}
 use Rattle.key_book.proofs.GoodBook.{record-length, unfilled, good-start, good-on, good-not, good-end}
 use Rattle.key_book.proofs.validity.good_key.Statement.{statement}
 use Rattle.key_book.proofs.validity.good_key.Tie as tie

@@ -1,7 +1,7 @@
 -- `behind_colon` meets its contract.
 use mathlib.Core.Path.{refl, subst}
 use borrow.Author.Needs.{needs}
-use Rattle.json_items.specs.Items.{ColonIs}
+use Rattle.json_items.specs.Inside.Items.{ColonIs}
 use Rattle.text_reader.proofs.field.behind_colon.Statement.{statement}
 use Rattle.text_reader.proofs.field.behind_colon.Tie as tie
 

@@ -2,7 +2,7 @@
 use mathlib.Core.Path.{subst, sym, _∙_}
 use native.Mathlib.Omega.{arith}
 use borrow.Author.Needs.{needs}
-use Rattle.json_items.specs.Items.{KeyTo, NamedIs}
+use Rattle.json_items.specs.Inside.Items.{KeyTo, NamedIs}
 use Rattle.text_reader.proofs.FieldKey.{key-slot, key-repeated, key-new}
 use Rattle.text_reader.proofs.field.new_key.Statement.{statement}
 use Rattle.text_reader.proofs.field.new_key.Tie as tie

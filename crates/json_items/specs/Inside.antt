@@ -1,0 +1,2 @@
+-- What contracts inside the crates of the reader and their proofs cite, and no public promise.
+pub mod Items
