@@ -4,3 +4,4 @@ pub mod MarksHold
 pub mod Laid
 pub mod NextItem
 pub mod FieldKey
+pub mod Starts

@@ -6,7 +6,8 @@ use Prim.Native.Nat.{ℕ, _≤_}
 use lib.Dec.{eqb}
 use lib.ListN.{length, getD, drop}
 use Rattle.value_table.specs.Value.{Values, none, value}
-use Rattle.json_theory.specs.Grammar.{Container, array, object, closer, isSpace}
+use Rattle.json_theory.specs.Grammar.{Container, array, object, kindOf, closer, isSpace}
+use Rattle.json_theory.specs.Parts.{Start, letters, number, string, open′, nothing}
 use Rattle.json_theory.specs.Steps.{Stack, base, level, State, gap, after, need, first, nextKey}
 use Rattle.json_theory.specs.Book.{keyNumber}
 use Rattle.json_theory.specs.Reader.{depth, written, Reading, readFrom}
@@ -52,3 +53,17 @@ pub record ItemAt (text : List ℕ) (σ : State) (p : ℕ) (around : Stack) (q :
   pub from : p ≤ q
   pub upto : q ≤ length text
   pub byte : isSpace (byteAt text q) ≡ false
+
+-- the state before a value of the innermost level, with its key
+pub data AwaitsValue : State → ℕ → Stack → Type 0 where
+  messageValue : {ms : Values} → AwaitsValue (gap ms) 0 (base ms)
+  firstElement : {key : ℕ} {outer : Stack} → AwaitsValue (first array key outer) 0 (level array key none outer)
+  needed : {key : ℕ} {around : Stack} → AwaitsValue (need key around) key around
+
+-- the kind of the value that a byte begins, or 0
+abbrev pub kindStarted : Start → ℕ
+kindStarted (letters kind l ls) = kind
+kindStarted (number part) = 3
+kindStarted string = 4
+kindStarted (open′ o) = kindOf o
+kindStarted nothing = 0
