@@ -23,7 +23,7 @@ use Rattle.json_items.specs.declared.item.Named.the-variants.{Unlisted, 
 use Rattle.json_theory.proofs.Book.{keys-length, place-below}
 use Rattle.json_theory.proofs.Rx.{false-true}
 use Rattle.json_theory.proofs.Scanning.{byte-none, byte-inside}
-use Rattle.json_tokens.proofs.Strings.{goes-up}
+use Rattle.json_theory.proofs.Scanning.{goes-up}
 use Rattle.json_tokens.proofs.Numbers.{number-inside}
 use Rattle.json_items.proofs.Leads.{string-leads, number-leads, number-breaks, lettered, word-inside, word-leads, word-breaks, space-leads, loose-colon, loose-need, reads-on, reads-fault, reads-end, either-way}
 use Rattle.json_items.proofs.Keys.{key-leads, key-breaks, string-escapes, plain-number, escaped-number}
@@ -66,14 +66,14 @@ module _ (text book : List ℕ) (p q : ℕ) (l : p ≤ length text) where
 
 -- scalars
 pub text-reads : {text : List ℕ} {p q : ℕ} (t : Bool) (around : Stack) → StringTo text p q t → ReadsTo text (inString plain around) p (after around) (To (q + 1))
-text-reads t around s = (string-leads around t s, omega (arith, quote-inside s))
+text-reads t around s = (string-leads around t s, omega (arith, goes-up (s .chars .goes)), omega (arith, quote-inside s))
 
 number-upto : {text : List ℕ} {a b : NumberPart} {p q : ℕ} → Goes nextInNumber text a p b q → p ≤ length text → q ≤ length text
 number-upto here l = l
 number-upto {text} {a} {b} {p} (on {b = d} e g) l = number-upto g (omega (arith, number-inside text a d p e))
 
 pub number-reads : (text : List ℕ) (p : ℕ) (a : NumberPart) (around : Stack) (r : Scan) → p ≤ length text → NumberIs text a p r → ReadsTo text (inNumber a around) p (after around) r
-number-reads text p a around (To q) l n = (number-leads around n, number-upto (n .goes) l)
+number-reads text p a around (To q) l n = (number-leads around n, goes-up (n .goes), number-upto (n .goes) l)
 number-reads text p a around (Bad q) l n = number-breaks around n
 
 word-upto : {text w b : List ℕ} {p q : ℕ} → lettered w ≡ true → Goes nextLetter text w p b q → p ≤ length text → q ≤ length text
@@ -83,7 +83,7 @@ word-upto {text} {w} {p = p} h (on {b = d} e g) l = let i = word-inside text w d
 
 pub word-reads : (text ls : List ℕ) (k p : ℕ) (around : Stack) (r : Scan) → lettered (k ∷ ls) ≡ true → p ≤ length text → ScanIs nextLetter text (k ∷ ls) p [] r →
     ReadsTo text (inLiteral k ls around) p (after around) r
-word-reads text ls k p around (To q) h l g = (word-leads around h g, word-upto h g l)
+word-reads text ls k p around (To q) h l g = (word-leads around h g, goes-up g, word-upto h g l)
 word-reads text ls k p around (Bad q) h l g = word-breaks around h g
 
 -- what else may begin a value

@@ -16,7 +16,8 @@ use Rattle.json_theory.specs.Reader.{keyFault, keyEnds, limitFault, faultAt, fa
 use Rattle.json_theory.specs.Inside.Scanning.{byteAt, Running, Goes, here, on, Stops, between}
 use Rattle.json_tokens.specs.Inside.Tokens.{StringTo}
 use Rattle.json_theory.proofs.Scanning.{byte-none, between-length, between-byte, running-start, running-one, running-to}
-use Rattle.json_tokens.proofs.Strings.{string-inside, string-upto, goes-up}
+use Rattle.json_tokens.proofs.Strings.{string-inside, string-upto}
+use Rattle.json_theory.proofs.Scanning.{goes-up}
 use Rattle.json_theory.specs.Book.{bookKeys, placeOf, keyNumber}
 use Rattle.key_book.specs.Inside.Records.{isFilled}
 use Rattle.json_theory.proofs.Parts.{no-control}

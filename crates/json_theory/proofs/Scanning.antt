@@ -85,3 +85,7 @@ between-length text p q l = omega (arith, length-take (q - p) (drop p text), len
 
 pub between-byte : (text : List ℕ) (p q i : ℕ) → p + i < q → getD (between text p q) i 0 ≡ byteAt text (p + i)
 between-byte text p q i l = getD-take (q - p) (drop p text) i 0 (omega arith) ∙ getD-drop p text i 0
+
+pub goes-up : {P : Type 0} {next : P → ℕ → Turn P} {text : List ℕ} {a b : P} {p q : ℕ} → Goes next text a p b q → p ≤ q
+goes-up here = omega arith
+goes-up (on e h) = omega (arith, goes-up h)

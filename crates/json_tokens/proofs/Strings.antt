@@ -19,7 +19,7 @@ use Rattle.json_tokens.specs.declared.scan.Quoted.the-variants.{Plain, E
 use Rattle.json_theory.proofs.Rx.{false-true}
 use Rattle.byte_records.proofs.Tests.{and-parts}
 use Rattle.json_theory.proofs.Parts.{every, every-at}
-use Rattle.json_theory.proofs.Scanning.{byte-none, byte-inside, running-start, running-one, running-to, running-weaker, goes-one, goes-on, goes-run, stops-here, stops-on}
+use Rattle.json_theory.proofs.Scanning.{byte-none, byte-inside, running-start, running-one, running-to, running-weaker, goes-one, goes-on, goes-run, stops-here, stops-on, goes-up}
 use Rattle.json_tokens.proofs.Tokens.{or-second}
 
 -- the parts of a string as numbers
@@ -135,10 +135,6 @@ string-inside text a b p h = look (ltb p (length text)) refl
 pub string-upto : {text : List ℕ} {a b : StringPart} {p q : ℕ} → Goes nextInString text a p b q → p ≤ length text → q ≤ length text
 string-upto here l = l
 string-upto {text} {a} {b} {p} (on {b = d} e h) l = string-upto h (omega (arith, string-inside text a d p e))
-
-pub goes-up : {text : List ℕ} {a b : StringPart} {p q : ℕ} → Goes nextInString text a p b q → p ≤ q
-goes-up here = omega arith
-goes-up (on e h) = omega (arith, goes-up h)
 
 -- hexadecimal digits
 unfoldable pub hexAfter : ℕ → StringPart

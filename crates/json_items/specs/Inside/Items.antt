@@ -18,7 +18,7 @@ use Rattle.json_items.specs.declared.item.Named.the-variants.{Found, Unl
 
 -- from state σ at byte p a scan leads to state τ, or to fault 12
 abbrev pub ReadsTo : List ℕ → State → ℕ → State → Scan → Type 0
-ReadsTo text σ p τ (To q) = Leads text σ p τ q × (q ≤ length text)
+ReadsTo text σ p τ (To q) = Leads text σ p τ q × (p ≤ q) × (q ≤ length text)
 ReadsTo text σ p τ (Bad q) = Breaks text σ p q
 
 -- a colon with the white space around it leads to the first byte of a value
