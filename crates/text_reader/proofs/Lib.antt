@@ -5,3 +5,4 @@ pub mod Laid
 pub mod NextItem
 pub mod FieldKey
 pub mod Starts
+pub mod ValueRead

@@ -1,23 +1,27 @@
 -- What the functions between two items answer.
 use mathlib.Core.Path.{_≡_}
-use mathlib.Core.Bool.{false, cond}
+use mathlib.Core.Bool.{Bool, false, cond}
 use mathlib.Core.List.{List, [], _∷_}
 use Prim.Native.Nat.{ℕ, _*_, _≤_, _<_}
 use lib.Dec.{ltb}
 use lib.ListN.{length, drop}
-use Rattle.value_table.specs.Value.{Values, maxDepth, maxLength}
-use Rattle.json_theory.specs.Grammar.{isSpace}
-use Rattle.json_theory.specs.Steps.{Stack, base, State, need, colon}
+use Rattle.value_table.specs.Value.{Head, Values, none, value, maxDepth, maxLength}
+use Rattle.json_theory.specs.Grammar.{isSpace, Container, headOf}
+use Rattle.json_theory.specs.Parts.{Start, open′}
+use Rattle.json_theory.specs.Steps.{Stack, base, level, add, State, after, first, need, colon, begin}
 use Rattle.json_theory.specs.Book.{bookRecords}
 use Rattle.json_theory.specs.Reader.{fine, faultAt, readFrom}
-use Rattle.json_theory.specs.Inside.Scanning.{byteAt, Breaks}
-use Rattle.text_reader.specs.Inside.Progress.{ItemAt, readsFrom}
+use Rattle.json_theory.specs.Inside.Scanning.{byteAt, Leads, Breaks}
+use Rattle.text_reader.specs.Inside.Progress.{ItemAt, readsFrom, isObject, kindStarted}
+use Rattle.text_reader.specs.Inside.Laid.{TableHolds}
 use Rattle.json_items.specs.Inside.Items.{ColonTo}
 use Rattle.text_reader.specs.Inside.Marks.{markSize, MarksHold}
 use Rattle.text_reader.specs.declared.TextFault.{TextFault}
 use Rattle.text_reader.specs.declared.TextFault.the-variants.{Grammar, Unlisted, Repeated, Deep, Full}
 use Rattle.text_reader.specs.declared.field.Key.{Key}
 use Rattle.text_reader.specs.declared.field.Key.the-variants.{Found, Wrong}
+use Rattle.text_reader.specs.declared.value.Value.{Value}
+use Rattle.text_reader.specs.declared.value.Value.the-variants.{Scalar, Opened, Refused}
 use Rattle.text_reader.specs.declared.between.Next.{Next}
 use Rattle.text_reader.specs.declared.between.Next.the-variants.{End, Item, Bad}
 
@@ -75,3 +79,33 @@ pub record MarksRow (listed : ℕ) (seen : List ℕ) (d : ℕ) : Type 0 where
   pub room : markSize * (maxDepth * listed) ≤ length seen
   pub small : length seen ≤ 2 * maxLength
   pub level-low : d < maxDepth
+
+-- a scalar has been read up to byte q, and has its record
+pub record ScalarRead (text book table : List ℕ) (room : ℕ) (σ : State) (p key : ℕ) (around : Stack) (q : ℕ) : Type 0 where
+  pub head : Head
+  pub reads : readsFrom text book room σ p ≡ readsFrom text book room (after (add (value head key none none) around)) q
+  pub holds : TableHolds table (add (value head key none none) around)
+
+-- an array or object is open at byte q, and has its record
+pub record OpenRead (text book table : List ℕ) (room : ℕ) (σ : State) (p key : ℕ) (around : Stack) (q : ℕ) (isObj : Bool) : Type 0 where
+  pub container : Container
+  pub is-object : isObj ≡ isObject container
+  pub reads : readsFrom text book room σ p ≡ readsFrom text book room (first container key around) q
+  pub holds : TableHolds table (level container key none around)
+
+abbrev pub ValueIs : (text book table : List ℕ) → ℕ → State → (p key : ℕ) → Stack → Value → Type 0
+ValueIs text book table room σ p key around (Scalar q) = ScalarRead text book table room σ p key around q
+ValueIs text book table room σ p key around (Opened q isObj) = OpenRead text book table room σ p key around q isObj
+ValueIs text book table room σ p key around (Refused why q) = RefusedBy text book room σ p why q
+
+-- where a value has led from byte p on
+abbrev pub ValuePlace : List ℕ → ℕ → Value → Type 0
+ValuePlace text p (Scalar q) = (p < q) × (q ≤ length text)
+ValuePlace text p (Opened q isObj) = (p < q) × (q ≤ length text)
+ValuePlace text p (Refused why q) = Unit {0}
+
+-- behind the first byte of a value, at p
+abbrev pub BegunIs : List ℕ → Start → (p key : ℕ) → Stack → Value → Type 0
+BegunIs text st p key around (Scalar q) = Leads text (begin st key around) p (after (add (value (headOf (kindStarted st)) key none none) around)) q
+BegunIs text st p key around (Opened q isObj) = (o : Container) × (st ≡ open′ o) × (isObj ≡ isObject o) × (q ≡ p)
+BegunIs text st p key around (Refused why q) = (why ≡ Grammar) × Breaks text (begin st key around) p q
