@@ -28,7 +28,7 @@ module _ {text : List ℕ} {p q : ℕ} (run : RunTo isSpace text p q) where
 
   item-gap : (σ : State) (ms : Values) → Leads text σ p (gap ms) q → ItemAt text σ p (base ms) q
   item-gap σ ms l =
-      record { state = gap ms; awaits = message; leads = l; from = run .running .from; upto = run .running .upto; byte = run .fails }
+      record { state = gap ms; awaits = message; leads = l; from = run .running .from; upto = run .running .upto; byte = run .fails; first-open = tt }
 
   ends-gap : (σ : State) (ms : Values) → length text ≤ q → Leads text σ p (gap ms) q → EndsFine text σ p (base ms)
   ends-gap σ ms h l = record { messages = ms; is-base = refl; reads = λ name room. l name room ∙ reads-end text q name room (gap ms) h }
@@ -60,10 +60,10 @@ module _ {text : List ℕ} {p q : ℕ} (run : RunTo isSpace text p q) where
   next-message σ (level o key done outer) behind d n = absurd (omega arith)
 
   -- inside an open value
-  pub next-first : (σ : State) (around : Stack) → Between true σ around → (depth around ≡ 0 → ⊥) → NextIs text σ p around (Item q)
+  pub next-first : (σ : State) (around : Stack) → Between true σ around → (depth around ≡ 0 → ⊥) → StaysOpen around (byteAt text q) → NextIs text σ p around (Item q)
   unfolding depth
-  next-first σ around atStart d = absurd (d refl)
-  next-first σ (level o key none outer) opened d =
+  next-first σ around atStart d c = absurd (d refl)
+  next-first σ (level o key none outer) opened d c =
       record {
         state = first o key outer;
         awaits = firstItem;
@@ -71,6 +71,7 @@ module _ {text : List ℕ} {p q : ℕ} (run : RunTo isSpace text p q) where
         from = run .running .from;
         upto = run .running .upto;
         byte = run .fails;
+        first-open = c;
       }
 
   comma-wrong : (o : Container) (key : ℕ) (done : Values) (outer : Stack) → (byteAt text q ≡ 0x2C → ⊥) → eqb (byteAt text q) (closer o) ≡ false →
@@ -113,6 +114,7 @@ module _ {text : List ℕ} {p q : ℕ} (run : RunTo isSpace text p q) where
           from = omega (arith, run .running .from, more .running .from);
           upto = more .running .upto;
           byte = more .fails;
+          first-open = tt;
         }
     next-comma σ (level object key done outer) behind d =
         record {
@@ -122,4 +124,5 @@ module _ {text : List ℕ} {p q : ℕ} (run : RunTo isSpace text p q) where
           from = omega (arith, run .running .from, more .running .from);
           upto = more .running .upto;
           byte = more .fails;
+          first-open = tt;
         }

@@ -8,7 +8,7 @@ use lib.ListN.{length, getD, drop}
 use Rattle.value_table.specs.Value.{Values, none, value}
 use Rattle.json_theory.specs.Grammar.{Container, array, object, kindOf, closer, isSpace}
 use Rattle.json_theory.specs.Parts.{Start, letters, number, string, open′, nothing}
-use Rattle.json_theory.specs.Steps.{Stack, base, level, State, gap, after, need, first, nextKey}
+use Rattle.json_theory.specs.Steps.{Stack, base, level, State, gap, after, need, first, nextKey, inKey, colon, inString, inNumber, inLiteral, wrong}
 use Rattle.json_theory.specs.Book.{keyNumber}
 use Rattle.json_theory.specs.Reader.{depth, written, Reading, readFrom}
 use Rattle.json_theory.specs.Inside.Scanning.{byteAt, Leads}
@@ -45,6 +45,20 @@ abbrev pub StaysOpen : Stack → ℕ → Type 0
 StaysOpen (base ms) c = Unit {0}
 StaysOpen (level o key done outer) c = eqb c (closer o) ≡ false
 
+-- right behind its bracket the byte c does not shut a value
+abbrev pub FirstOpen : State → ℕ → Type 0
+FirstOpen (gap ms) c = Unit {0}
+FirstOpen (after around) c = Unit {0}
+FirstOpen (need key around) c = Unit {0}
+FirstOpen (first o key outer) c = eqb c (closer o) ≡ false
+FirstOpen (nextKey around) c = Unit {0}
+FirstOpen (inKey part spelled around) c = Unit {0}
+FirstOpen (colon key around) c = Unit {0}
+FirstOpen (inString part around) c = Unit {0}
+FirstOpen (inNumber part around) c = Unit {0}
+FirstOpen (inLiteral l ls around) c = Unit {0}
+FirstOpen wrong c = Unit {0}
+
 -- reading on from state σ at byte p comes to an item at byte q, whose first byte is no white space
 pub record ItemAt (text : List ℕ) (σ : State) (p : ℕ) (around : Stack) (q : ℕ) : Type 0 where
   pub state : State
@@ -53,6 +67,7 @@ pub record ItemAt (text : List ℕ) (σ : State) (p : ℕ) (around : Stack) (q :
   pub from : p ≤ q
   pub upto : q ≤ length text
   pub byte : isSpace (byteAt text q) ≡ false
+  pub first-open : FirstOpen state (byteAt text q)
 
 -- the state before a value of the innermost level, with its key
 pub data AwaitsValue : State → ℕ → Stack → Type 0 where

@@ -12,7 +12,7 @@ returns c σ around b d stays = c .next-message .ensures σ around b (d ∙ c .b
 
 returns-2 : tie.Need-returns-2
 returns-2 c σ around b d stays =
-    next-first (c .before .before .before .pre .1) σ around (rw (c .if2 .taken) at b) (λ e. c .before .if1 .left (sym d ∙ e))
+    next-first (c .before .before .before .pre .1) σ around (rw (c .if2 .taken) at b) (λ e. c .before .if1 .left (sym d ∙ e)) stays
 
 space-end-requires : tie.Need-space-end-requires
 space-end-requires c κs =
