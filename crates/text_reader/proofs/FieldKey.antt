@@ -14,7 +14,7 @@ use Rattle.json_theory.specs.Book.{bookRecords, keyNumber}
 use Rattle.json_theory.specs.Reader.{depth, written, faultAt, limitFault}
 use Rattle.json_items.specs.Inside.Items.{KeyTo}
 use Rattle.text_reader.specs.Inside.Marks.{marksOf, slotOf, Slot, MarksHold}
-use Rattle.text_reader.specs.Inside.Progress.{readsFrom, AwaitsItem, firstItem, field, FirstOpen}
+use Rattle.text_reader.specs.Inside.Progress.{readsFrom, AwaitsItem, firstItem, field, Ready}
 use Rattle.text_reader.specs.Inside.Items.{KeyRead, MarksRow, BehindColon, FieldKeyIs, KeyPlace}
 use Rattle.text_reader.specs.declared.field.Key.{Key}
 use Rattle.text_reader.specs.declared.field.Key.the-variants.{Found, Wrong}
@@ -59,7 +59,7 @@ module _ (text book : List ℕ) (room p : ℕ) where
       reads-on text p (keyNumber book) room (nextKey (level object key done outer)) (byte-inside text p (omega arith)) (inKey plain [] (level object key done outer)) (rw h refl) (rw h refl)
 
   pub no-quote : (key : ℕ) (done : Values) (outer : Stack) (σ : State) → AwaitsItem σ (level object key done outer) → isSpace (byteAt text p) ≡ false →
-      FirstOpen σ (byteAt text p) → (byteAt text p ≡ 0x22 → ⊥) → readsFrom text book room σ p ≡ faultAt 12 p
+      Ready text σ p → (byteAt text p ≡ 0x22 → ⊥) → readsFrom text book room σ p ≡ faultAt 12 p
   unfolding step item limitFault
   no-quote key none outer σ firstItem a b h =
       either-way text p

@@ -6,3 +6,4 @@ pub mod NextItem
 pub mod FieldKey
 pub mod Starts
 pub mod ValueRead
+pub mod ValueAt

@@ -2,11 +2,11 @@
 use mathlib.Core.Path.{_≡_, refl, _∙_}
 use mathlib.Core.Bool.{Bool, true, false, cond}
 use mathlib.Core.List.{List}
-use Prim.Native.Nat.{ℕ, _+_, _≤_}
+use Prim.Native.Nat.{ℕ, _+_, _≤_, _<_}
 use native.Mathlib.Omega.{arith}
 use lib.Dec.{eqb, ltb}
 use lib.ListN.{length}
-use borrow.Author.Tests.{ne-eqb, ltb-false}
+use borrow.Author.Tests.{ne-eqb, ltb-true, ltb-false}
 use Rattle.value_table.specs.Value.{Values, none}
 use Rattle.json_theory.specs.Grammar.{isSpace, Container, array, object, closer}
 use Rattle.json_theory.specs.Steps.{Stack, base, level, State, gap, after, need, first, nextKey, behindComma, stepAfter, step}
@@ -26,9 +26,9 @@ module _ {text : List ℕ} {p q : ℕ} (run : RunTo isSpace text p q) where
       (λ l. reads-fault text q name room (after (base ms)) l (rw (run .fails) refl))
       (λ l. reads-end text q name room (after (base ms)) l))
 
-  item-gap : (σ : State) (ms : Values) → Leads text σ p (gap ms) q → ItemAt text σ p (base ms) q
-  item-gap σ ms l =
-      record { state = gap ms; awaits = message; leads = l; from = run .running .from; upto = run .running .upto; byte = run .fails; first-open = tt }
+  item-gap : (σ : State) (ms : Values) → q < length text → Leads text σ p (gap ms) q → ItemAt text σ p (base ms) q
+  item-gap σ ms i l =
+      record { state = gap ms; awaits = message; leads = l; from = run .running .from; upto = run .running .upto; byte = run .fails; ready = i }
 
   ends-gap : (σ : State) (ms : Values) → length text ≤ q → Leads text σ p (gap ms) q → EndsFine text σ p (base ms)
   ends-gap σ ms h l = record { messages = ms; is-base = refl; reads = λ name room. l name room ∙ reads-end text q name room (gap ms) h }
@@ -46,7 +46,7 @@ module _ {text : List ℕ} {p q : ℕ} (run : RunTo isSpace text p q) where
   gap-found σ ms l = go (ltb q (length text)) refl
     where
       go : (t : Bool) → ltb q (length text) ≡ t → NextIs text σ p (base ms) (cond t (Item q) End)
-      go true e = item-gap σ ms l
+      go true e = item-gap σ ms (ltb-true q (length text) e) l
       go false e = ends-gap σ ms (ltb-false q (length text) e) l
 
   pub next-start : (σ : State) (around : Stack) → Between true σ around → depth around ≡ 0 → NextIs text σ p around (messageOrEnd text q)
@@ -71,7 +71,7 @@ module _ {text : List ℕ} {p q : ℕ} (run : RunTo isSpace text p q) where
         from = run .running .from;
         upto = run .running .upto;
         byte = run .fails;
-        first-open = c;
+        ready = c;
       }
 
   comma-wrong : (o : Container) (key : ℕ) (done : Values) (outer : Stack) → (byteAt text q ≡ 0x2C → ⊥) → eqb (byteAt text q) (closer o) ≡ false →
@@ -114,7 +114,7 @@ module _ {text : List ℕ} {p q : ℕ} (run : RunTo isSpace text p q) where
           from = omega (arith, run .running .from, more .running .from);
           upto = more .running .upto;
           byte = more .fails;
-          first-open = tt;
+          ready = tt;
         }
     next-comma σ (level object key done outer) behind d =
         record {
@@ -124,5 +124,5 @@ module _ {text : List ℕ} {p q : ℕ} (run : RunTo isSpace text p q) where
           from = omega (arith, run .running .from, more .running .from);
           upto = more .running .upto;
           byte = more .fails;
-          first-open = tt;
+          ready = tt;
         }

@@ -8,9 +8,8 @@ use lib.Dec.{eqb}
 use lib.ListN.{length}
 use Rattle.json_theory.specs.Rx.{within}
 use Rattle.json_theory.specs.Grammar.{Container, array, object}
-use Rattle.json_theory.specs.Parts.{NumberPart, minus, nought, whole, Start, letters, number, string, open′, nothing, start}
-use Rattle.json_theory.specs.Steps.{Stack, base}
-use Rattle.value_table.specs.Value.{none}
+use Rattle.json_theory.specs.Parts.{minus, nought, whole, Start, letters, number, string, open′, nothing, start}
+use Rattle.json_theory.specs.Steps.{Stack}
 use Rattle.json_items.specs.Inside.Items.{ScalarIs}
 use Rattle.json_tokens.specs.declared.scan.Scan.the-variants.{To, Bad}
 use Rattle.text_reader.specs.Inside.Progress.{kindStarted}
@@ -20,7 +19,7 @@ use Rattle.text_reader.specs.declared.value.Value.the-variants.{Scalar, 
 
 -- words are null, false and true
 abbrev Told : Start → Type 0
-Told (letters kind l ls) = kind ≤ 2
+Told (letters kind l ls) = (1 ≤ kind) × (kind ≤ 2)
 Told (number part) = Unit {0}
 Told string = Unit {0}
 Told (open′ o) = Unit {0}
@@ -38,9 +37,9 @@ told c = go (eqb c 0x22) (eqb c 0x2D) (eqb c 0x30) (within 0x31 0x39 c) (eqb c 0
     go false false false true f g h i j = tt
     go false false false false true g h i j = tt
     go false false false false false true h i j = tt
-    go false false false false false false true i j = omega arith
-    go false false false false false false false true j = omega arith
-    go false false false false false false false false true = omega arith
+    go false false false false false false true i j = (omega arith, omega arith)
+    go false false false false false false false true j = (omega arith, omega arith)
+    go false false false false false false false false true = (omega arith, omega arith)
     go false false false false false false false false false = tt
 
 opens : (s : Start) → Told s → (o : Container) → kindStarted s ≡ kindStarted (open′ o) → s ≡ open′ o
@@ -59,6 +58,17 @@ opens nothing t object e = absurd (omega arith)
 
 pub starts-open : (c : ℕ) (o : Container) → kindStarted (start c) ≡ kindStarted (open′ o) → start c ≡ open′ o
 starts-open c o e = opens (start c) (told c) o e
+
+none-starts : (s : Start) → Told s → kindStarted s ≡ 0 → s ≡ nothing
+none-starts (letters kind l ls) t e = absurd (omega arith)
+none-starts (number part) t e = absurd (omega arith)
+none-starts string t e = absurd (omega arith)
+none-starts (open′ array) t e = absurd (omega arith)
+none-starts (open′ object) t e = absurd (omega arith)
+none-starts nothing t e = refl
+
+pub starts-nothing : (c : ℕ) → kindStarted (start c) ≡ 0 → start c ≡ nothing
+starts-nothing c e = none-starts (start c) (told c) e
 
 -- a scan of a scalar that has been begun
 module _ (text : List ℕ) (p : ℕ) where

@@ -20,7 +20,7 @@ ghost use Rattle.json_theory.specs.Book.{badBook, bookRecords};
 ghost use Rattle.json_theory.specs.Reader.{depth as depthOf, written};
 ghost use Rattle.json_theory.specs.Inside.Scanning.{byteAt, PlaceIn};
 ghost use Rattle.text_reader.specs.Inside.Marks.{MarksHold};
-ghost use Rattle.text_reader.specs.Inside.Progress.{AwaitsItem, FirstOpen};
+ghost use Rattle.text_reader.specs.Inside.Progress.{AwaitsItem, Ready};
 ghost use Rattle.text_reader.specs.Inside.Items.{NewKeyIs, BehindColon, FieldKeyIs, KeyPlace, MarksRow};
 
 // A key's number and the byte from which the text goes on, or a fault and its byte.
@@ -84,7 +84,7 @@ pub fn field_key(
     requires { ⌜ MarksRow listed (now seen) level × (mark < 65536) ⌝ }
     ensures { λ r. ⌜ KeyPlace (now (text .entry)) at r ⌝ }
     ensures { λ r. ⌜ ((room key : ℕ) (done : Values) (outer : Stack) (σ : State) → AwaitsItem σ (inside object key done outer) →
-        isSpace (byteAt (now (text .entry)) at) ≡ false → FirstOpen σ (byteAt (now (text .entry)) at) →
+        isSpace (byteAt (now (text .entry)) at) ≡ false → Ready (now (text .entry)) σ at →
         depthOf outer ≡ level → written outer + 1 ≡ mark → MarksHold listed (now (seen .entry)) (inside object key done outer) [] →
         FieldKeyIs (now (text .entry)) (now (book .entry)) (now (seen .exit)) room σ at (inside object key done outer) r) ⌝ }
 {

@@ -2,15 +2,23 @@
 use crate::TextFault;
 use json_items::item::scalar_end;
 use json_tokens::scan::Scan;
+use json_tokens::scan::byte_at;
+use value_table::record;
+use value_table::record_store::store_value;
 ghost use mathlib.Core.Path.{_≡_};
-ghost use Prim.Native.Nat.{ℕ, _+_, _≤_, _<_};
+ghost use mathlib.Core.Bool.{false};
+ghost use mathlib.Core.List.{List};
+ghost use Prim.Native.Nat.{ℕ, _+_, _*_, _/_, _≤_, _<_};
 ghost use lib.ListN.{length};
-ghost use Rattle.value_table.specs.Value.{maxLength};
+ghost use Rattle.value_table.specs.Value.{recordSize, maxLength, maxDepth};
+ghost use Rattle.json_theory.specs.Grammar.{isSpace};
+ghost use Rattle.json_theory.specs.Reader.{depth as depthOf, written};
 ghost use Rattle.json_theory.specs.Parts.{start};
-ghost use Rattle.json_theory.specs.Steps.{Stack};
-ghost use Rattle.json_theory.specs.Inside.Scanning.{byteAt};
-ghost use Rattle.text_reader.specs.Inside.Progress.{kindStarted};
-ghost use Rattle.text_reader.specs.Inside.Items.{ValuePlace, BegunIs};
+ghost use Rattle.json_theory.specs.Steps.{Stack, State};
+ghost use Rattle.json_theory.specs.Inside.Scanning.{byteAt, PlaceIn};
+ghost use Rattle.text_reader.specs.Inside.Progress.{kindStarted, AwaitsValue, Ready};
+ghost use Rattle.text_reader.specs.Inside.Laid.{TableHolds};
+ghost use Rattle.text_reader.specs.Inside.Items.{ValuePlace, BegunIs, ValueIs};
 
 // What a value is: a scalar that ends at a byte; an array or object whose content begins there, and whether it is an object; or a fault
 // and its byte.
@@ -68,4 +76,34 @@ fn begun(text: &[u8], at: usize, c: u8, kind: u8) -> Value
         Scan::To(end) => Value::Scalar(end),
         Scan::Bad(place) => Value::Refused(TextFault::Grammar, place),
     }
+}
+
+// The value at `at`, as record `count` of the table with this key, inside `depth` others.
+pub fn value_at(
+    text: &[u8],
+    table: &mut [u8],
+    at: usize,
+    key: usize,
+    count: usize,
+    depth: usize,
+) -> Value
+    requires { ⌜ PlaceIn (now text) at × (length (now table) ≤ maxLength) × (recordSize * count ≤ length (now table)) × (depth ≤ maxDepth) ⌝ }
+    ensures { λ r. ⌜ ValuePlace (now (text .entry)) at r ⌝ }
+    ensures { λ r. ⌜ ((book : List ℕ) (σ : State) (around : Stack) → AwaitsValue σ key around → isSpace (byteAt (now (text .entry)) at) ≡ false →
+        Ready (now (text .entry)) σ at → depthOf around ≡ depth → written around ≡ count → TableHolds (now (table .entry)) around →
+        ValueIs (now (text .entry)) book (now (table .exit)) (length (now (table .entry)) / recordSize) σ at key around r) ⌝ }
+{
+    let c = byte_at(text, at);
+    let kind = kind_of(c);
+    if kind == NOTHING {
+        return Value::Refused(TextFault::Grammar, at);
+    }
+    if depth == record::MAX_DEPTH {
+        return Value::Refused(TextFault::Deep, at);
+    }
+    if table.len() / record::SIZE == count {
+        return Value::Refused(TextFault::Full, at);
+    }
+    store_value(table, count, kind, key);
+    begun(text, at, c, kind)
 }

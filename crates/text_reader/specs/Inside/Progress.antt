@@ -2,7 +2,7 @@
 use mathlib.Core.Path.{_≡_}
 use mathlib.Core.Bool.{Bool, true, false}
 use mathlib.Core.List.{List, []}
-use Prim.Native.Nat.{ℕ, _≤_}
+use Prim.Native.Nat.{ℕ, _≤_, _<_}
 use lib.Dec.{eqb}
 use lib.ListN.{length, getD, drop}
 use Rattle.value_table.specs.Value.{Values, none, value}
@@ -45,19 +45,19 @@ abbrev pub StaysOpen : Stack → ℕ → Type 0
 StaysOpen (base ms) c = Unit {0}
 StaysOpen (level o key done outer) c = eqb c (closer o) ≡ false
 
--- right behind its bracket the byte c does not shut a value
-abbrev pub FirstOpen : State → ℕ → Type 0
-FirstOpen (gap ms) c = Unit {0}
-FirstOpen (after around) c = Unit {0}
-FirstOpen (need key around) c = Unit {0}
-FirstOpen (first o key outer) c = eqb c (closer o) ≡ false
-FirstOpen (nextKey around) c = Unit {0}
-FirstOpen (inKey part spelled around) c = Unit {0}
-FirstOpen (colon key around) c = Unit {0}
-FirstOpen (inString part around) c = Unit {0}
-FirstOpen (inNumber part around) c = Unit {0}
-FirstOpen (inLiteral l ls around) c = Unit {0}
-FirstOpen wrong c = Unit {0}
+-- an item may begin at byte p: a message only before the text's end, and right behind a bracket only what does not shut it again
+abbrev pub Ready : List ℕ → State → ℕ → Type 0
+Ready text (gap ms) p = p < length text
+Ready text (after around) p = Unit {0}
+Ready text (need key around) p = Unit {0}
+Ready text (first o key outer) p = eqb (byteAt text p) (closer o) ≡ false
+Ready text (nextKey around) p = Unit {0}
+Ready text (inKey part spelled around) p = Unit {0}
+Ready text (colon key around) p = Unit {0}
+Ready text (inString part around) p = Unit {0}
+Ready text (inNumber part around) p = Unit {0}
+Ready text (inLiteral l ls around) p = Unit {0}
+Ready text wrong p = Unit {0}
 
 -- reading on from state σ at byte p comes to an item at byte q, whose first byte is no white space
 pub record ItemAt (text : List ℕ) (σ : State) (p : ℕ) (around : Stack) (q : ℕ) : Type 0 where
@@ -67,7 +67,7 @@ pub record ItemAt (text : List ℕ) (σ : State) (p : ℕ) (around : Stack) (q :
   pub from : p ≤ q
   pub upto : q ≤ length text
   pub byte : isSpace (byteAt text q) ≡ false
-  pub first-open : FirstOpen state (byteAt text q)
+  pub ready : Ready text state q
 
 -- the state before a value of the innermost level, with its key
 pub data AwaitsValue : State → ℕ → Stack → Type 0 where
