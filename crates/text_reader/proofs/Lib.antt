@@ -7,3 +7,4 @@ pub mod FieldKey
 pub mod Starts
 pub mod ValueRead
 pub mod ValueAt
+pub mod ItemRead

@@ -1,6 +1,7 @@
 // The reader from JSON text to a value table.
 pub mod between;
 pub mod field;
+pub mod item;
 pub mod key_marks;
 pub mod value;
 

@@ -109,3 +109,19 @@ abbrev pub BegunIs : List ℕ → Start → (p key : ℕ) → Stack → Value �
 BegunIs text st p key around (Scalar q) = Leads text (begin st key around) p (after (add (value (headOf (kindStarted st)) key none none) around)) q
 BegunIs text st p key around (Opened q isObj) = (o : Container) × (st ≡ open′ o) × (isObj ≡ isObject o) × (q ≡ p)
 BegunIs text st p key around (Refused why q) = (why ≡ Grammar) × Breaks text (begin st key around) p q
+
+-- an item has been read: a scalar up to byte q, or an array or object that is open there; it has its record, and its key is marked
+pub record ScalarItem (text book table seen : List ℕ) (room : ℕ) (σ : State) (p : ℕ) (around : Stack) (q : ℕ) : Type 0 where
+  pub key : ℕ
+  pub read : ScalarRead text book table room σ p key around q
+  pub marks : MarksHold (bookRecords book) seen (add (value (read .head) key none none) around) []
+
+pub record OpenItem (text book table seen : List ℕ) (room : ℕ) (σ : State) (p : ℕ) (around : Stack) (q : ℕ) (isObj : Bool) : Type 0 where
+  pub key : ℕ
+  pub read : OpenRead text book table room σ p key around q isObj
+  pub marks : MarksHold (bookRecords book) seen (level (read .container) key none around) []
+
+abbrev pub ItemIs : (text book table seen : List ℕ) → ℕ → State → ℕ → Stack → Value → Type 0
+ItemIs text book table seen room σ p around (Scalar q) = ScalarItem text book table seen room σ p around q
+ItemIs text book table seen room σ p around (Opened q isObj) = OpenItem text book table seen room σ p around q isObj
+ItemIs text book table seen room σ p around (Refused why q) = RefusedBy text book room σ p why q

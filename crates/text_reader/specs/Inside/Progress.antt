@@ -2,7 +2,7 @@
 use mathlib.Core.Path.{_≡_}
 use mathlib.Core.Bool.{Bool, true, false}
 use mathlib.Core.List.{List, []}
-use Prim.Native.Nat.{ℕ, _≤_, _<_}
+use Prim.Native.Nat.{ℕ, _+_, _≤_, _<_}
 use lib.Dec.{eqb}
 use lib.ListN.{length, getD, drop}
 use Rattle.value_table.specs.Value.{Values, none, value}
@@ -82,3 +82,12 @@ kindStarted (number part) = 3
 kindStarted string = 4
 kindStarted (open′ o) = kindOf o
 kindStarted nothing = 0
+
+-- whether the innermost level is an object, and the mark of its record
+abbrev pub inObject : Stack → Bool
+inObject (base ms) = false
+inObject (level o key done outer) = isObject o
+
+abbrev pub markOf : Stack → ℕ
+markOf (base ms) = 0
+markOf (level o key done outer) = written outer + 1
