@@ -63,7 +63,7 @@ module _ (text book table seen : List ℕ) (room : ℕ) (σ : State) (p : ℕ) (
   field-item k q (Opened n isObj) r h =
       record {
         key = k;
-        read = record { container = h .container; is-object = h .is-object; reads = r .reads ∙ h .reads; holds = h .holds };
+        read = record { container = h .container; is-object = h .is-object; reads = r .reads ∙ h .reads; holds = h .holds; shallow = h .shallow };
         marks = marks-open (h .container) k (r .marks);
       }
   field-item k q (Refused why n) r h = r .reads ∙ h

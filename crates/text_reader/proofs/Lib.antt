@@ -8,3 +8,5 @@ pub mod Starts
 pub mod ValueRead
 pub mod ValueAt
 pub mod ItemRead
+pub mod ReadUpTo
+pub mod LoopFacts

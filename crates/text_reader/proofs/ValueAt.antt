@@ -100,5 +100,6 @@ module _ (text book : List ℕ) (room p key : ℕ) (σ : State) (around : Stack)
           is-object = b .2;
           reads = value-reads ∙ rw (e, b .3) refl;
           holds = open-stored o key h i (f ∙ rw e refl);
+          shallow = l;
         }
     value-read table table′ (Refused why q) h i f b = value-reads ∙ b .1 (keyNumber book) room ∙ rw (b .0) refl

@@ -2,16 +2,15 @@
 use json_tokens::scan::byte_at;
 use json_tokens::scan::space_end;
 ghost use mathlib.Core.Path.{_≡_};
-ghost use mathlib.Core.Bool.{false, cond};
+ghost use mathlib.Core.Bool.{false};
 ghost use Prim.Native.Nat.{_≤_};
-ghost use lib.Dec.{eqb};
 ghost use lib.ListN.{length};
 ghost use Rattle.json_theory.specs.Grammar.{isSpace};
 ghost use Rattle.json_theory.specs.Steps.{Stack, State};
 ghost use Rattle.json_theory.specs.Reader.{depth as depthOf};
 ghost use Rattle.json_theory.specs.Inside.Scanning.{byteAt, RunTo};
 ghost use Rattle.value_table.specs.Value.{maxLength};
-ghost use Rattle.text_reader.specs.Inside.Progress.{Between, StaysOpen};
+ghost use Rattle.text_reader.specs.Inside.Progress.{Between, StaysOpen, shuts};
 ghost use Rattle.text_reader.specs.Inside.Items.{NextIs, messageOrEnd};
 
 // What stands between two items: the end of the text, an item, or a byte with which the text cannot go on.
@@ -23,7 +22,7 @@ pub enum Next {
 
 // Whether the byte at `at` shuts the innermost of `depth` open values.
 pub fn closes(text: &[u8], at: usize, depth: usize, object: bool) -> bool
-    ensures { λ r. ⌜ r ≡ cond (eqb depth 0) false (eqb (byteAt (now (text .entry)) at) (cond object 0x7D 0x5D)) ⌝ }
+    ensures { λ r. ⌜ r ≡ shuts depth object (byteAt (now (text .entry)) at) ⌝ }
 {
     if depth == 0 {
         return false;

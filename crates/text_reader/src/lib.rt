@@ -3,6 +3,7 @@ pub mod between;
 pub mod field;
 pub mod item;
 pub mod key_marks;
+pub mod reader;
 pub mod value;
 
 // What is wrong with a text: a byte with which it cannot go on, a key that is not listed or comes again, a value that is too deep, or one

@@ -5,14 +5,14 @@ use mathlib.Core.List.{List, [], _∷_}
 use Prim.Native.Nat.{ℕ, _*_, _≤_, _<_}
 use lib.Dec.{ltb}
 use lib.ListN.{length, drop}
-use Rattle.value_table.specs.Value.{Head, Values, none, value, maxDepth, maxLength}
+use Rattle.value_table.specs.Value.{Head, Values, none, value, size, maxDepth, maxLength}
 use Rattle.json_theory.specs.Grammar.{isSpace, Container, headOf}
 use Rattle.json_theory.specs.Parts.{Start, open′}
-use Rattle.json_theory.specs.Steps.{Stack, base, level, add, State, after, first, need, colon, begin}
+use Rattle.json_theory.specs.Steps.{Stack, base, level, add, State, gap, after, first, need, colon, begin}
 use Rattle.json_theory.specs.Book.{bookRecords}
-use Rattle.json_theory.specs.Reader.{fine, faultAt, readFrom}
+use Rattle.json_theory.specs.Reader.{depth, written, fine, faultAt, readFrom}
 use Rattle.json_theory.specs.Inside.Scanning.{byteAt, Leads, Breaks}
-use Rattle.text_reader.specs.Inside.Progress.{ItemAt, readsFrom, isObject, kindStarted}
+use Rattle.text_reader.specs.Inside.Progress.{ItemAt, readsFrom, isObject, kindStarted, Between, LevelsHold}
 use Rattle.text_reader.specs.Inside.Laid.{TableHolds}
 use Rattle.json_items.specs.Inside.Items.{ColonTo}
 use Rattle.text_reader.specs.Inside.Marks.{markSize, MarksHold}
@@ -20,6 +20,8 @@ use Rattle.text_reader.specs.declared.TextFault.{TextFault}
 use Rattle.text_reader.specs.declared.TextFault.the-variants.{Grammar, Unlisted, Repeated, Deep, Full}
 use Rattle.text_reader.specs.declared.field.Key.{Key}
 use Rattle.text_reader.specs.declared.field.Key.the-variants.{Found, Wrong}
+use Rattle.text_reader.specs.declared.reader.ReadText.{ReadText}
+use Rattle.text_reader.specs.declared.reader.ReadText.the-variants.{Accepted, Faulty}
 use Rattle.text_reader.specs.declared.value.Value.{Value}
 use Rattle.text_reader.specs.declared.value.Value.the-variants.{Scalar, Opened, Refused}
 use Rattle.text_reader.specs.declared.between.Next.{Next}
@@ -92,6 +94,7 @@ pub record OpenRead (text book table : List ℕ) (room : ℕ) (σ : State) (p ke
   pub is-object : isObj ≡ isObject container
   pub reads : readsFrom text book room σ p ≡ readsFrom text book room (first container key around) q
   pub holds : TableHolds table (level container key none around)
+  pub shallow : depth around < maxDepth
 
 abbrev pub ValueIs : (text book table : List ℕ) → ℕ → State → (p key : ℕ) → Stack → Value → Type 0
 ValueIs text book table room σ p key around (Scalar q) = ScalarRead text book table room σ p key around q
@@ -125,3 +128,29 @@ abbrev pub ItemIs : (text book table seen : List ℕ) → ℕ → State → ℕ 
 ItemIs text book table seen room σ p around (Scalar q) = ScalarItem text book table seen room σ p around q
 ItemIs text book table seen room σ p around (Opened q isObj) = OpenItem text book table seen room σ p around q isObj
 ItemIs text book table seen room σ p around (Refused why q) = RefusedBy text book room σ p why q
+
+-- How far the text is read, between two items: the state, the open values, their records and marks, and that reading on from here is
+-- reading the whole text.
+pub record ReadUpTo (text book table seen : List ℕ) (room : ℕ) (records : List ℕ) (objects : List Bool) (p count d : ℕ) (fresh : Bool) : Type 0 where
+  pub state : State
+  pub around : Stack
+  pub between : Between fresh state around
+  pub reads : readsFrom text book room state p ≡ readsFrom text book room (gap none) 0
+  pub place : p ≤ length text
+  pub deep : depth around ≡ d
+  pub shallow : d ≤ maxDepth
+  pub counted : written around ≡ count
+  pub levels : LevelsHold records objects around
+  pub holds : TableHolds table around
+  pub marks : MarksHold (bookRecords book) seen around []
+
+-- the whole text has been read: these are its messages, and the table begins with them
+pub record AllRead (text book table : List ℕ) (room n : ℕ) : Type 0 where
+  pub messages : Values
+  pub reads : readsFrom text book room (gap none) 0 ≡ fine messages
+  pub counted : size messages ≡ n
+  pub holds : TableHolds table (base messages)
+
+abbrev pub ReadIs : (text book table : List ℕ) → ℕ → ReadText → Type 0
+ReadIs text book table room (Accepted n) = AllRead text book table room n
+ReadIs text book table room (Faulty why q) = RefusedBy text book room (gap none) 0 why q

@@ -1,6 +1,6 @@
 -- How far a text has been read, as the loop holds it: the state of the reading between two items, and the open values.
 use mathlib.Core.Path.{_≡_}
-use mathlib.Core.Bool.{Bool, true, false}
+use mathlib.Core.Bool.{Bool, true, false, cond}
 use mathlib.Core.List.{List, []}
 use Prim.Native.Nat.{ℕ, _+_, _≤_, _<_}
 use lib.Dec.{eqb}
@@ -83,11 +83,19 @@ kindStarted string = 4
 kindStarted (open′ o) = kindOf o
 kindStarted nothing = 0
 
--- whether the innermost level is an object, and the mark of its record
+-- whether the innermost level is an object, and the mark of its record, which outside of all is of no use
 abbrev pub inObject : Stack → Bool
 inObject (base ms) = false
 inObject (level o key done outer) = isObject o
 
 abbrev pub markOf : Stack → ℕ
-markOf (base ms) = 0
+markOf (base ms) = 1
 markOf (level o key done outer) = written outer + 1
+
+-- the record of the innermost level, and whether the byte c shuts it
+abbrev pub ownRecord : Stack → ℕ
+ownRecord (base ms) = 0
+ownRecord (level o key done outer) = written outer
+
+abbrev pub shuts : ℕ → Bool → ℕ → Bool
+shuts d isObj c = cond (eqb d 0) false (eqb c (cond isObj 0x7D 0x5D))

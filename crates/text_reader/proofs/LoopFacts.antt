@@ -1,0 +1,80 @@
+-- What the loop over a text looks up about its innermost level.
+use mathlib.Core.Path.{_≡_, refl, sym, _∙_, ap}
+use mathlib.Core.Bool.{Bool, true, false, cond, true≢false}
+use mathlib.Core.List.{List}
+use Prim.Native.Nat.{ℕ, _+_, _*_, _-_, _≤_, _<_}
+use native.Mathlib.Omega.{arith}
+use lib.Dec.{eqb}
+use lib.ListN.{length, getD, length-append}
+use borrow.Author.Tests.{eqb-true, eq-eqb, ne-eqb}
+use Rattle.json_theory.specs.Inside.Scanning.{byteAt}
+use Rattle.json_theory.proofs.Scanning.{byte-inside}
+use Rattle.value_table.specs.Value.{recordSize}
+use Rattle.json_theory.specs.Grammar.{array, object}
+use Rattle.json_theory.specs.Steps.{Stack, base, level}
+use Rattle.json_theory.specs.Reader.{depth, written}
+use Rattle.text_reader.specs.Inside.Laid.{laid, TableHolds}
+use Rattle.text_reader.specs.Inside.Progress.{LevelsHold, StaysOpen, inObject, markOf, ownRecord, shuts}
+use Rattle.text_reader.proofs.Laid.{laid-length}
+
+-- depth d of some open values, counted down by one
+before-last : (d n : ℕ) → n + 1 ≡ d → d - 1 ≡ n
+before-last d n e = omega arith
+
+module _ (records : List ℕ) (objects : List Bool) where
+  pub own-is : (around : Stack) (d : ℕ) → LevelsHold records objects around → depth around ≡ d → cond (eqb d 0) 0 (getD records (d - 1) 0) ≡ ownRecord around
+  unfolding depth
+  own-is (base ms) d h e = rw (eq-eqb d 0 (sym e)) refl
+  own-is (level o key done outer) d h e =
+      let z : d - 1 ≡ depth outer = omega arith in
+      rw (ne-eqb d 0 (λ f. omega arith), z) (h .0)
+
+  pub object-is : (around : Stack) (d : ℕ) → LevelsHold records objects around → depth around ≡ d → cond (eqb d 0) false (getD objects (d - 1) false) ≡ inObject around
+  unfolding depth
+  object-is (base ms) d h e = rw (eq-eqb d 0 (sym e)) refl
+  object-is (level o key done outer) d h e =
+      let z : d - 1 ≡ depth outer = omega arith in
+      rw (ne-eqb d 0 (λ f. omega arith), z) (h .1)
+
+pub own-low : (around : Stack) → ownRecord around ≤ written around
+unfolding written
+own-low (base ms) = omega arith
+own-low (level o key done outer) = omega arith
+
+pub mark-is : (around : Stack) → markOf around ≡ ownRecord around + 1
+mark-is (base ms) = refl
+mark-is (level o key done outer) = refl
+
+pub holds-room : (table : List ℕ) (around : Stack) → TableHolds table around → recordSize * written around ≤ length table
+holds-room table around h = omega (arith, laid-length around, ap length (h .bytes), length-append (laid around) (h .rest))
+
+pub object-deep : (around : Stack) → inObject around ≡ true → 1 ≤ depth around
+unfolding depth
+object-deep (base ms) e = absurd (true≢false (sym e))
+object-deep (level o key done outer) e = omega arith
+
+-- the innermost level is shut, so it has a record; or it stays open
+pub own-inside : (around : Stack) (d c : ℕ) → depth around ≡ d → shuts d (inObject around) c ≡ true → ownRecord around + 1 ≤ written around
+unfolding depth written
+own-inside (base ms) d c e h = absurd (true≢false (sym h ∙ rw (eq-eqb d 0 (sym e)) refl))
+own-inside (level o key done outer) d c e h = omega arith
+
+pub stays-open : (around : Stack) (d c : ℕ) → depth around ≡ d → shuts d (inObject around) c ≡ false → StaysOpen around c
+unfolding depth
+stays-open (base ms) d c e h = tt
+stays-open (level array key done outer) d c e h = rw (ne-eqb d 0 (λ f. omega arith)) at h
+stays-open (level object key done outer) d c e h = rw (ne-eqb d 0 (λ f. omega arith)) at h
+
+pub shut-deep : (around : Stack) (d c : ℕ) → depth around ≡ d → shuts d (inObject around) c ≡ true → 1 ≤ d
+unfolding depth
+shut-deep (base ms) d c e h = absurd (true≢false (sym h ∙ rw (eq-eqb d 0 (sym e)) refl))
+shut-deep (level o key done outer) d c e h = omega arith
+
+-- behind the text nothing is shut
+pub shut-inside : (text : List ℕ) (p d : ℕ) (isObj : Bool) → shuts d isObj (byteAt text p) ≡ true → p < length text
+shut-inside text p d isObj h = byte-inside text p (go (eqb d 0) isObj h)
+  where
+    go : (b t : Bool) → cond b false (eqb (byteAt text p) (cond t 0x7D 0x5D)) ≡ true → 1 ≤ byteAt text p
+    go true t e = absurd (true≢false (sym e))
+    go false true e = omega (arith, eqb-true (byteAt text p) 0x7D e)
+    go false false e = omega (arith, eqb-true (byteAt text p) 0x5D e)
