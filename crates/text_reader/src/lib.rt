@@ -1,5 +1,6 @@
 // The reader from JSON text to a value table.
 pub mod between;
+pub mod call;
 pub mod field;
 pub mod item;
 pub mod key_marks;
