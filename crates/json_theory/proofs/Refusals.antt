@@ -62,6 +62,11 @@ decide-fault zero p r n q h = inl (refl, h)
 decide-fault (suc f) p r n q h = let e : suc f ≡ n = cc in let z : q ≡ p = cc in inr (e, omega arith, z)
 
 module _ (name : List ℕ → ℕ) (room : ℕ) where
+  -- no byte of s has a fault
+  abbrev pub FaultFree : State → List ℕ → Type 0
+  FaultFree σ [] = Unit {0}
+  FaultFree σ (c ∷ s) = (byteFault name room σ c ≡ 0) × FaultFree (step name σ c) s
+
   -- refused with n at place q: the bytes before q have no fault, and byte q has n
   pub record Refused (σ : State) (p : ℕ) (s : List ℕ) (n q : ℕ) : Type 0 where
     pub seen : List ℕ
@@ -69,13 +74,14 @@ module _ (name : List ℕ → ℕ) (room : ℕ) where
     pub parts : s ≡ seen ++ left
     pub place : q ≡ p + length seen
     pub alive : isWrong (run name σ seen) ≡ false
+    pub before : FaultFree σ seen
     pub faulty : FaultOf name room (run name σ seen) left n
 
   pub refused-at : (σ : State) (p : ℕ) (s : List ℕ) (n q : ℕ) → isWrong σ ≡ false → readFrom name room σ p s ≡ faultAt n q → Refused σ p s n q
   unfolding readFrom run
   refused-at σ p [] n q a h =
       let f = finish-fault σ p n q h in
-      record { seen = []; left = []; parts = refl; place = omega (arith, f .1); alive = a; faulty = (f .0, f .2) }
+      record { seen = []; left = []; parts = refl; place = omega (arith, f .1); alive = a; before = tt; faulty = (f .0, f .2) }
   refused-at σ p (c ∷ s) n q a h = go (decide-fault (byteFault name room σ c) p _ n q h) (refused-at (step name σ c) (p + 1) s n q)
     where
       go : ((byteFault name room σ c ≡ 0) × (readFrom name room (step name σ c) (p + 1) s ≡ faultAt n q)) ⊎ ((byteFault name room σ c ≡ n) × (1 ≤ n) × (q ≡ p)) →
@@ -89,9 +95,10 @@ module _ (name : List ℕ → ℕ) (room : ℕ) where
             parts = ap (λ (t : List ℕ). c ∷ t) (r .parts);
             place = omega (arith, r .place);
             alive = r .alive;
+            before = (x .0, r .before);
             faulty = r .faulty;
           }
-      go (inr x) ih = record { seen = []; left = c ∷ s; parts = refl; place = omega (arith, x .2); alive = a; faulty = (x .0, x .1) }
+      go (inr x) ih = record { seen = []; left = c ∷ s; parts = refl; place = omega (arith, x .2); alive = a; before = tt; faulty = (x .0, x .1) }
 
   positive : (σ : State) (left : List ℕ) (n : ℕ) → FaultOf name room σ left n → 1 ≤ n
   positive σ [] n f = omega (arith, f .0)
