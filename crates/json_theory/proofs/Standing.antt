@@ -1,13 +1,12 @@
 -- Where the reader stands in the text, in the grammar's terms: one byte leads to where the next state says.
 use mathlib.Core.Path.{_≡_, refl, sym, _∙_, ap}
-use mathlib.Core.Bool.{Bool, true, false, cond}
+use mathlib.Core.Bool.{Bool, true, cond}
 use mathlib.Core.List.{List, [], _∷_, _++_, append-assoc, append-nil}
 use Prim.Native.Nat.{ℕ, _<_}
 use lib.Dec.{eqb}
 use borrow.Author.Tests.{eqb-true}
 use Rattle.value_table.specs.Value.{Head, Values, none, value, joinValues}
-use Rattle.json_theory.specs.Rx.{Rx, Word}
-use Rattle.json_theory.specs.Inside.Derivative.{rest}
+use Rattle.json_theory.specs.Rx.{Word}
 use Rattle.json_theory.specs.Grammar.{chars, quote, isSpace, Ws, tight, space, Container, array, object, headOf, kindOf, opener, closer, Value, container, Content, nothing, some, Item, element, member, Others, closed, next}
 use Rattle.json_theory.specs.Parts.{Turn, go as goOn, ended, stuck, StringPart, plain, nextInString, NumberPart, nextInNumber, mayEnd, Start, letters, number, string, open′, nothing as noStart, start}
 use Rattle.json_theory.specs.Inside.Remaining.{stringRest, numberRest}
@@ -40,9 +39,10 @@ module _ (name : List ℕ → ℕ) (text : List ℕ) where
 
   -- the last message, element or member of the innermost level ends here
   pub data Ended : Stack → List ℕ → Type 0 where
-    messageEnds : {s t : List ℕ} {head : Head} {ms c : Values} → ItemAt name text (base ms) s → Value name s head c t → Ended (base (joinValues ms (value head 0 c none))) t
+    messageEnds : {s t : List ℕ} {head : Head} {ms c : Values} →
+        ItemAt name text (base ms) s → Value name s head c t → Ended (add (value head 0 c none) (base ms)) t
     itemEnds : {o : Container} {s t : List ℕ} {head : Head} {k key : ℕ} {c done : Values} {outer : Stack} →
-        ItemAt name text (level o key done outer) s → Item name o s head k c t → Ended (level o key (joinValues done (value head k c none)) outer) t
+        ItemAt name text (level o key done outer) s → Item name o s head k c t → Ended (add (value head k c none) (level o key done outer)) t
 
   value-ends : {key : ℕ} {around : Stack} {s t : List ℕ} {head : Head} {c : Values} → ValueAt name text key around s → Value name s head c t →
       Ended (add (value head key c none) around) t
@@ -58,12 +58,13 @@ module _ (name : List ℕ → ℕ) (text : List ℕ) where
       ItemAt name text (level o key done outer) t
   item-follows (itemEnds h i) w = nextItem h i w tight
 
-  -- where the innermost level began, and its content if it ends behind an item that begins here and those that follow it
+  -- where the innermost level began, and what its content is if it ends behind an item that begins here and others
   abbrev Opened : Stack → List ℕ → Type 0
   Opened (base ms) s = Unit {0}
   Opened (level o key done outer) s =
       (x : List ℕ) × ValueAt name text key outer (opener o ∷ x) ×
-      ((head : Head) (k : ℕ) (c vs : Values) (t m : List ℕ) → Item name o s head k c t → Others name o t vs m → Content name o x (joinValues done (value head k c vs)) m)
+      ((head : Head) (k : ℕ) (c vs : Values) (t m : List ℕ) →
+      Item name o s head k c t → Others name o t vs m → Content name o x (joinValues done (value head k c vs)) m)
 
   opened : {around : Stack} {s : List ℕ} → ItemAt name text around s → Opened around s
   unfolding joinValues
@@ -78,7 +79,7 @@ module _ (name : List ℕ → ℕ) (text : List ℕ) where
       Ended (add (value (headOf (kindOf o)) key done none) outer) t
   level-ends (itemEnds {t} {head} {k} {c} h i) w = let x = opened h in value-ends (x .1) (container (x .2 head k c none t _ i (closed w)))
 
-  -- a scalar is the last value of the innermost level, and it ends before each rest of the text for which P holds
+  -- the last value of the innermost level is a scalar that ends wherever P holds of the text behind it
   pub record Within (around : Stack) (P : List ℕ → Type 0) : Type 0 where
     pub key : ℕ
     pub outside : Stack
@@ -88,6 +89,11 @@ module _ (name : List ℕ → ℕ) (text : List ℕ) where
     pub ends : (t : List ℕ) → P t → Value name from head none t
     pub added : add (value head key none none) outside ≡ around
 
+  within-start : {key : ℕ} {around : Stack} {from : List ℕ} {head : Head} {P : List ℕ → Type 0} →
+      ValueAt name text key around from → ((t : List ℕ) → P t → Value name from head none t) → Within (add (value head key none none) around) P
+  within-start {key} {around} {from} {head} v f =
+      record { key = key; outside = around; from = from; head = head; begun = v; ends = f; added = refl }
+
   within-on : {around : Stack} {P Q : List ℕ → Type 0} → Within around P → ((t : List ℕ) → Q t → P t) → Within around Q
   within-on h f =
       record { key = h .key; outside = h .outside; from = h .from; head = h .head; begun = h .begun; ends = λ t q. h .ends t (f t q); added = h .added }
@@ -95,6 +101,7 @@ module _ (name : List ℕ → ℕ) (text : List ℕ) where
   within-ends : {around : Stack} {P : List ℕ → Type 0} (t : List ℕ) → Within around P → P t → Ended around t
   within-ends t h p = rw (h .added) at (value-ends (h .begun) (h .ends t p))
 
+  -- by state
   abbrev pub Stands : State → List ℕ → Type 0
   Stands (gap ms) s = ItemAt name text (base ms) s
   Stands (after around) s = (t : List ℕ) × Ended around t × Ws t s
@@ -117,14 +124,11 @@ module _ (name : List ℕ → ℕ) (text : List ℕ) where
     unfolding begin
     stands-begin key around v = look (start c) (which c) (λ head content m b. value-up name c s small b)
       where
-        look : (st : Start) → Which c st → ((head : Head) (content : Values) (m : List ℕ) → Began name st s head content m → Value name (c ∷ s) head content m) →
-            Stands (begin st key around) s
-        look (letters k l ls) e f =
-            record { key = key; outside = around; from = c ∷ s; head = headOf k; begun = v; ends = λ t p. f (headOf k) none t (refl, refl, p); added = refl }
-        look (number part) e f =
-            record { key = key; outside = around; from = c ∷ s; head = headOf 3; begun = v; ends = λ t p. f (headOf 3) none t (refl, refl, p); added = refl }
-        look string e f =
-            record { key = key; outside = around; from = c ∷ s; head = headOf 4; begun = v; ends = λ t p. f (headOf 4) none t (refl, refl, p); added = refl }
+        look : (st : Start) → Which c st →
+            ((head : Head) (content : Values) (m : List ℕ) → Began name st s head content m → Value name (c ∷ s) head content m) → Stands (begin st key around) s
+        look (letters k l ls) e f = within-start v (λ t p. f (headOf k) none t (refl, refl, p))
+        look (number part) e f = within-start v (λ t p. f (headOf 3) none t (refl, refl, p))
+        look string e f = within-start v (λ t p. f (headOf 4) none t (refl, refl, p))
         look (open′ o) e f = (s, rw e at v, tight)
         look noStart e f = tt
 
