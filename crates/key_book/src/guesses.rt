@@ -41,19 +41,23 @@ pub fn slot_in(text: &[u8], from: usize, to: usize) -> usize
     long_slot(text, from, to)
 }
 
+// How many bytes of x there are up to the last that is not zero.
+fn filled(x: usize) -> usize
+    ensures { λ r. ⌜ r ≤ 8 ⌝ }
+{
+    8 - (u64::leading_zeros(x as u64) as usize) / 8
+}
+
 // Where a key of eight bytes or more ends, whose record begins at p.
 fn long_end(book: &[u8], p: usize) -> usize
     requires { ⌜ p + bookSize ≤ length (now book) ⌝ }
     ensures { λ r. ⌜ (p + 8 ≤ r) × (r ≤ p + bookSize) ⌝ }
 {
-    let mut end = p + 8;
-    while end < p + SIZE {
-        if book[end] == 0 {
-            return end;
-        }
-        end += 1;
-    }
-    end
+    p
+        + 8
+        + filled(number64(book, p + 8))
+        + filled(number64(book, p + 16))
+        + filled(number64(book, p + 24))
 }
 
 // The place for key i.
