@@ -1,4 +1,4 @@
--- A key is compared with the bytes of a text, and found by halving.
+-- A key is compared with the bytes of a text, one by one or as numbers, and found by halving.
 use mathlib.Core.Path.{_≡_, refl, sym, _∙_, ap, subst}
 use mathlib.Core.Bool.{Bool, true, false, cond}
 use mathlib.Core.List.{List, [], _∷_}

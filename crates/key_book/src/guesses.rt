@@ -13,7 +13,7 @@ pub const HINTS: usize = 4096;
 // Among how many places in a row the guess at a key stands.
 pub const TRIES: usize = 8;
 
-// A place among the guesses.
+// A place among the guesses: the product spreads numbers that differ in few bits.
 fn spread(x: usize) -> usize
     ensures { λ r. ⌜ r < places ⌝ }
 {
@@ -21,7 +21,7 @@ fn spread(x: usize) -> usize
     ((folded * 2654435769) >> 26) % HINTS
 }
 
-// The place for a key of eight bytes or more, which stand in a text or a book: by the first, the middle and the last eight.
+// The place for a key of eight bytes or more, in a text or a book: by its first, its middle and its last eight.
 fn long_slot(s: &[u8], from: usize, to: usize) -> usize
     requires { ⌜ (from + 8 ≤ to) × (to ≤ length (now s)) ⌝ }
     ensures { λ r. ⌜ r < places ⌝ }
@@ -30,7 +30,7 @@ fn long_slot(s: &[u8], from: usize, to: usize) -> usize
     spread(number64(s, from) ^ (number64(s, middle) >> 3) ^ (number64(s, to - 8) >> 7))
 }
 
-// Where the guess at the key is that the text has from `from` to `to`.
+// The place for the key that the text has from `from` to `to`.
 pub fn slot_in(text: &[u8], from: usize, to: usize) -> usize
     requires { ⌜ (from ≤ to) × (8 ≤ to) × (to ≤ length (now text)) ⌝ }
     ensures { λ r. ⌜ r < places ⌝ }
@@ -41,7 +41,7 @@ pub fn slot_in(text: &[u8], from: usize, to: usize) -> usize
     long_slot(text, from, to)
 }
 
-// How many bytes of x there are up to the last that is not zero.
+// How many bytes x has up to its last one that is not zero.
 fn filled(x: usize) -> usize
     ensures { λ r. ⌜ r ≤ 8 ⌝ }
 {

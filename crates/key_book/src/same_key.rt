@@ -1,4 +1,4 @@
-// Whether a key is what a text has between two places, by numbers of eight bytes.
+// Whether a key is what a text has between two places, by numbers of eight bytes. A yes is right; a no need not be.
 use crate::validity::SIZE;
 use crate::validity::key_byte;
 use byte_records::little_endian::number64;
@@ -10,7 +10,7 @@ ghost use Rattle.byte_records.specs.Number.{numberAt};
 ghost use Rattle.json_theory.specs.Book.{bookSize};
 ghost use Rattle.key_book.specs.Inside.Records.{bookRecord, HasRecord, Sought, KeyIf};
 
-// The last bytes of the text before `to`, from `from` on, as a number; there are fewer than eight.
+// The bytes of the text from `from` to `to`, fewer than eight, as a number.
 pub fn short_word(text: &[u8], from: usize, to: usize) -> usize
     requires { ⌜ (from ≤ to) × (to < from + 8) × (8 ≤ to) × (to ≤ length (now text)) ⌝ }
     ensures { λ r. ⌜ r ≡ numberAt (to - from) (now (text .entry)) from ⌝ }
