@@ -3,6 +3,8 @@ use crate::TextFault;
 use crate::reader::ReadText;
 use crate::reader::read_messages;
 use byte_records::clearing::clear_from;
+use key_book::guesses::HINTS;
+use key_book::guesses::guesses;
 use key_book::validity;
 use key_book::validity::good_book;
 use value_table::record;
@@ -52,13 +54,14 @@ fn read_marked(text: &[u8], book: &[u8], table: &mut [u8]) -> ReadText
     requires { ⌜ (length (now text) ≤ maxLength) × (length (now book) ≤ maxLength) × (badBook (now book) ≡ false) × (length (now table) ≤ maxLength) ⌝ }
     ensures { λ r. ⌜ ReadIs (now (text .entry)) (now (book .entry)) (now (table .exit)) (length (now (table .entry)) / recordSize) r ⌝ }
 {
-    let listed = book.len() / validity::SIZE;
-    if listed <= FEW_KEYS {
+    let mut hints = [0u16; HINTS];
+    guesses(book, &mut hints);
+    if book.len() / validity::SIZE <= FEW_KEYS {
         let mut seen = [0u8; FEW_MARKS];
-        return read_messages(text, book, table, &mut seen, listed);
+        return read_messages(text, book, &hints, table, &mut seen);
     }
     let mut seen = [0u8; ALL_MARKS];
-    read_messages(text, book, table, &mut seen, listed)
+    read_messages(text, book, &hints, table, &mut seen)
 }
 
 // Whether the length of a text, a book or a table is wrong.

@@ -16,3 +16,10 @@ pub enum TextFault {
     Deep,
     Full,
 }
+
+// The innermost open value: its record, whether it is an object, and how many values are open. Where none is, the record is 0 and no object.
+pub struct Level {
+    record: usize,
+    object: bool,
+    depth: usize,
+}
