@@ -1,5 +1,5 @@
-//! Texts that a reader may stumble over, each tried once: tokens and nesting as long as a text can be, which must not take long either, every
-//! short string, and one text with every form of the grammar, cut and damaged at every byte.
+//! Texts that a reader may stumble over, each tried once: tokens and nesting as long as a text can be, which must not take long
+//! either, every short string, odd keys, and one text with every form of the grammar, cut and damaged at every byte.
 
 use crate::books;
 use crate::calls::Call;
@@ -73,6 +73,7 @@ pub fn compare(case: &mut Case) {
     };
     long(case, &books);
     short_strings(case, &books.small);
+    keys(case);
     every_form(case, &books.small);
 }
 
@@ -133,6 +134,24 @@ fn short_strings(case: &mut Case, book: &[u8]) {
         for second in 0..=255 {
             read(case, &[b'"', first, second, b'"', b'\n'], book, 8);
         }
+    }
+}
+
+/// Keys of every length, and keys that are spelled with an escape though the book has their very bytes.
+fn keys(case: &mut Case) {
+    let escapes = [r"\n", r"\u0061", r"a\t"];
+    let lengths = (0..=33).map(|n| "a".repeat(n));
+    let keys: Vec<String> = escapes
+        .map(String::from)
+        .into_iter()
+        .chain(lengths)
+        .collect();
+    let mut listed = keys.clone();
+    listed.retain(|key| (1..=32).contains(&key.len()));
+    listed.sort();
+    let book = book(listed);
+    for key in keys {
+        read(case, format!("{{\"{key}\":0}} ").as_bytes(), &book, 16);
     }
 }
 
