@@ -10,7 +10,8 @@ extern "C" {
     fn clock() -> i64;
 }
 
-const TIME: Duration = Duration::from_millis(800);
+/// For how long each workload is measured.
+pub const TIME: Duration = Duration::from_millis(800);
 const SAMPLE: Duration = Duration::from_micros(500);
 const FEWEST_ROUNDS: usize = 9;
 

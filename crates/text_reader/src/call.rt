@@ -7,6 +7,7 @@ use key_book::guesses::HINTS;
 use key_book::guesses::guesses;
 use key_book::validity;
 use key_book::validity::good_book;
+use value_table::Answer;
 use value_table::record;
 ghost use mathlib.Core.Path.{_≡_};
 ghost use mathlib.Core.Bool.{false, _||_};
@@ -14,10 +15,11 @@ ghost use Prim.Native.Nat.{_*_, _/_, _≤_, _<_};
 ghost use lib.Dec.{ltb};
 ghost use lib.ListN.{length};
 ghost use Rattle.value_table.specs.Judged.{badLength};
+ghost use Rattle.value_table.specs.Outcome.{outcomeOfAnswer};
 ghost use Rattle.value_table.specs.Value.{maxLength, recordSize};
 ghost use Rattle.json_theory.specs.Book.{badBook, badBookLength};
 ghost use Rattle.json_theory.specs.Reader.{read};
-ghost use Rattle.text_reader.specs.Answer.{readBy, outcomeOfText};
+ghost use Rattle.text_reader.specs.Answer.{readBy, numberOfTextFault, numberOfTextRefusal, outcomeOfText};
 ghost use Rattle.text_reader.specs.Inside.Items.{ReadIs, ReadInFront};
 
 // Why a text is refused: a length, the book, or a fault of the text.
@@ -110,4 +112,44 @@ pub fn read_text(text: &[u8], book: &[u8], table: &mut [u8]) -> TextAnswer
     let answer = read_front(text, book, table);
     clear_from(table, record::SIZE * records_of(answer));
     answer
+}
+
+fn fault_number(fault: TextFault) -> u64
+    ensures { λ r. ⌜ r ≡ numberOfTextFault fault ⌝ }
+{
+    match fault {
+        TextFault::Grammar => 12,
+        TextFault::Unlisted => 13,
+        TextFault::Repeated => 6,
+        TextFault::Deep => 7,
+        TextFault::Full => 11,
+    }
+}
+
+fn refusal_number(why: TextRefusal) -> u64
+    ensures { λ r. ⌜ r ≡ numberOfTextRefusal why ⌝ }
+{
+    match why {
+        TextRefusal::Length => 1,
+        TextRefusal::Book => 14,
+        TextRefusal::Text(fault) => fault_number(fault),
+    }
+}
+
+// An answer as three numbers.
+pub fn answer_of(answer: TextAnswer) -> Answer
+    ensures { λ r. ⌜ outcomeOfAnswer r ≡ outcomeOfText answer ⌝ }
+{
+    match answer {
+        TextAnswer::Read(records) => Answer {
+            number: 0,
+            place: 0,
+            count: records as u64,
+        },
+        TextAnswer::Refused(why, place) => Answer {
+            number: refusal_number(why),
+            place: place as u64,
+            count: 0,
+        },
+    }
 }
