@@ -58,7 +58,7 @@ fn texts(log: &[u8], book: &[u8]) {
     let log = std::str::from_utf8(log).expect("a text in UTF-8");
     let texts = readings::workloads(log, book);
     for text in &texts {
-        readings::compare(text, 500);
+        readings::compare(text, 32);
     }
     readings::report(&texts);
 }

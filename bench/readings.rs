@@ -1,10 +1,10 @@
 //! Call 6, which reads texts, beside a plain reader.
 
 use crate::comparing::{agree, ROOM};
-use crate::pair::{accepted, refused, Buffers, Inputs, Pair, Workload, KIND};
+use crate::pair::{accepted, refused, Buffers, Inputs, Pair, KIND};
 use crate::plain_reader;
 use crate::sequence::Sequence;
-use crate::texts::{self, Text};
+use crate::texts::{self, Texts};
 use crate::timing::{measure, Times, TIME};
 use ct::raw::{self, Answer};
 
@@ -30,15 +30,21 @@ static READ: Pair = Pair {
     plain,
 };
 
-fn workload(text: Text) -> Workload {
+/// The call on several texts with one book.
+pub struct Workload {
+    name: &'static str,
+    inputs: Vec<Inputs>,
+}
+
+fn workload(Texts { name, texts, book }: Texts) -> Workload {
+    let inputs = |text| Inputs {
+        first: text,
+        second: book.clone(),
+        equivalence: KIND,
+    };
     Workload {
-        pair: &READ,
-        name: text.name.to_string(),
-        inputs: Inputs {
-            first: text.text,
-            second: text.book,
-            equivalence: KIND,
-        },
+        name,
+        inputs: texts.into_iter().map(inputs).collect(),
     }
 }
 
@@ -60,24 +66,30 @@ fn damage(bytes: &mut Vec<u8>, sequence: &mut Sequence) {
     bytes.splice(at..end, piece.iter().copied());
 }
 
-/// Both on the workload, in tables around the one that just holds its records, and on damaged forms of the text and of the book.
-pub fn compare(workload: &Workload, turns: usize) {
-    let Workload { pair, name, inputs } = workload;
-    let answer = agree(pair, name, inputs, ROOM, 0);
+/// Both on a text, in tables around the one that just holds its records, and on damaged forms of the text and of the book.
+fn compare_on(name: &str, inputs: &Inputs, turns: usize, sequence: &mut Sequence) {
+    let answer = agree(&READ, name, inputs, ROOM, 0);
     assert_eq!(answer.number, 0, "{name} is not accepted");
     let exact = VALUE * answer.count as usize;
     for room in [exact, exact - VALUE, exact + 1, ROOM + VALUE] {
-        agree(pair, name, inputs, room, 0);
+        agree(&READ, name, inputs, room, 0);
     }
-    let mut sequence = Sequence::new();
     for turn in 0..turns {
         let mut inputs = inputs.clone();
         let bytes = match turn % 8 {
             0 => &mut inputs.second,
             _ => &mut inputs.first,
         };
-        damage(bytes, &mut sequence);
-        agree(pair, name, &inputs, exact, 0);
+        damage(bytes, sequence);
+        agree(&READ, name, &inputs, exact, 0);
+    }
+}
+
+/// Both on all texts of a workload.
+pub fn compare(workload: &Workload, turns: usize) {
+    let mut sequence = Sequence::new();
+    for inputs in &workload.inputs {
+        compare_on(workload.name, inputs, turns, &mut sequence);
     }
 }
 
@@ -88,15 +100,16 @@ pub fn report(workloads: &[Workload]) {
         "call", "text"
     );
     for workload in workloads {
-        let bytes = workload.inputs.first.len() as f64;
+        let lengths = workload.inputs.iter().map(|inputs| inputs.first.len());
+        let bytes = lengths.sum::<usize>() as f64 / workload.inputs.len() as f64;
         let Times {
             proved,
             plain,
             ratio,
-        } = measure(workload, TIME);
+        } = measure(&READ, &workload.inputs, TIME);
         println!(
-            "{:<20}{:<28}{bytes:>7}{:>14.0}{:>16.0}{ratio:>9.2}{:>10.3}{:>10.3}",
-            workload.pair.name,
+            "{:<20}{:<28}{bytes:>7.0}{:>14.0}{:>16.0}{ratio:>9.2}{:>10.3}{:>10.3}",
+            READ.name,
             workload.name,
             1e3 * bytes / proved,
             1e3 * bytes / plain,

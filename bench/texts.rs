@@ -1,4 +1,5 @@
-//! Texts for the workloads of the reader, each with its key book. All of them are accepted with the longest table.
+//! Texts for the workloads of the reader, each with its key book. All of them are accepted with the longest table. A workload has several
+//! texts: a processor learns the branches of one that is read again and again, and a log is read once.
 
 use crate::sequence::{shuffled, Sequence};
 
@@ -7,9 +8,12 @@ const MOST_VALUES: usize = 8_192;
 const MOST_KEYS: usize = 2_048;
 const DEEPEST: usize = 32;
 
-pub struct Text {
+/// How many texts a workload has.
+pub const TEXTS: usize = 16;
+
+pub struct Texts {
     pub name: &'static str,
-    pub text: Vec<u8>,
+    pub texts: Vec<Vec<u8>>,
     pub book: Vec<u8>,
 }
 
@@ -74,10 +78,9 @@ fn indent(out: &mut String, depth: usize) {
 }
 
 /// Strings of so many letters from an alphabet.
-fn strings(alphabet: &str, length: usize) -> Vec<u8> {
+fn strings(alphabet: &str, length: usize, sequence: &mut Sequence) -> Vec<u8> {
     let letters: Vec<&str> = alphabet.split(' ').collect();
-    let mut sequence = Sequence::new();
-    let mut string = move || -> String {
+    let mut string = || -> String {
         let mut letter = || letters[sequence.below(letters.len())];
         (0..length).map(|_| letter()).collect()
     };
@@ -85,9 +88,8 @@ fn strings(alphabet: &str, length: usize) -> Vec<u8> {
 }
 
 /// Arrays of ten numbers of several forms, of eight letters or more with what follows them.
-fn numbers() -> Vec<u8> {
-    let mut sequence = Sequence::new();
-    let mut number = move || {
+fn numbers(sequence: &mut Sequence) -> Vec<u8> {
+    let mut number = || {
         let n = 1_000_000 + sequence.below(9_000_000);
         match n % 4 {
             0 => format!("{n}"),
@@ -96,7 +98,7 @@ fn numbers() -> Vec<u8> {
             _ => format!("{}.{:03}e-{}", n / 1000, n % 1000, n % 17),
         }
     };
-    let mut row = move || (0..10).map(|_| number()).collect::<Vec<_>>().join(",");
+    let mut row = || (0..10).map(|_| number()).collect::<Vec<_>>().join(",");
     lines((0..).map(|_| format!("[{}]", row())))
 }
 
@@ -117,34 +119,57 @@ fn record(keys: &[String]) -> String {
     format!("{{{}}}", fields.join(","))
 }
 
-fn workload(name: &'static str, text: Vec<u8>, book: &[u8]) -> Text {
-    let book = book.to_vec();
-    Text { name, text, book }
+/// A workload whose texts are made one after another from one sequence of numbers.
+fn workload(
+    name: &'static str,
+    book: &[u8],
+    mut text: impl FnMut(&mut Sequence) -> Vec<u8>,
+) -> Texts {
+    let mut sequence = Sequence::new();
+    Texts {
+        name,
+        texts: (0..TEXTS).map(|_| text(&mut sequence)).collect(),
+        book: book.to_vec(),
+    }
 }
 
-/// The sample's text and book, and made ones.
-pub fn workloads(log: &str, book: &[u8]) -> Vec<Text> {
-    let compact = lines(log.lines().map(str::to_string));
-    let pretty = lines(log.lines().map(pretty));
+/// A workload of texts from a long log, each of which begins where the one before ends.
+fn logs(name: &'static str, log: &str, book: &[u8], form: impl Fn(&str) -> String) -> Texts {
+    let mut rest = log.lines().peekable();
+    workload(name, book, |_| {
+        assert!(rest.peek().is_some(), "the log is too short");
+        let mut length = 0;
+        let next = std::iter::from_fn(|| {
+            let message = rest.next_if(|line| length + form(line).len() < LONGEST)?;
+            length += form(message).len() + 1;
+            Some(form(message))
+        });
+        lines(next)
+    })
+}
+
+/// Texts of a log with its book, and made ones.
+pub fn workloads(log: &str, book: &[u8]) -> Vec<Texts> {
     let latin = "a b c d e f g h i j k l m n o p q r s t u v w x y z";
     let wide = "a b c d é ß ж λ 中 文 字 € 𝄞 🚚";
     let escapes = r#"a b \" \\ \/ \b \f \n \r \t \u00e9 \uD834\udd1e"#;
     let keys = many_keys();
     let many = book_of(&keys);
-    let mixed = shuffled(keys);
-    let one_record = lines([record(&mixed)]);
-    let small_records = lines(mixed.chunks(3).cycle().map(record));
+    let mixed = |sequence: &mut Sequence| shuffled(keys.clone(), sequence);
+    let small = |sequence: &mut Sequence| lines(mixed(sequence).chunks(3).cycle().map(record));
     vec![
-        workload("log", compact, book),
-        workload("log, pretty", pretty, book),
-        workload("strings of 100 letters", strings(latin, 100), b""),
-        workload("one string", strings(latin, LONGEST - 3), b""),
-        workload("strings, UTF-8", strings(wide, 100), b""),
-        workload("strings, escapes", strings(escapes, 100), b""),
-        workload("numbers", numbers(), b""),
-        workload("nested arrays", nested("[", "]"), b""),
-        workload("nested records", nested("{\"lane\":", "}"), book),
-        workload("one record of 2,048 keys", one_record, &many),
-        workload("small records, 2,048 keys", small_records, &many),
+        logs("log", log, book, str::to_string),
+        logs("log, pretty", log, book, pretty),
+        workload("strings of 100 letters", b"", |s| strings(latin, 100, s)),
+        workload("one string", b"", |s| strings(latin, LONGEST - 3, s)),
+        workload("strings, UTF-8", b"", |s| strings(wide, 100, s)),
+        workload("strings, escapes", b"", |s| strings(escapes, 100, s)),
+        workload("numbers", b"", numbers),
+        workload("nested arrays", b"", |_| nested("[", "]")),
+        workload("nested records", book, |_| nested("{\"lane\":", "}")),
+        workload("one record of 2,048 keys", &many, |s| {
+            lines([record(&mixed(s))])
+        }),
+        workload("small records, 2,048 keys", &many, small),
     ]
 }
