@@ -9,7 +9,6 @@ use lib.Dec.{T, eqb, ltb}
 use types.Run.{OneOf, hit}
 use mir.Val.{hasKey}
 use borrow.Author.Tests.{ne-eqb, le-ltb, not-true}
-use Rattle.json_theory.specs.Grammar.{isSpace}
 use Rattle.json_theory.specs.Parts.{Turn, isEscape}
 use Rattle.json_theory.specs.Inside.Scanning.{Goes}
 use Rattle.json_tokens.specs.Inside.Tokens.{ScanIs}
@@ -19,9 +18,6 @@ use Rattle.json_theory.proofs.Parts.{every, every-at}
 use Rattle.json_theory.proofs.Rx.{false-true}
 use Rattle.byte_records.proofs.Tests.{and-parts}
 use Rattle.json_theory.proofs.Scanning.{goes-on, stops-on}
-
-pub space-last : (c : ℕ) → (c ≡ 0x20 → ⊥) → (c ≡ 0x09 → ⊥) → (c ≡ 0x0A → ⊥) → eqb c 0x0D ≡ isSpace c
-space-last c a b d = rw (ne-eqb c 0x20 a, ne-eqb c 0x09 b, ne-eqb c 0x0A d) refl
 
 module _ {P : Type 0} {next : P → ℕ → Turn P} {text : List ℕ} where
   pub scan-on : {a b : P} {p q : ℕ} (d : P) → Goes next text a p b q → (r : Scan) → ScanIs next text b q d r → ScanIs next text a p d r

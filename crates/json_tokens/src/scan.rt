@@ -32,16 +32,13 @@ pub fn byte_at(text: &[u8], at: usize) -> u8
 pub fn is_space(c: u8) -> bool
     ensures { λ r. ⌜ r ≡ isSpace c ⌝ }
 {
-    if c == 0x20 {
-        return true;
+    match c {
+        0x20 => true,
+        0x09 => true,
+        0x0A => true,
+        0x0D => true,
+        _ => false,
     }
-    if c == 0x09 {
-        return true;
-    }
-    if c == 0x0A {
-        return true;
-    }
-    c == 0x0D
 }
 
 // The first byte from `from` that is no white space, or the end.
@@ -62,10 +59,10 @@ pub fn space_end(text: &[u8], from: usize) -> usize
 fn is_digit(c: u8) -> bool
     ensures { λ r. ⌜ r ≡ isDigit c ⌝ }
 {
-    if c < 0x30 {
-        return false;
+    match c {
+        0x30..=0x39 => true,
+        _ => false,
     }
-    c <= 0x39
 }
 
 // The end of a run of digits.
@@ -99,19 +96,21 @@ fn some_digits(text: &[u8], from: usize) -> Scan
 fn is_e(c: u8) -> bool
     ensures { λ r. ⌜ r ≡ isE c ⌝ }
 {
-    if c == 0x45 {
-        return true;
+    match c {
+        0x45 => true,
+        0x65 => true,
+        _ => false,
     }
-    c == 0x65
 }
 
 fn is_sign(c: u8) -> bool
     ensures { λ r. ⌜ r ≡ isSign c ⌝ }
 {
-    if c == 0x2B {
-        return true;
+    match c {
+        0x2B => true,
+        0x2D => true,
+        _ => false,
     }
-    c == 0x2D
 }
 
 // An exponent, or nothing, behind a part of a number that may be its end.

@@ -20,6 +20,13 @@ isPlain c = not (eqb c quote) && (not (eqb c 0x5C) && within 0x20 0x7F c)
 abbrev pub isOther : ℕ → Bool
 isOther c = not (eqb c 0x5C)
 
+-- the bytes that may stand behind a lead byte, RFC 3629
+abbrev pub lowestBehind : ℕ → ℕ
+lowestBehind c = cond (eqb c 0xE0) 0xA0 (cond (eqb c 0xF0) 0x90 0x80)
+
+abbrev pub highestBehind : ℕ → ℕ
+highestBehind c = cond (eqb c 0xED) 0x9F (cond (eqb c 0xF4) 0x8F 0xBF)
+
 -- a scan from part a to part b
 abbrev pub ScanIs : {P : Type 0} → (P → ℕ → Turn P) → List ℕ → P → ℕ → P → Scan → Type 0
 ScanIs next text a p b (To q) = Goes next text a p b q
