@@ -18,8 +18,8 @@ use Rattle.json_tokens.specs.declared.scan.Quoted.{Quoted}
 use Rattle.json_tokens.specs.declared.scan.Quoted.the-variants.{Plain, Escaped, Broken}
 use Rattle.byte_records.proofs.Tests.{and-parts}
 use Rattle.json_theory.proofs.Parts.{every, every-at}
-use Rattle.json_theory.proofs.Scanning.{byte-none, byte-inside, running-start, running-one, running-to, running-weaker, goes-one, goes-on, goes-run, stops-here, stops-on, goes-up}
-use Rattle.json_tokens.proofs.Tokens.{or-second}
+use Rattle.json_theory.proofs.Scanning.{byte-inside, running-start, running-one, running-to, running-weaker, goes-one, goes-on, goes-run, stops-here, stops-on, goes-up}
+use Rattle.json_tokens.proofs.Tokens.{goes-inside, goes-upto, or-second}
 
 -- the parts of a string as numbers
 abbrev partCode : StringPart → ℕ
@@ -122,18 +122,10 @@ zero-stuck behindF0 = refl
 zero-stuck behindF4 = refl
 
 pub string-inside : (text : List ℕ) (a b : StringPart) (p : ℕ) → nextInString a (byteAt text p) ≡ go b → p < length text
-string-inside text a b p h = look (ltb p (length text)) refl
-  where
-    look : (t : Bool) → ltb p (length text) ≡ t → p < length text
-    look true e = ltb-true p (length text) e
-    look false e =
-        let z : nextInString a 0 ≡ go b = rw (byte-none text p (ltb-false p (length text) e)) at h in
-        let y = zero-stuck a in
-        absurd (let x : _≡_ {A = ℕ} 0 1 = cc in omega arith)
+string-inside = goes-inside nextInString zero-stuck
 
 pub string-upto : {text : List ℕ} {a b : StringPart} {p q : ℕ} → Goes nextInString text a p b q → p ≤ length text → q ≤ length text
-string-upto here l = l
-string-upto {text} {a} {b} {p} (on {b = d} e h) l = string-upto h (omega (arith, string-inside text a d p e))
+string-upto = goes-upto nextInString zero-stuck
 
 -- hexadecimal digits
 unfoldable pub hexAfter : ℕ → StringPart
