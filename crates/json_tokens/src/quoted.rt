@@ -10,7 +10,7 @@ ghost use Rattle.json_theory.specs.Rx.{within};
 ghost use Rattle.json_theory.specs.Grammar.{quote};
 ghost use Rattle.json_theory.specs.Parts.{goIf, isHex, isEscape, StringPart, plain, escape, hexes4, tails1, tails2, nextInString};
 ghost use Rattle.json_theory.specs.Inside.Scanning.{byteAt, PlaceIn, RunTo};
-ghost use Rattle.json_tokens.specs.Inside.Tokens.{isPlain, ScanIs, TailIs, CharIs, QuotedIs, quotedOf};
+ghost use Rattle.json_tokens.specs.Inside.Tokens.{isPlain, lowestBehind, highestBehind, ScanIs, TailIs, CharIs, QuotedIs, quotedOf};
 
 fn is_hex(c: u8) -> bool
     ensures { λ r. ⌜ r ≡ isHex c ⌝ }
@@ -108,19 +108,37 @@ fn three_end(text: &[u8], from: usize, low: u8, high: u8) -> Scan
     }
 }
 
+// The lowest byte behind the lead byte `c`: the characters that fewer bytes spell are left out.
+fn lowest(c: u8) -> u8
+    ensures { λ r. ⌜ (r ≡ lowestBehind c) × (0x80 ≤ r) ⌝ }
+{
+    match c {
+        0xE0 => 0xA0,
+        0xF0 => 0x90,
+        _ => 0x80,
+    }
+}
+
+// The highest byte behind the lead byte `c`: the surrogates are left out, and what lies above 10FFFF.
+fn highest(c: u8) -> u8
+    ensures { λ r. ⌜ r ≡ highestBehind c ⌝ }
+{
+    match c {
+        0xED => 0x9F,
+        0xF4 => 0x8F,
+        _ => 0xBF,
+    }
+}
+
 // A character of more than one byte.
 fn wide_end(text: &[u8], from: usize, c: u8) -> Scan
     requires { ⌜ PlaceIn (now text) from × (c ≡ byteAt (now text) from) × (0x20 ≤ c → 0x80 ≤ c) ⌝ }
     ensures { λ r. ⌜ CharIs (now (text .entry)) from r ⌝ }
 {
     match c {
-        0xE0 => two_end(text, from + 1, 0xA0, 0xBF),
-        0xED => two_end(text, from + 1, 0x80, 0x9F),
-        0xF0 => three_end(text, from + 1, 0x90, 0xBF),
-        0xF4 => three_end(text, from + 1, 0x80, 0x8F),
         0xC2..=0xDF => tail_end(text, from + 1),
-        0xE1..=0xEF => two_end(text, from + 1, 0x80, 0xBF),
-        0xF1..=0xF3 => three_end(text, from + 1, 0x80, 0xBF),
+        0xE0..=0xEF => two_end(text, from + 1, lowest(c), highest(c)),
+        0xF0..=0xF4 => three_end(text, from + 1, lowest(c), highest(c)),
         _ => Scan::Bad(from),
     }
 }
@@ -128,16 +146,12 @@ fn wide_end(text: &[u8], from: usize, c: u8) -> Scan
 fn is_plain(c: u8) -> bool
     ensures { λ r. ⌜ r ≡ isPlain c ⌝ }
 {
-    if c == 0x22 {
-        return false;
+    match c {
+        0x22 => false,
+        0x5C => false,
+        0x20..=0x7F => true,
+        _ => false,
     }
-    if c == 0x5C {
-        return false;
-    }
-    if c < 0x20 {
-        return false;
-    }
-    c <= 0x7F
 }
 
 // The first byte from `from` that is no plain character of one byte, or the end.
@@ -160,13 +174,11 @@ fn character_end(text: &[u8], at: usize, c: u8) -> Scan
     requires { ⌜ PlaceIn (now text) at × (c ≡ byteAt (now text) at) × (c ≡ quote → ⊥) ⌝ }
     ensures { λ r. ⌜ CharIs (now (text .entry)) at r ⌝ }
 {
-    if c == 0x5C {
-        return escape_end(text, at + 1);
+    match c {
+        0x5C => escape_end(text, at + 1),
+        0x20..=0x7F => Scan::To(at + 1),
+        _ => wide_end(text, at, c),
     }
-    if is_plain(c) {
-        return Scan::To(at + 1);
-    }
-    wide_end(text, at, c)
 }
 
 fn or_escape(escaped: bool, c: u8) -> bool
