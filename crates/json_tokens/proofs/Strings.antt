@@ -6,12 +6,12 @@ use Prim.Native.Nat.{ℕ, zero, suc, _+_, _≤_, _<_}
 use native.Mathlib.Omega.{arith}
 use lib.Dec.{eqb, leb, ltb}
 use lib.ListN.{length}
-use borrow.Author.Tests.{eqb-true, eqb-false, eq-eqb, ne-eqb, ltb-true, ltb-false, le-ltb, leb-true, leb-false, le-leb, not-true}
+use borrow.Author.Tests.{eqb-true, eqb-false, eq-eqb, ne-eqb, ltb-true, ltb-false, le-ltb, leb-true, leb-false, le-leb, lt-leb, not-true}
 use Rattle.json_theory.specs.Rx.{within}
 use Rattle.json_theory.specs.Grammar.{quote}
 use Rattle.json_theory.specs.Parts.{Turn, go, ended, stuck, goIf, StringPart, plain, escape, hexes4, hexes3, hexes2, hexes1, tails3, tails2, tails1, behindE0, behindED, behindF0, behindF4, isHex, isEscape, nextInString}
 use Rattle.json_theory.specs.Inside.Scanning.{byteAt, Running, Goes, here, on, Stops}
-use Rattle.json_tokens.specs.Inside.Tokens.{isPlain, isOther, lowestBehind, highestBehind, ScanIs, TailTo, TailIs, CharTo, CharIs, CharsTo, StringTo, QuotedIs, quotedOf}
+use Rattle.json_tokens.specs.Inside.Tokens.{isPlain, isOther, lowestBehind, highestBehind, widthOf, TailFits, ScanIs, TailTo, TailIs, CharTo, CharIs, CharsTo, StringTo, QuotedIs, quotedOf}
 use Rattle.json_tokens.specs.declared.scan.Scan.{Scan}
 use Rattle.json_tokens.specs.declared.scan.Scan.the-variants.{To, Bad}
 use Rattle.json_tokens.specs.declared.scan.Quoted.{Quoted}
@@ -320,3 +320,48 @@ pub lead-end : (text : List ℕ) (p c low high : ℕ) (b : StringPart) → c ≡
 lead-end text p c low high b e l m f g h r k =
     let z = lead c l m in
     lead-on text (z .part) p (ap (nextInString plain) (sym e) ∙ z .leads) (omega arith) r (k (z .part) (λ x. rw (f, g, ← h) (z .goes x)))
+
+low-behind : (c : ℕ) → 0x80 ≤ lowestBehind c
+low-behind c = look (eqb c 0xE0) (eqb c 0xF0)
+  where
+    look : (s t : Bool) → 0x80 ≤ cond s 0xA0 (cond t 0x90 0x80)
+    look true t = omega arith
+    look false true = omega arith
+    look false false = omega arith
+
+-- a character whose tail fits
+module _ (text : List ℕ) (p c : ℕ) (e : c ≡ byteAt text p) (t : TailFits text p c) where
+  whole-two : 0xC2 ≤ c → c ≤ 0xDF → CharTo text p (p + 2)
+  whole-two l m =
+      let low = ne-eqb c 0xE0 (λ f. omega arith) in
+      let second : within 0x80 0xBF (byteAt text (p + 1)) ≡ true =
+      rw (low, ne-eqb c 0xF0 (λ f. omega arith), ne-eqb c 0xED (λ f. omega arith), ne-eqb c 0xF4 (λ f. omega arith)) at (t .second) in
+      let z : p + 1 + 1 ≡ p + 2 = omega arith in
+      lead-on text tails1 p (ap (nextInString plain) (sym e) ∙ lead-two c l m) (omega arith) (To (p + 2)) (rw z at (tail-last text (p + 1) second))
+
+  whole-three : 0xE0 ≤ c → c ≤ 0xEF → CharTo text p (p + 3)
+  whole-three l m =
+      let y : p + 1 + 1 ≡ p + 2 = omega arith in
+      let z : p + 2 + 1 ≡ p + 3 = omega arith in
+      lead-end text p c (lowestBehind c) (highestBehind c) tails1 e l (omega arith) refl refl (rw (le-leb c 0xEF m) refl) (To (p + 3))
+      (λ a f. within-on text (p + 1) (lowestBehind c) (highestBehind c) a tails1 f (low-behind c) (t .second) (To (p + 3))
+      (rw (y, ← z) (tail-last text (p + 2) (t .third l))))
+
+  whole-four : 0xF0 ≤ c → c ≤ 0xF4 → CharTo text p (p + 4)
+  unfolding nextInString
+  whole-four l m =
+      let x : p + 1 + 1 ≡ p + 2 = omega arith in
+      let y : p + 2 + 1 ≡ p + 3 = omega arith in
+      let z : p + 3 + 1 ≡ p + 4 = omega arith in
+      let last = rw z at (tail-last text (p + 3) (t .fourth l)) in
+      let third = within-on text (p + 2) 0x80 0xBF tails2 tails1 (λ b. refl) (omega arith) (t .third (omega arith)) (To (p + 4)) (rw y last) in
+      lead-end text p c (lowestBehind c) (highestBehind c) tails2 e (omega arith) m refl refl (rw (lt-leb c 0xEF (omega arith)) refl) (To (p + 4))
+      (λ a f. within-on text (p + 1) (lowestBehind c) (highestBehind c) a tails2 f (low-behind c) (t .second) (To (p + 4)) (rw x third))
+
+  pub whole-char : 0xC2 ≤ c → c ≤ 0xF4 → CharTo text p (p + widthOf c)
+  whole-char l m = look (leb c 0xDF) (leb c 0xEF) refl refl
+    where
+      look : (s u : Bool) → leb c 0xDF ≡ s → leb c 0xEF ≡ u → CharTo text p (p + cond s 2 (cond u 3 4))
+      look true u f g = whole-two l (leb-true c 0xDF f)
+      look false true f g = whole-three (omega (arith, leb-false c 0xDF f)) (leb-true c 0xEF g)
+      look false false f g = whole-four (omega (arith, leb-false c 0xEF g)) m

@@ -2,6 +2,10 @@
 use crate::scan::Quoted;
 use crate::scan::Scan;
 use crate::scan::byte_at;
+use crate::tails::highest;
+use crate::tails::lowest;
+use crate::tails::tail_fits;
+use crate::tails::width;
 ghost use mathlib.Core.Path.{_≡_};
 ghost use mathlib.Core.Bool.{true, false, _||_};
 ghost use Prim.Native.Nat.{ℕ, _≤_, _<_};
@@ -108,25 +112,19 @@ fn three_end(text: &[u8], from: usize, low: u8, high: u8) -> Scan
     }
 }
 
-// The lowest byte behind the lead byte `c`: the characters that fewer bytes spell are left out.
-fn lowest(c: u8) -> u8
-    ensures { λ r. ⌜ (r ≡ lowestBehind c) × (0x80 ≤ r) ⌝ }
+// A character whose lead byte, at `from`, is c: by one test of its tail, or byte by byte to the fault.
+fn lead_end(text: &[u8], from: usize, c: u8) -> Scan
+    requires { ⌜ PlaceIn (now text) from × (c ≡ byteAt (now text) from) × (0xC2 ≤ c) × (c ≤ 0xF4) ⌝ }
+    ensures { λ r. ⌜ CharIs (now (text .entry)) from r ⌝ }
 {
-    match c {
-        0xE0 => 0xA0,
-        0xF0 => 0x90,
-        _ => 0x80,
+    if tail_fits(text, from, c) {
+        let end = from + width(c);
+        return Scan::To(end);
     }
-}
-
-// The highest byte behind the lead byte `c`: the surrogates are left out, and what lies above 10FFFF.
-fn highest(c: u8) -> u8
-    ensures { λ r. ⌜ r ≡ highestBehind c ⌝ }
-{
     match c {
-        0xED => 0x9F,
-        0xF4 => 0x8F,
-        _ => 0xBF,
+        0x00..=0xDF => tail_end(text, from + 1),
+        0xE0..=0xEF => two_end(text, from + 1, lowest(c), highest(c)),
+        _ => three_end(text, from + 1, lowest(c), highest(c)),
     }
 }
 
@@ -136,9 +134,7 @@ fn wide_end(text: &[u8], from: usize, c: u8) -> Scan
     ensures { λ r. ⌜ CharIs (now (text .entry)) from r ⌝ }
 {
     match c {
-        0xC2..=0xDF => tail_end(text, from + 1),
-        0xE0..=0xEF => two_end(text, from + 1, lowest(c), highest(c)),
-        0xF0..=0xF4 => three_end(text, from + 1, lowest(c), highest(c)),
+        0xC2..=0xF4 => lead_end(text, from, c),
         _ => Scan::Bad(from),
     }
 }

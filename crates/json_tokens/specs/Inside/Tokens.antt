@@ -2,8 +2,8 @@
 use mathlib.Core.Path.{_≡_}
 use mathlib.Core.Bool.{Bool, true, false, cond, not, _&&_, _||_}
 use mathlib.Core.List.{List, [], _∷_}
-use Prim.Native.Nat.{ℕ, _≤_, _<_}
-use lib.Dec.{eqb}
+use Prim.Native.Nat.{ℕ, _+_, _≤_, _<_}
+use lib.Dec.{eqb, leb}
 use Rattle.json_theory.specs.Rx.{within}
 use Rattle.json_theory.specs.Grammar.{quote}
 use Rattle.json_theory.specs.Parts.{Turn, go, ended, stuck, goIf, StringPart, plain, nextInString, NumberPart, point, e, power, isDigit, isE, nextInNumber, mayEnd}
@@ -26,6 +26,16 @@ lowestBehind c = cond (eqb c 0xE0) 0xA0 (cond (eqb c 0xF0) 0x90 0x80)
 
 abbrev pub highestBehind : ℕ → ℕ
 highestBehind c = cond (eqb c 0xED) 0x9F (cond (eqb c 0xF4) 0x8F 0xBF)
+
+-- how many bytes a character has by its lead byte
+abbrev pub widthOf : ℕ → ℕ
+widthOf c = cond (leb c 0xDF) 2 (cond (leb c 0xEF) 3 4)
+
+-- the bytes behind the lead byte c at p are those that it asks for
+pub record TailFits (text : List ℕ) (p c : ℕ) : Type 0 where
+  pub second : within (lowestBehind c) (highestBehind c) (byteAt text (p + 1)) ≡ true
+  pub third : 0xE0 ≤ c → within 0x80 0xBF (byteAt text (p + 2)) ≡ true
+  pub fourth : 0xF0 ≤ c → within 0x80 0xBF (byteAt text (p + 3)) ≡ true
 
 -- a scan from part a to part b
 abbrev pub ScanIs : {P : Type 0} → (P → ℕ → Turn P) → List ℕ → P → ℕ → P → Scan → Type 0

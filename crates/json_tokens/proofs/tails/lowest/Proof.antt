@@ -2,8 +2,8 @@
 use mathlib.Core.Path.{refl}
 use borrow.Author.Tests.{ne-eqb}
 use borrow.Author.Needs.{needs}
-use Rattle.json_tokens.proofs.quoted.lowest.Statement.{statement}
-use Rattle.json_tokens.proofs.quoted.lowest.Tie as tie
+use Rattle.json_tokens.proofs.tails.lowest.Statement.{statement}
+use Rattle.json_tokens.proofs.tails.lowest.Tie as tie
 
 returns : tie.Need-returns
 returns c = (rw (c .match .keys1) refl, search needs)

@@ -1,8 +1,8 @@
 -- `highest` meets its contract.
 use mathlib.Core.Path.{refl}
 use borrow.Author.Tests.{ne-eqb}
-use Rattle.json_tokens.proofs.quoted.highest.Statement.{statement}
-use Rattle.json_tokens.proofs.quoted.highest.Tie as tie
+use Rattle.json_tokens.proofs.tails.highest.Statement.{statement}
+use Rattle.json_tokens.proofs.tails.highest.Tie as tie
 
 returns : tie.Need-returns
 returns c = rw (c .match .keys1) refl
