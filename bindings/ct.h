@@ -97,7 +97,7 @@ struct ct_answer ct_merge(const uint8_t *first, size_t first_length, const uint8
  * no difference.
  *
  * `text` and `book` point to bytes that nobody writes during the call. The table overlaps neither. None of the three is null, even for
- * length 0. */
+ * length 0. The call takes 141 KiB of the caller's stack. */
 struct ct_answer ct_read_text(const uint8_t *text, size_t text_length, const uint8_t *book, size_t book_length, uint8_t *table,
                               size_t table_length);
 

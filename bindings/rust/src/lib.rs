@@ -142,7 +142,7 @@ pub fn merge(
 ///
 /// A key's number is its place in the book, counted from 1. The book is 32-byte records, a key's 1 to 32 bytes and then zeros,
 /// in ascending order. The table may hold any bytes; accepted, it is zero behind the records, refused, all of it is. The text is
-/// read from the left, and the first fault decides.
+/// read from the left, and the first fault decides. The call takes 141 KiB of stack.
 pub fn read_text(text: &[u8], book: &[u8], table: &mut [u8]) -> Result<usize, Refusal> {
     raw::read_text(text, book, table).result_of_text()
 }
