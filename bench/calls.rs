@@ -1,4 +1,6 @@
 //! Compares and times the calls of the library against plain Rust of the same rules.
+//!
+//! Arguments: the files with a log, as a value table and as text, and with its key book; then `texts` to time the reading of texts only.
 
 mod arena;
 mod comparing;
@@ -9,8 +11,12 @@ mod merges;
 mod pair;
 mod plain_inference;
 mod plain_merge;
+mod plain_reader;
+mod plain_tokens;
+mod readings;
 mod sequence;
 mod tables;
+mod texts;
 mod timing;
 mod type_validator;
 mod types;
@@ -38,13 +44,30 @@ fn compare(workloads: &[Workload], turns: usize) {
     }
 }
 
-fn main() {
-    let path = std::env::args().nth(1).expect("the path of a log");
-    let log = std::fs::read(path).expect("a log to read");
-    let largest = workloads(8192, &log);
-    compare(&workloads(100, &log), 20_000);
+fn types(log: &[u8]) {
+    let largest = workloads(8192, log);
+    compare(&workloads(100, log), 20_000);
     compare(&largest, 10);
     timing::report(&largest);
     println!();
-    growth::report(|kib| writers(128 * kib, &log));
+    growth::report(|kib| writers(128 * kib, log));
+    println!();
+}
+
+fn texts(log: &[u8], book: &[u8]) {
+    let log = std::str::from_utf8(log).expect("a text in UTF-8");
+    let texts = readings::workloads(log, book);
+    for text in &texts {
+        readings::compare(text, 32);
+    }
+    readings::report(&texts);
+}
+
+fn main() {
+    let arguments: Vec<String> = std::env::args().skip(1).collect();
+    let file = |i: usize| std::fs::read(&arguments[i]).expect("a file that can be read");
+    if arguments.get(3).map(String::as_str) != Some("texts") {
+        types(&file(0));
+    }
+    texts(&file(1), &file(2));
 }

@@ -17,7 +17,7 @@ fn used_buffers(arena: usize, work: usize) -> Buffers {
 }
 
 /// The answer of both.
-fn agree(pair: &Pair, name: &str, inputs: &Inputs, arena: usize, work: usize) -> Answer {
+pub fn agree(pair: &Pair, name: &str, inputs: &Inputs, arena: usize, work: usize) -> Answer {
     let mut of_proved = used_buffers(arena, work);
     let mut of_plain = used_buffers(arena, work);
     let answer = (pair.proved)(inputs, &mut of_proved);

@@ -1,7 +1,6 @@
 //! How the time of a call grows with its inputs, from 1 KiB to 64 KiB.
 
 use crate::pair::Workload;
-use crate::timing::measure;
 use std::time::Duration;
 
 const TIME: Duration = Duration::from_millis(120);
@@ -19,7 +18,7 @@ pub fn report(of_kib: impl Fn(usize) -> Vec<Workload>) {
     line("call", "microseconds of ct", heads);
     let columns: Vec<_> = sizes.map(of_kib).collect();
     for (i, Workload { pair, name, .. }) in columns[0].iter().enumerate() {
-        let times: Vec<_> = columns.iter().map(|c| measure(&c[i], TIME)).collect();
+        let times: Vec<_> = columns.iter().map(|c| c[i].measure(TIME)).collect();
         let microseconds = times.iter().map(|t| format!("{:.1}", t.proved / 1e3));
         line(pair.name, name, microseconds);
         let ratios = times.iter().map(|t| format!("{:.2}", t.ratio));

@@ -2,7 +2,7 @@
 
 use crate::pair::{accepted, refused, Buffers, Inputs, Pair, Workload, KIND, LABEL};
 use crate::plain_inference;
-use crate::sequence::shuffled;
+use crate::sequence::{shuffled, Sequence};
 use crate::tables::{
     fifty_shapes, fifty_varied, first_messages, matrices, messages, nested, one_field_shapes,
     varied, with_keys,
@@ -77,7 +77,7 @@ pub fn workloads(n: usize, log: &[u8]) -> Vec<Workload> {
         ("matrices", matrices(n / 21)),
         ("fields ascending", with_keys(1..=f)),
         ("fields descending", with_keys((1..=f).rev())),
-        ("fields mixed", with_keys(shuffled(1..=f))),
+        ("fields mixed", with_keys(shuffled(1..=f, &mut Sequence::new()))),
         ("many shapes", one_field_shapes((n / 6) as u16)),
     ];
     let mut workloads = vec![workload(&INFER_DEFAULT, "messages", KIND, &tables[0].1)];

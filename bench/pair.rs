@@ -21,7 +21,8 @@ pub fn refused(number: u64, place: usize) -> Answer {
 pub const KIND: u64 = 0;
 pub const LABEL: u64 = 1;
 
-/// What a call reads. Only a merge has a second input, and the judge of tables asks for no equivalence.
+/// What a call reads. Only a merge and a reader of texts have a second input, another type or the book. The judge of tables and the reader
+/// ask for no equivalence.
 #[derive(Clone)]
 pub struct Inputs {
     pub first: Vec<u8>,
@@ -29,7 +30,7 @@ pub struct Inputs {
     pub equivalence: u64,
 }
 
-/// What a call writes. Only an inference has a working buffer, and the judges have no arena.
+/// What a call writes. Only an inference has a working buffer, and the judges have no arena; the reader's is a table.
 #[derive(PartialEq)]
 pub struct Buffers {
     pub arena: Vec<u8>,
@@ -42,7 +43,7 @@ pub struct Pair {
     pub name: &'static str,
     /// The size of a record of the inputs.
     pub size: usize,
-    /// Whether the call writes a type.
+    /// Whether the call writes to the arena.
     pub writes: bool,
     pub proved: Call,
     pub plain: Call,

@@ -18,9 +18,8 @@ impl Sequence {
 }
 
 /// The same items in a mixed order.
-pub fn shuffled<T>(items: impl IntoIterator<Item = T>) -> Vec<T> {
+pub fn shuffled<T>(items: impl IntoIterator<Item = T>, sequence: &mut Sequence) -> Vec<T> {
     let mut items: Vec<T> = items.into_iter().collect();
-    let mut sequence = Sequence::new();
     for i in (1..items.len()).rev() {
         items.swap(i, sequence.below(i + 1));
     }

@@ -100,7 +100,7 @@ fn fifty(n: usize, mut kind: impl FnMut() -> u8) -> Vec<u8> {
         let keys = (0..8).map(move |j| 3 + (start + 5 * j) % 100);
         with_scalars((1..=2).chain(keys), &mut kind)
     };
-    shuffled(0..n).into_iter().flat_map(shape).collect()
+    shuffled(0..n, &mut Sequence::new()).into_iter().flat_map(shape).collect()
 }
 
 /// Such messages with numbers.
@@ -117,7 +117,7 @@ pub fn fifty_varied(n: usize) -> Vec<u8> {
 /// n messages of one field with different keys, three times each, in a mixed order.
 pub fn one_field_shapes(n: u16) -> Vec<u8> {
     let keys = (1..=n).chain(1..=n).chain(1..=n);
-    let shapes = shuffled(keys).into_iter().map(|key| with_keys([key]));
+    let shapes = shuffled(keys, &mut Sequence::new()).into_iter().map(|key| with_keys([key]));
     shapes.flatten().collect()
 }
 

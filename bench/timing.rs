@@ -1,7 +1,7 @@
 //! Times a call of the library and the same call in plain Rust, in rounds that alternate so that noise meets both.
 
 use crate::comparing::ROOM;
-use crate::pair::{Buffers, Call, Inputs, Workload};
+use crate::pair::{Buffers, Call, Inputs, Pair, Workload};
 use std::hint::black_box;
 use std::time::{Duration, Instant};
 
@@ -10,7 +10,8 @@ extern "C" {
     fn clock() -> i64;
 }
 
-const TIME: Duration = Duration::from_millis(800);
+/// For how long each workload is measured.
+pub const TIME: Duration = Duration::from_millis(800);
 const SAMPLE: Duration = Duration::from_micros(500);
 const FEWEST_ROUNDS: usize = 9;
 
@@ -27,12 +28,15 @@ fn nanoseconds() -> f64 {
     1e3 * unsafe { clock() } as f64
 }
 
-fn time(call: Call, inputs: &Inputs, buffers: &mut Buffers, turns: u32) -> f64 {
+/// A turn is a call on each of the inputs.
+fn time(call: Call, inputs: &[Inputs], buffers: &mut Buffers, turns: u32) -> f64 {
     let start = nanoseconds();
     for _ in 0..turns {
-        black_box(call(black_box(inputs), black_box(buffers)));
+        for one in inputs {
+            black_box(call(black_box(one), black_box(buffers)));
+        }
     }
-    (nanoseconds() - start) / f64::from(turns)
+    (nanoseconds() - start) / f64::from(turns) / inputs.len() as f64
 }
 
 fn median(samples: impl Iterator<Item = f64>) -> f64 {
@@ -41,21 +45,22 @@ fn median(samples: impl Iterator<Item = f64>) -> f64 {
     samples[samples.len() / 2]
 }
 
-/// How often a call is made in a sample, by the shortest of three runs of it; the clock shows no less than a microsecond.
-fn turns(mut run: impl FnMut() -> f64) -> u32 {
-    let once = run().min(run()).min(run()).max(1e3);
+/// How many turns of n calls a sample has, by the shortest of three runs of one; the clock shows no less than a microsecond.
+fn turns(n: usize, mut run: impl FnMut() -> f64) -> u32 {
+    let once = n as f64 * run().min(run()).min(run()).max(1e3);
     (SAMPLE.as_nanos() as f64 / once).max(1.0) as u32
 }
 
 /// Takes rounds for a time.
-pub fn measure(workload: &Workload, time_for: Duration) -> Times {
+pub fn measure(pair: &Pair, inputs: &[Inputs], time_for: Duration) -> Times {
     let mut buffers = Buffers {
         arena: vec![0; ROOM],
         work: vec![0; ROOM],
     };
-    let mut run = |call, turns| time(call, &workload.inputs, &mut buffers, turns);
-    let (proved, plain) = (workload.pair.proved, workload.pair.plain);
-    let turns = (turns(|| run(proved, 1)), turns(|| run(plain, 1)));
+    let mut run = |call, turns| time(call, inputs, &mut buffers, turns);
+    let (proved, plain) = (pair.proved, pair.plain);
+    let n = inputs.len();
+    let turns = (turns(n, || run(proved, 1)), turns(n, || run(plain, 1)));
     let start = Instant::now();
     let mut rounds = Vec::new();
     while rounds.len() < FEWEST_ROUNDS || start.elapsed() < time_for {
@@ -74,6 +79,12 @@ pub fn measure(workload: &Workload, time_for: Duration) -> Times {
     }
 }
 
+impl Workload {
+    pub fn measure(&self, time_for: Duration) -> Times {
+        measure(self.pair, std::slice::from_ref(&self.inputs), time_for)
+    }
+}
+
 /// One table of all the workloads.
 pub fn report(workloads: &[Workload]) {
     println!(
@@ -86,7 +97,7 @@ pub fn report(workloads: &[Workload]) {
             proved,
             plain,
             ratio,
-        } = measure(workload, TIME);
+        } = workload.measure(TIME);
         println!(
             "{:<20}{:<28}{records:>7}{:>14.2}{:>16.2}{ratio:>9.2}{:>10.3}{:>10.3}",
             workload.pair.name,

@@ -11,18 +11,22 @@ extern "C" {
 
 /* Why a call refuses its input; CT_ACCEPTED where it does not. */
 #define CT_ACCEPTED 0
-#define CT_LENGTH 1      /* a length that is no multiple of its record size (8 in a table, 16 in a type), or above 65,536; or a
-                            working buffer that is not as long as the arena */
+#define CT_LENGTH 1      /* a length that is no multiple of its record size (8 in a table, 16 in a type, 32 in a key book; a text
+                            has none), or above 65,536; or a working buffer that is not as long as the arena */
 #define CT_EQUIVALENCE 2 /* an equivalence that is neither 0 nor 1 */
 #define CT_KIND 3        /* kind not 1 to 6, or byte 1 not zero */
 #define CT_SPAN 4        /* span 0; beyond the end of the parent or of the table; over 1 for kinds 1 to 4 */
 #define CT_KEY 5         /* key 0 in a field, or not 0 elsewhere */
-#define CT_REPEAT 6      /* a key seen earlier in the same record */
-#define CT_DEPTH 7       /* depth 33 */
+#define CT_REPEAT 6      /* a key seen earlier in the same record; in a text, at its closing quote */
+#define CT_DEPTH 7       /* depth 33; in a text, at the first byte of the value */
 #define CT_FIRST_TYPE 8  /* the first or only type is not well formed */
 #define CT_SECOND_TYPE 9 /* the second type is not well formed */
 #define CT_TOTAL 10      /* a total of the merged type is above 1,000,000,000,000,000 */
-#define CT_ROOM 11       /* the resulting type has more records than the arena */
+#define CT_ROOM 11       /* the resulting type has more records than the arena; in a text, at the first byte of a value for which the
+                            table has no room */
+#define CT_GRAMMAR 12    /* a byte with which the text cannot go on, or the end of a text that is not finished */
+#define CT_UNLISTED 13   /* a key that the book does not have, or that is spelled with an escape, at its closing quote */
+#define CT_BOOK 14       /* the key book is a bad one */
 
 /* The equivalences: the class of a record is its kind alone, or its kind with its keys. */
 #define CT_BY_KIND 0
@@ -79,6 +83,23 @@ struct ct_answer ct_judge_type(const uint8_t *bytes, size_t length, uint64_t equ
  * None of the three is null, even for length 0. */
 struct ct_answer ct_merge(const uint8_t *first, size_t first_length, const uint8_t *second, size_t second_length,
                           uint64_t equivalence, uint8_t *arena, size_t arena_length);
+
+/* Reads the messages of a JSON text (RFC 8259, UTF-8 by RFC 3629) into the table, with the numbers that a key book gives to keys.
+ *
+ * The book is 32-byte records: a key's 1 to 32 bytes, none of them zero, then zeros. Keys ascend by bytes, without repeats, and a key's
+ * number is its place counted from 1. The text is optional white space, then messages, each with at least one white-space byte
+ * behind it; it has at most 65,536 bytes. A surrogate that is escaped without its partner is accepted.
+ *
+ * Accepted, the count is the number of value records, which stand in the front of the table in the order of the text; the rest of the
+ * table is zero. Refused, the whole table is zero, and the place is 0 for CT_LENGTH and CT_BOOK, else a byte of the text, counted
+ * from 0, or the text's length. The lengths come first, then the book, then the text from the left: the first fault decides. At one
+ * byte CT_GRAMMAR comes before CT_DEPTH and that before CT_ROOM, and CT_UNLISTED before CT_REPEAT. What the table held before makes
+ * no difference.
+ *
+ * `text` and `book` point to bytes that nobody writes during the call. The table overlaps neither. None of the three is null, even for
+ * length 0. The call takes 141 KiB of the caller's stack. */
+struct ct_answer ct_read_text(const uint8_t *text, size_t text_length, const uint8_t *book, size_t book_length, uint8_t *table,
+                              size_t table_length);
 
 #ifdef __cplusplus
 }

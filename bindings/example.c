@@ -1,23 +1,17 @@
-/* Infers a type from the nine-record example of document 01, merges it with itself, and prints both. */
+/* Reads three messages, the example of document 01, from JSON text, infers their type, merges it with itself, and prints the types. */
 #include "ct.h"
 
 #include <inttypes.h>
 #include <stdio.h>
 
-enum { RECORD = 16, ARENA = 7 * RECORD };
+enum { VALUE = 8, TABLE = 16 * VALUE, RECORD = 16, ARENA = 7 * RECORD };
 
-/* {1: number, 2: [number, number]}, {1: null}, {2: []} */
-static const uint8_t table[] = {
-    5, 0, 0, 0, 5, 0, 0, 0, /* a record of five value records, itself included */
-    3, 0, 1, 0, 1, 0, 0, 0, /* key 1: a number */
-    6, 0, 2, 0, 3, 0, 0, 0, /* key 2: an array */
-    3, 0, 0, 0, 1, 0, 0, 0, /* its first element, a number */
-    3, 0, 0, 0, 1, 0, 0, 0, /* its second */
-    5, 0, 0, 0, 2, 0, 0, 0, /* a record */
-    1, 0, 1, 0, 1, 0, 0, 0, /* key 1: null */
-    5, 0, 0, 0, 2, 0, 0, 0, /* a record */
-    6, 0, 2, 0, 1, 0, 0, 0, /* key 2: an empty array */
-};
+/* A key's number is its place in the book, from 1; the keys ascend. */
+static const uint8_t book[][32] = {"lane", "weights"};
+
+static const char text[] = "{\"lane\": 3, \"weights\": [412, 415.5]}\n"
+                           "{\"lane\": null}\n"
+                           "{\"weights\": []}\n";
 
 static uint64_t number(const uint8_t *bytes, size_t length)
 {
@@ -42,20 +36,28 @@ static void print_type(const uint8_t *type, uint64_t records)
 
 int main(void)
 {
-    uint8_t type[ARENA], work[ARENA], merged[ARENA];
+    uint8_t table[TABLE], type[ARENA], work[ARENA], merged[ARENA];
 
-    print_answer("judge the table", ct_judge_table(table, sizeof table));
+    /* A string's end is no part of the text. */
+    struct ct_answer answer = ct_read_text((const uint8_t *)text, sizeof text - 1, book[0], sizeof book, table, TABLE);
+    print_answer("read the text", answer);
 
-    struct ct_answer answer = ct_infer_default(table, sizeof table, type, ARENA, work, ARENA);
+    /* A table, like a type, is just the records in use. */
+    size_t length = answer.count * VALUE;
+    print_answer("judge the table", ct_judge_table(table, length));
+
+    answer = ct_infer_default(table, length, type, ARENA, work, ARENA);
     print_answer("infer under the default", answer);
     print_type(type, answer.count);
 
-    /* A merge is given just the records in use; here that is the whole arena. */
-    size_t length = answer.count * RECORD;
-    answer = ct_merge(type, length, type, length, CT_BY_KIND, merged, ARENA);
+    size_t used = answer.count * RECORD;
+    answer = ct_merge(type, used, type, used, CT_BY_KIND, merged, ARENA);
     print_answer("merge with itself", answer);
     print_type(merged, answer.count);
 
-    print_answer("infer under label", ct_infer(table, sizeof table, CT_BY_LABEL, type, ARENA, work, ARENA));
+    print_answer("infer under label", ct_infer(table, length, CT_BY_LABEL, type, ARENA, work, ARENA));
+
+    /* The second key alone: `lane` is not listed, and its closing quote is byte 6. */
+    print_answer("read with half of the book", ct_read_text((const uint8_t *)text, sizeof text - 1, book[1], sizeof book[1], table, TABLE));
     return 0;
 }

@@ -1,14 +1,19 @@
-"""Writes the sample log: messages of scanners, scales and diverters as a value table, and the list of its keys.
+"""Writes the sample log: messages of scanners, scales and diverters as a value table, the list of its keys, and the same messages as JSON
+text, a line each, with a key book.
 
 The stored files were made by: python3 sample/make.py sample
 A second argument gives another number of messages.
 """
+import json
 import struct
 import sys
 
 NULL, BOOLEAN, NUMBER, STRING, RECORD, ARRAY = range(1, 7)
-KEYS = """device sequence lane code symbology quality candidates weight unit stable samples target fired timing command
+# As in the key book, where a key's number is its place.
+KEYS = sorted(
+    """device sequence lane code symbology quality candidates weight unit stable samples target fired timing command
 confirm faults""".split()
+)
 MESSAGES = 400
 
 
@@ -84,10 +89,15 @@ def value(content, key=0):
 
 def main(folder, messages=MESSAGES):
     numbers = Numbers(1)
+    log = [message(i, numbers) for i in range(int(messages))]
     with open(f"{folder}/log.table", "wb") as table:
-        table.write(b"".join(value(message(i, numbers)) for i in range(int(messages))))
+        table.write(b"".join(value(content) for content in log))
     with open(f"{folder}/keys.txt", "w", encoding="ascii") as keys:
         keys.writelines(f"{number} {name}\n" for number, name in enumerate(KEYS, 1))
+    with open(f"{folder}/log.json", "w", encoding="ascii") as text:
+        text.writelines(json.dumps(content, separators=(",", ":")) + "\n" for content in log)
+    with open(f"{folder}/keys.book", "wb") as book:
+        book.write(b"".join(name.encode().ljust(32, b"\0") for name in KEYS))
 
 
 main(*sys.argv[1:])

@@ -1,7 +1,7 @@
-//! Brings the messages of one log together in several ways, and says whether all of them end in the same bytes. `tests/ways.py` says
-//! which bytes.
+//! Reads a log from JSON text, brings its messages together in several ways, and says whether all of them end in the same bytes.
+//! `tests/ways.py` says which bytes.
 //!
-//! Argument: the file with the log, a value table.
+//! Arguments: the files with the log, as a value table and as text, and with the key book.
 
 use ct::{Equivalence, Refusal};
 use std::collections::VecDeque;
@@ -187,11 +187,22 @@ fn compare(log: &[u8], fixed: Fixed) -> bool {
     same || refused
 }
 
+/// The value table of a text.
+fn table(text: &[u8], book: &[u8]) -> Vec<u8> {
+    let mut table = vec![0; LONGEST];
+    let records = ct::read_text(text, book, &mut table).expect("a text that call 6 accepts");
+    table.truncate(VALUE * records);
+    table
+}
+
 fn main() {
-    let path = std::env::args().nth(1).expect("the file with the log");
-    let log = std::fs::read(&path).expect("a file that can be read");
+    let paths: Vec<String> = std::env::args().skip(1).collect();
+    let file = |i: usize| std::fs::read(&paths[i]).expect("a file that can be read");
+    let (log, text, book) = (file(0), file(1), file(2));
     let count = ct::judge_table(&log).expect("a table that call 1 accepts");
-    println!("{path}: {count} messages\n");
+    println!("{}: {count} messages", paths[0]);
+    assert!(table(&text, &book) == log, "{} is another table", paths[1]);
+    println!("{}: {} bytes, the same table\n", paths[1], text.len());
     let mut alike = true;
     for (equivalence, arena) in [
         (Equivalence::Kind, LONGEST),

@@ -1,6 +1,6 @@
 """What sample/ways.rs must print for a log, from the map of places to counts (inferences.py): every way ends in the log's profile.
 
-Run by tests/run: python3 tests/ways.py sample/log.table
+Run by tests/run: python3 tests/ways.py sample/log.table sample/log.json
 """
 import struct
 import sys
@@ -41,10 +41,11 @@ def lines(log, count, name, equivalence, arena):
 
 
 if __name__ == "__main__":
-    path = sys.argv[1]
+    path, text = sys.argv[1:]
     log = Path(path).read_bytes()
     records = list(struct.iter_unpack("<BBHI", log))
     count = len(list(runs(records, 0, len(records))))
-    print(f"{path}: {count} messages\n")
+    print(f"{path}: {count} messages")
+    print(f"{text}: {Path(text).stat().st_size} bytes, the same table\n")
     for name, equivalence, arena in ("Kind", KIND, LARGEST), ("Label", LABEL, LARGEST), ("Label", LABEL, 16 * 64):
         print("\n".join(lines(log, count, name, equivalence, arena)))

@@ -1,10 +1,11 @@
-//! The five calls: what each must answer and leave in the buffers lent to it, by its inputs.
+//! The calls: what each must answer and leave in the buffers lent to it, by its inputs.
 
+use crate::json;
 use crate::profile::{passes_limit, profile, sum, Equivalence};
 use crate::types;
 use crate::value::{self, is_length, Fault};
 
-/// A call with its inputs. `arena` and `work` are the lengths of the buffers.
+/// A call with its inputs. `arena` and `work` are the lengths of the buffers, and so is the `table` that a text is read into.
 pub enum Call<'a> {
     JudgeTable {
         table: &'a [u8],
@@ -30,9 +31,14 @@ pub enum Call<'a> {
         equivalence: u64,
         arena: usize,
     },
+    ReadText {
+        text: &'a [u8],
+        book: &'a [u8],
+        table: usize,
+    },
 }
 
-/// The answer, and every byte of the buffers.
+/// The answer, and every byte of the buffers. A text is read into the arena.
 #[derive(PartialEq)]
 pub struct Outcome {
     pub number: u64,
@@ -46,7 +52,7 @@ pub struct Outcome {
 type Accepted = (usize, Vec<u8>);
 
 impl Call<'_> {
-    /// Document 01's number of the call.
+    /// The number of the call: 1 to 5 are document 01's.
     pub fn number(&self) -> usize {
         match self {
             Call::JudgeTable { .. } => 1,
@@ -54,6 +60,7 @@ impl Call<'_> {
             Call::InferDefault { .. } => 3,
             Call::JudgeType { .. } => 4,
             Call::Merge { .. } => 5,
+            Call::ReadText { .. } => 6,
         }
     }
 
@@ -79,6 +86,7 @@ impl Call<'_> {
                 equivalence,
                 arena,
             } => settle(merge(first, second, equivalence, arena), arena, 0),
+            Call::ReadText { text, book, table } => read_text(text, book, table),
         }
     }
 }
@@ -143,4 +151,15 @@ fn fit(bytes: Vec<u8>, arena: usize) -> Result<Accepted, Fault> {
         return Err((11, 0));
     }
     Ok((bytes.len() / types::SIZE, bytes))
+}
+
+fn read_text(text: &[u8], book: &[u8], table: usize) -> Outcome {
+    let read = json::read(text, book, table);
+    Outcome {
+        number: read.number,
+        place: read.place,
+        count: read.count,
+        arena: read.table,
+        work: Vec::new(),
+    }
 }

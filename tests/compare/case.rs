@@ -12,7 +12,16 @@ pub struct Case<'a> {
     pub tally: &'a mut Tally,
 }
 
-impl Case<'_> {
+impl<'a> Case<'a> {
+    pub fn new(seed: u64, index: u64, tally: &'a mut Tally) -> Case<'a> {
+        Case {
+            seed,
+            index,
+            random: Random::new(seed, index),
+            tally,
+        }
+    }
+
     /// The outcome of a call, which the library and the reference must agree on.
     pub fn call(&mut self, call: Call) -> Outcome {
         let expected = call.expected();
@@ -71,6 +80,9 @@ fn show_call(call: &Call) -> String {
             hex(first),
             hex(second)
         ),
+        Call::ReadText { text, book, table } => {
+            format!("text {}\nbook {}\ntable {table}\n", hex(text), hex(book))
+        }
     };
     format!("call {}\n{inputs}", call.number())
 }

@@ -79,6 +79,7 @@ pub fn run(call: &Call, random: &mut Random) -> Result<Outcome, &'static str> {
             equivalence,
             arena,
         } => merge([first, second], equivalence, arena, random),
+        Call::ReadText { text, book, table } => read_text([text, book], table, random),
     }
 }
 
@@ -151,6 +152,24 @@ fn merge(
     first.kept()?;
     second.kept()?;
     Ok(outcome(answer, arena.written()?, Vec::new()))
+}
+
+fn read_text(
+    inputs: [&[u8]; 2],
+    table: usize,
+    random: &mut Random,
+) -> Result<Outcome, &'static str> {
+    let [text, book] = inputs.map(|bytes| Lent::holding(random, bytes));
+    let mut table = Lent::random(random, table);
+    let (t, b, into) = (text.content(), book.content(), table.content_mut());
+    let answer = if random.one_in(2) {
+        answer(ct::read_text(t, b, into))
+    } else {
+        raw::read_text(t, b, into)
+    };
+    text.kept()?;
+    book.kept()?;
+    Ok(outcome(answer, table.written()?, Vec::new()))
 }
 
 /// The equivalence for the safe form of a call, which is used half of the time.

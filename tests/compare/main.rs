@@ -1,23 +1,32 @@
-//! Compares the library with a separately written implementation of document 01, on random cases.
+//! Compares the library with a separately written implementation of documents 01 and 02, on random cases and on texts that are tried
+//! once each. Every second case has a text beside the other calls.
 //!
 //! Arguments: the number of cases, the seed, and the first case's number (to see one case again).
 
+mod book;
+mod books;
 mod calls;
 mod case;
 mod counted;
 mod damage;
+mod extremes;
+mod json;
 mod library;
 mod messages;
 mod profile;
 mod random;
 mod single;
 mod tally;
+mod text_damage;
+mod texts;
+mod tokens;
 mod types;
 mod value;
 mod ways;
+mod words;
+mod writer;
 
 use case::Case;
-use random::Random;
 use tally::Tally;
 
 fn main() {
@@ -30,12 +39,7 @@ fn main() {
     let first = numbers.next().unwrap_or(0);
     let mut tally = Tally::default();
     for index in first..first + cases {
-        run(&mut Case {
-            seed,
-            index,
-            random: Random::new(seed, index),
-            tally: &mut tally,
-        });
+        run(&mut Case::new(seed, index, &mut tally));
     }
     tally.print();
     let missing = tally.missing();
@@ -44,6 +48,9 @@ fn main() {
         std::process::exit(1);
     }
     println!("{cases} cases of seed {seed}: no difference");
+    let mut once = Tally::default();
+    extremes::compare(&mut Case::new(seed, 0, &mut once));
+    println!("{} texts tried once each: no difference", once.calls());
 }
 
 fn run(case: &mut Case) {
@@ -53,5 +60,8 @@ fn run(case: &mut Case) {
         5..=7 => single::two_types(case),
         8 => ways::ways(case),
         _ => ways::merges(case),
+    }
+    if case.index % 2 == 0 {
+        single::text(case);
     }
 }

@@ -1,4 +1,4 @@
-//! Cases of single calls: tables for calls 1 to 3, types for call 4, pairs of types for call 5.
+//! Cases of single calls: tables for calls 1 to 3, types for call 4, pairs of types for call 5, texts for call 6.
 
 use crate::calls::Call;
 use crate::case::Case;
@@ -7,6 +7,7 @@ use crate::damage::damaged;
 use crate::messages::{fill, messages, Shape};
 use crate::profile::{profile, sum, Equivalence};
 use crate::random::Random;
+use crate::texts::{self, Inputs};
 use crate::value::LONGEST;
 use crate::{types, value};
 
@@ -81,6 +82,15 @@ pub fn two_types(case: &mut Case) {
         second: if same { &first } else { &second },
         equivalence,
         arena,
+    });
+}
+
+pub fn text(case: &mut Case) {
+    let Inputs { text, book, table } = texts::inputs(&mut case.random);
+    case.call(Call::ReadText {
+        text: &text,
+        book: &book,
+        table,
     });
 }
 

@@ -1,29 +1,37 @@
 //! Counts how often each call and each way answered each number. A number that can occur must.
 
 /// The rows of ways over tables and of merge trees over types; a call's row has its number.
-pub const WAY: usize = 6;
-pub const MERGES: usize = 7;
+pub const WAY: usize = 7;
+pub const MERGES: usize = 8;
 
-const ROWS: [(&str, &[u64]); 7] = [
+/// One more than the largest number that a call answers.
+const NUMBERS: usize = 15;
+
+const ROWS: [(&str, &[u64]); 8] = [
     ("1 judge a table", &[0, 1, 3, 4, 5, 6, 7]),
     ("2 infer", &[0, 1, 2, 3, 4, 5, 6, 7, 11]),
     ("3 infer, default", &[0, 1, 3, 4, 5, 6, 7, 11]),
     ("4 judge a type", &[0, 1, 2, 8]),
     ("5 merge", &[0, 1, 2, 8, 9, 10, 11]),
+    ("6 read a text", &[0, 1, 6, 7, 11, 12, 13, 14]),
     ("ways", &[0, 11]),
     ("merge trees", &[0, 10, 11]),
 ];
 
 #[derive(Default)]
-pub struct Tally([[u64; 12]; ROWS.len()]);
+pub struct Tally([[u64; NUMBERS]; ROWS.len()]);
 
 impl Tally {
     pub fn add(&mut self, row: usize, number: u64) {
         self.0[row - 1][number as usize] += 1;
     }
 
+    pub fn calls(&self) -> u64 {
+        self.0.iter().flatten().sum()
+    }
+
     pub fn print(&self) {
-        let columns: String = (0..12).map(|number| format!("{number:>8}")).collect();
+        let columns: String = (0..NUMBERS).map(|number| format!("{number:>8}")).collect();
         println!("{:<18}{columns}", "");
         for ((name, _), counts) in ROWS.iter().zip(&self.0) {
             let columns: String = counts.iter().map(|count| format!("{count:>8}")).collect();

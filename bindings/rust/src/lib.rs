@@ -3,8 +3,8 @@
 //! The directory of libct.a is a library search path of the compiler: `rustc -L native=target/staticlib`, or for cargo
 //! `RUSTFLAGS="-L native=$PWD/target/staticlib"`. The archive becomes part of this crate's rlib.
 //!
-//! Layouts, places and the profile are document 01's. No call keeps anything, and each answer depends on its inputs alone.
-//! Lengths are looked at first, then the equivalence, then the bytes.
+//! Layouts, places and the profile are document 01's, texts and key books those of change 1. No call keeps anything, and each
+//! answer depends on its inputs alone. Lengths are looked at first, then the equivalence or the book, then the bytes.
 
 pub mod raw;
 
@@ -17,11 +17,11 @@ pub enum Equivalence {
     Label = 1,
 }
 
-/// Why a call refuses its input. A `place` is the value record with the fault, counted from 0.
+/// Why a call refuses its input. A `place` is the value record with the fault, counted from 0, or for [`read_text`] the byte.
 #[derive(Clone, Copy, Debug, PartialEq, Eq)]
 pub enum Refusal {
-    /// A length is no multiple of its record size (8 in a table, 16 in a type) or is above 65,536, or the working buffer's
-    /// length is not the arena's.
+    /// A length is no multiple of its record size (8 in a table, 16 in a type, 32 in a key book) or is above 65,536, or the
+    /// working buffer's length is not the arena's.
     Length,
     /// The equivalence is neither 0 nor 1; only the forms in [`raw`] can be given such a number.
     Equivalence,
@@ -31,9 +31,9 @@ pub enum Refusal {
     Span { place: usize },
     /// A field has key 0, or another value has a key.
     Key { place: usize },
-    /// An earlier field of the same record has this key.
+    /// An earlier field of the same record has this key. In a text the place is its closing quote.
     Repeat { place: usize },
-    /// The value has depth 33.
+    /// The value has depth 33. In a text the place is its first byte.
     Depth { place: usize },
     /// The first or only type is not well formed.
     FirstType,
@@ -43,10 +43,18 @@ pub enum Refusal {
     Total,
     /// The resulting type has more records than the arena.
     Room,
+    /// The table is full where a value of the text starts.
+    Full { place: usize },
+    /// The text cannot go on with this byte, or is not finished where it ends.
+    Grammar { place: usize },
+    /// The key that ends with this quote is not in the book, or is spelled with an escape.
+    Unlisted { place: usize },
+    /// The key book is a bad one.
+    Book,
 }
 
 impl Refusal {
-    /// Document 01's number, 1 to 11.
+    /// The number of documents 01 and 02, 1 to 14.
     pub fn number(self) -> u64 {
         match self {
             Refusal::Length => 1,
@@ -59,18 +67,24 @@ impl Refusal {
             Refusal::FirstType => 8,
             Refusal::SecondType => 9,
             Refusal::Total => 10,
-            Refusal::Room => 11,
+            Refusal::Room | Refusal::Full { .. } => 11,
+            Refusal::Grammar { .. } => 12,
+            Refusal::Unlisted { .. } => 13,
+            Refusal::Book => 14,
         }
     }
 
-    /// The value record with the fault; 0 where the refusal is not about one.
+    /// The value record or the byte with the fault; 0 where the refusal is not about one.
     pub fn place(self) -> usize {
         match self {
             Refusal::Kind { place }
             | Refusal::Span { place }
             | Refusal::Key { place }
             | Refusal::Repeat { place }
-            | Refusal::Depth { place } => place,
+            | Refusal::Depth { place }
+            | Refusal::Full { place }
+            | Refusal::Grammar { place }
+            | Refusal::Unlisted { place } => place,
             _ => 0,
         }
     }
@@ -122,4 +136,13 @@ pub fn merge(
     arena: &mut [u8],
 ) -> Result<usize, Refusal> {
     raw::merge(first, second, equivalence as u64, arena).result()
+}
+
+/// Call 6. Writes the messages of a JSON text as value records at the front of the table, and gives their number.
+///
+/// A key's number is its place in the book, counted from 1. The book is 32-byte records, a key's 1 to 32 bytes and then zeros,
+/// in ascending order. The table may hold any bytes; accepted, it is zero behind the records, refused, all of it is. The text is
+/// read from the left, and the first fault decides. The call takes 141 KiB of stack.
+pub fn read_text(text: &[u8], book: &[u8], table: &mut [u8]) -> Result<usize, Refusal> {
+    raw::read_text(text, book, table).result_of_text()
 }

@@ -41,10 +41,18 @@ extern "C" {
         arena: *mut u8,
         arena_length: usize,
     ) -> Answer;
+    fn ct_read_text(
+        text: *const u8,
+        text_length: usize,
+        book: *const u8,
+        book_length: usize,
+        table: *mut u8,
+        table_length: usize,
+    ) -> Answer;
 }
 
-// The library asks for pointers that are not null, to bytes that nobody else writes during the call, and for an arena and a
-// working buffer that overlap nothing: slices borrowed for the call are that.
+// The library asks for pointers that are not null, to bytes that nobody else writes during the call, and for an arena, a
+// working buffer and a table to fill that overlap nothing: slices borrowed for the call are that.
 
 pub fn judge_table(table: &[u8]) -> Answer {
     unsafe { ct_judge_table(table.as_ptr(), table.len()) }
@@ -95,6 +103,19 @@ pub fn merge(first: &[u8], second: &[u8], equivalence: u64, arena: &mut [u8]) ->
     }
 }
 
+pub fn read_text(text: &[u8], book: &[u8], table: &mut [u8]) -> Answer {
+    unsafe {
+        ct_read_text(
+            text.as_ptr(),
+            text.len(),
+            book.as_ptr(),
+            book.len(),
+            table.as_mut_ptr(),
+            table.len(),
+        )
+    }
+}
+
 impl Answer {
     /// The count, or the refusal.
     pub fn result(self) -> Result<usize, Refusal> {
@@ -112,7 +133,20 @@ impl Answer {
             9 => Refusal::SecondType,
             10 => Refusal::Total,
             11 => Refusal::Room,
+            12 => Refusal::Grammar { place },
+            13 => Refusal::Unlisted { place },
+            14 => Refusal::Book,
             number => unreachable!("no call answers {number}"),
         })
+    }
+
+    /// The same of [`read_text`], which says where the table was full.
+    pub fn result_of_text(self) -> Result<usize, Refusal> {
+        match self.number {
+            11 => Err(Refusal::Full {
+                place: self.place as usize,
+            }),
+            _ => self.result(),
+        }
     }
 }

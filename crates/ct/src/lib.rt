@@ -1,4 +1,5 @@
 // The C interface, as bindings/ct.h declares it.
+use text_reader::call;
 use value_table::Answer;
 ghost use mathlib.Core.Path.{_≡_};
 ghost use Rattle.value_table.specs.Outcome.{outcomeOfAnswer};
@@ -6,7 +7,8 @@ ghost use Rattle.value_table.specs.Judged.{judged};
 ghost use mathlib.Core.List.{[]};
 ghost use lib.ListN.{length};
 ghost use Rattle.counting_theory.specs.Answers.{judgedType, leaves, inferred, inferredDefault, merged};
-ghost use Rattle.ct.specs.Left.{answerLeft};
+ghost use Rattle.json_theory.specs.Reader.{read};
+ghost use Rattle.ct.specs.Left.{answerLeft, answerRead};
 
 // Call 1: judges a table.
 #[no_mangle]
@@ -60,4 +62,12 @@ pub extern "C" fn ct_merge(
         ≡ leaves (merged (now (first .entry)) (now (second .entry)) equivalence (length (now (arena .entry)))) (now (arena .entry)) [] ⌝ }
 {
     answers::answer_of(counting_type::merge(first, second, equivalence, arena))
+}
+
+// Call 6: reads a text into the table, with the keys of a book.
+#[no_mangle]
+pub extern "C" fn ct_read_text(text: &[u8], book: &[u8], table: &mut [u8]) -> Answer
+    ensures { λ r. ⌜ answerRead r (now (table .exit)) ≡ read (now (text .entry)) (now (book .entry)) (length (now (table .entry))) ⌝ }
+{
+    call::answer_of(call::read_text(text, book, table))
 }

@@ -6,6 +6,7 @@ use json_tokens::scan::byte_at;
 use json_tokens::scan::number_end;
 use json_tokens::scan::space_end;
 use json_tokens::scan::word_end;
+use key_book::guesses::HINTS;
 use key_book::search::find_key;
 ghost use mathlib.Core.Path.{_≡_};
 ghost use mathlib.Core.Bool.{false};
@@ -26,7 +27,7 @@ pub enum Named {
 }
 
 // A key behind its opening quote.
-pub fn key_end(text: &[u8], book: &[u8], from: usize) -> Named
+pub fn key_end(text: &[u8], book: &[u8], from: usize, hints: &[u16; HINTS]) -> Named
     requires { ⌜ PlaceIn (now text) from × (length (now book) ≤ maxLength) × (badBook (now book) ≡ false) ⌝ }
     ensures { λ r. ⌜ NamedIs (now (text .entry)) (now (book .entry)) from r ⌝ }
 {
@@ -34,7 +35,7 @@ pub fn key_end(text: &[u8], book: &[u8], from: usize) -> Named
         Quoted::Broken(fault) => Named::Faulty(fault),
         Quoted::Escaped(quote) => Named::Unlisted(quote),
         Quoted::Plain(quote) => {
-            let key = find_key(book, text, from, quote);
+            let key = find_key(book, text, from, quote, hints);
             if key == 0 {
                 return Named::Unlisted(quote);
             }

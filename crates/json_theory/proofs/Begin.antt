@@ -18,18 +18,18 @@ use Rattle.json_theory.proofs.Rx.{false-true, cons-append, word-nullabl
 use Rattle.json_theory.proofs.Parts.{numberStart, start-fact}
 
 -- which byte it is
-abbrev Which : ℕ → Start → Type 0
+abbrev pub Which : ℕ → Start → Type 0
 Which c (letters kind l ls) = (m : List ℕ) → Scalar (c ∷ l ∷ (ls ++ m)) (headOf kind) m
 Which c (number part) = Unit {0}
 Which c string = c ≡ quote
 Which c (open′ o) = c ≡ opener o
 Which c nothing = Unit {0}
 
-pub pick : (P : Start → Type 0) (t : Bool) (a b : Start) → (t ≡ true → P a) → P b → P (cond t a b)
+pub pick : {A : Type 0} (P : A → Type 0) (t : Bool) (a b : A) → (t ≡ true → P a) → P b → P (cond t a b)
 pick P true a b f g = f refl
 pick P false a b f g = g
 
-which : (c : ℕ) → Which c (start c)
+pub which : (c : ℕ) → Which c (start c)
 unfolding start
 which c =
     pick (Which c) (eqb c quote) string _ (λ h. eqb-true c quote h)

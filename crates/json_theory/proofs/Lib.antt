@@ -16,3 +16,5 @@ pub mod Promises
 pub mod Trials
 pub mod Rfc
 pub mod Scanning
+pub mod Standing
+pub mod Places

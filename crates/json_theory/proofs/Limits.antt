@@ -5,12 +5,12 @@ use mathlib.Core.List.{List, [], _∷_}
 use Prim.Native.Nat.{ℕ, suc, _≤_, _<_}
 use native.Mathlib.Omega.{arith}
 use lib.Dec.{eqb, leb}
-use borrow.Author.Tests.{leb-false, lt-leb, eqb-false, ne-eqb}
+use borrow.Author.Tests.{leb-true, leb-false, lt-leb, eqb-true, eqb-false, ne-eqb}
 use Rattle.value_table.specs.Value.{Head, Values, none, value, size, keys, member, Distinct, ValidAt, maxDepth, lastScalar}
 use Rattle.json_theory.specs.Grammar.{quote, isSpace, Container, array, object, headOf, kindOf, closer}
 use Rattle.json_theory.specs.Parts.{Turn, go as goOn, ended, stuck, StringPart, plain, nextInString, NumberPart, nextInNumber, mayEnd, Start, letters, number, string, open′, nothing, start}
 use Rattle.json_theory.specs.Steps.{Stack, base, level, add, State, gap, after, need, first, nextKey, inKey, colon, inString, inNumber, inLiteral, wrong, begin, item, behindComma, shut, stepAfter, stepLiteral, keyTurn, stringTurn, numberTurn, step}
-use Rattle.json_theory.specs.Reader.{depth, written, valueFault, keyFault, keyEnds, limitFault, isWrong}
+use Rattle.json_theory.specs.Reader.{depth, written, keysIn, valueFault, keyFault, keyEnds, limitFault, isWrong}
 use Rattle.json_theory.proofs.Rx.{false-true}
 use Rattle.json_theory.proofs.Begin.{ScalarKind, scalar-kind}
 use Rattle.json_theory.proofs.Sound.{KeyOk, DistinctIn, Sound, sound-add, sound-drop, written-add, scalar-own, sound-shut, shut-sound}
@@ -34,6 +34,17 @@ Shaped (inNumber part around) = Unit {0}
 Shaped (inLiteral l ls around) = Unit {0}
 Shaped wrong = Unit {0}
 
+-- what the number of a fault says
+pub key-says : {A : Type 0} (key : ℕ) (around : Stack) (f : ℕ) → keyFault key around ≡ f → (f ≡ 13 → key ≡ 0 → A) →
+    (f ≡ 6 → 1 ≤ key → member key (keysIn around) ≡ true → A) → (f ≡ 0 → 1 ≤ key → member key (keysIn around) ≡ false → A) → A
+unfolding keyFault
+key-says {A} key around f e x y z = go (eqb key 0) (member key (keysIn around)) refl refl (sym e)
+  where
+    go : (a b : Bool) → eqb key 0 ≡ a → member key (keysIn around) ≡ b → f ≡ cond a 13 (cond b 6 0) → A
+    go true b p q e = x e (eqb-true key 0 p)
+    go false true p q e = y e (omega (arith, eqb-false key 0 p)) q
+    go false false p q e = z e (omega (arith, eqb-false key 0 p)) q
+
 module _ (room : ℕ) where
   abbrev pub Full : Stack → Type 0
   Full around = Sound around × (written around ≤ room)
@@ -56,15 +67,18 @@ module _ (room : ℕ) where
   abbrev pub Keeps : State → State → ℕ → Type 0
   Keeps σ τ f = Shaped τ × (Good τ → Good σ × (f ≡ 0)) × (Good σ → f ≡ 0 → Good τ)
 
-  value-room : (around : Stack) → valueFault room around ≡ 0 → (suc (depth around) ≤ maxDepth) × (suc (written around) ≤ room)
+  pub value-says : {A : Type 0} (around : Stack) (f : ℕ) → valueFault room around ≡ f → (f ≡ 7 → maxDepth ≤ depth around → A) →
+      (f ≡ 11 → depth around < maxDepth → room ≤ written around → A) → (f ≡ 0 → depth around < maxDepth → written around < room → A) → A
   unfolding valueFault
-  value-room around = go (leb maxDepth (depth around)) (leb room (written around)) refl refl
+  value-says {A} around f e x y z = go (leb maxDepth (depth around)) (leb room (written around)) refl refl (sym e)
     where
-      go : (a b : Bool) → leb maxDepth (depth around) ≡ a → leb room (written around) ≡ b → _≡_ {A = ℕ} (cond a 7 (cond b 11 0)) 0 →
-          (suc (depth around) ≤ maxDepth) × (suc (written around) ≤ room)
-      go true b p q e = absurd (omega arith)
-      go false true p q e = absurd (omega arith)
-      go false false p q e = (leb-false maxDepth (depth around) p, leb-false room (written around) q)
+      go : (a b : Bool) → leb maxDepth (depth around) ≡ a → leb room (written around) ≡ b → f ≡ cond a 7 (cond b 11 0) → A
+      go true b p q e = x e (leb-true maxDepth (depth around) p)
+      go false true p q e = y e (leb-false maxDepth (depth around) p) (leb-true room (written around) q)
+      go false false p q e = z e (leb-false maxDepth (depth around) p) (leb-false room (written around) q)
+
+  value-room : (around : Stack) → valueFault room around ≡ 0 → (suc (depth around) ≤ maxDepth) × (suc (written around) ≤ room)
+  value-room around e = value-says around 0 e (λ x d. absurd (omega arith)) (λ x d w. absurd (omega arith)) (λ x d w. (d, w))
 
   room-value : (around : Stack) → suc (depth around) ≤ maxDepth → suc (written around) ≤ room → valueFault room around ≡ 0
   unfolding valueFault
@@ -173,13 +187,8 @@ module _ (room : ℕ) where
   key-ends key (level array k done outer) i l = absurd i
   key-ends key (level object k done outer) i l = (
     λ h. rw (ne-eqb key 0 (λ e. omega (arith, h .0)), h .2) refl,
-    go (eqb key 0) (member key (keys done)) refl refl,
+    λ e. key-says key (level object k done outer) 0 e (λ x y. absurd (omega arith)) (λ x y m. absurd (omega arith)) (λ x y m. (y, l, m)),
   )
-    where
-      go : (a b : Bool) → eqb key 0 ≡ a → member key (keys done) ≡ b → _≡_ {A = ℕ} (cond a 13 (cond b 6 0)) 0 → KeyOk key (level object k done outer)
-      go true b p q e = absurd (omega arith)
-      go false true p q e = absurd (omega arith)
-      go false false p q e = (omega (arith, eqb-false key 0 p), l, q)
 
   module _ (name : List ℕ → ℕ) (small : (w : List ℕ) → name w < 65536) where
     pub fits : (σ : State) (c : ℕ) → Shaped σ → isWrong (step name σ c) ≡ false → Keeps σ (step name σ c) (limitFault name room σ c)

@@ -2,7 +2,7 @@
 use mathlib.Core.Path.{_≡_, refl, _∙_, ap, subst}
 use mathlib.Core.Bool.{Bool, true, false, cond, not, _||_}
 use mathlib.Core.List.{List, [], _∷_, _++_}
-use Prim.Native.Nat.{ℕ, zero, suc, _+_, _/_, _%_, _≤_}
+use Prim.Native.Nat.{ℕ, zero, suc, _+_, _/_, _%_, _≤_, _<_}
 use native.Mathlib.Nat.{mod-lt}
 use native.Mathlib.Omega.{arith}
 use lib.Dec.{lit<, ltb, eqb}
@@ -18,14 +18,14 @@ use Rattle.byte_records.proofs.Tests.{or-parts}
 use Rattle.json_theory.specs.Steps.{gap}
 use Rattle.json_theory.specs.Book.{badBookLength, badBook, keyNumber, bookSize}
 use Rattle.json_theory.specs.Reader.{Reading, fine, faultAt, readFrom, Read, refusedRead, readOf, badLengths, read}
-use Rattle.json_theory.specs.Promises.{ReadsText, ReadsOnlyText, OneReading, ReadsTables, NumbersKeys, Twelve, TwelveMeans}
+use Rattle.json_theory.specs.Promises.{ReadsText, ReadsOnlyText, OneReading, ReadsTables, NumbersKeys, TwelveMeans}
 use Rattle.json_theory.proofs.Book.{number-small, key-number}
 use Rattle.json_theory.proofs.Whole.{AllBytes, text-unique}
 use Rattle.json_theory.proofs.Octets.{append-bytes, text-bytes}
 use Rattle.json_theory.proofs.Readings.{reads}
 use Rattle.json_theory.proofs.Refusals.{twelve, refused-at, refused-positive}
 
-all-bytes : (s : List ℕ) → Bytes s → AllBytes s
+pub all-bytes : (s : List ℕ) → Bytes s → AllBytes s
 all-bytes [] h = tt
 all-bytes (c ∷ s) h = (h 0, all-bytes s (λ p. h (suc p)))
 
@@ -35,7 +35,7 @@ bytes-all (c ∷ s) h zero = h .0
 bytes-all (c ∷ s) h (suc p) = bytes-all s (h .1) p
 
 -- the lengths that 1 lets pass
-lengths-fit : (text book : List ℕ) (n : ℕ) → badLengths text book n ≡ false → (length book ≤ maxLength) × (n ≤ maxLength)
+pub lengths-fit : (text book : List ℕ) (n : ℕ) → badLengths text book n ≡ false → (length book ≤ maxLength) × (n ≤ maxLength)
 unfolding badBookLength badLength
 lengths-fit text book n h =
     let p = or-parts (ltb maxLength (length text) || badBookLength (length book)) (badLength n) h in
@@ -123,15 +123,19 @@ reads-tables text book n ms h =
           (subst (λ (vs : Values). Table (encode ms) vs (count ms)) e t),
     )
 
-reading-twelve : (text book : List ℕ) (n : ℕ) (r : Reading) → Bytes text → reading text book n ≡ r → readOf n r .outcome .number ≡ 12 →
-    Twelve (keyNumber book) text (readOf n r .outcome .place)
+-- any other refusal than 1 and 14 is that of the reading
+pub reading-fault : (text book : List ℕ) (n f : ℕ) → 1 < f → (f ≡ 14 → ⊥) → read text book n .outcome .number ≡ f →
+    (badLengths text book n ≡ false) × (readFrom (keyNumber book) (n / recordSize) (gap none) 0 text ≡ faultAt f (read text book n .outcome .place))
 unfolding reading
-reading-twelve text book n (fine ms) b e h = absurd (omega arith)
-reading-twelve text book n (faultAt number place) b e h =
-    twelve (keyNumber book) (n / recordSize) text place (all-bytes text b) (subst (λ (k : ℕ). reading text book n ≡ faultAt k place) h e)
+reading-fault text book n f l x h =
+    let p = read-passed text book n (λ e. omega arith) (λ e. x (omega arith)) in
+    let q = read-is text book n (p .0) (p .1) in
+    (p .0, rw q (look (reading text book n) (rw q at h)))
+  where
+    look : (r : Reading) → readOf n r .outcome .number ≡ f → r ≡ faultAt f (readOf n r .outcome .place)
+    look (fine ms) k = absurd (omega arith)
+    look (faultAt number place) k = ap (λ (m : ℕ). faultAt m place) k
 
 pub twelve-means : TwelveMeans
 twelve-means text book n b h =
-    let p = read-passed text book n (λ e. omega arith) (λ e. omega arith) in
-    let q = read-is text book n (p .0) (p .1) in
-    rw q (reading-twelve text book n (reading text book n) b refl (rw q at h))
+    twelve (keyNumber book) (n / recordSize) text _ (all-bytes text b) (reading-fault text book n 12 (omega arith) (λ e. omega arith) h .1)

@@ -44,9 +44,9 @@ decide-fine : (f p : ℕ) (r : Reading) (T : Values) → faultOr f p r ≡ fine 
 decide-fine zero p r T h = (refl, h)
 decide-fine (suc f) p r T h = absurd (let z : _≡_ {A = ℕ} 0 1 = cc in omega arith)
 
-pub fault-zero : (b : Bool) (f : ℕ) → cond b 12 f ≡ 0 → (b ≡ false) × (f ≡ 0)
-fault-zero true f h = absurd (omega arith)
-fault-zero false f h = (refl, h)
+pub not-twelve : (b : Bool) (g f : ℕ) → (f ≡ 12 → ⊥) → cond b 12 g ≡ f → (b ≡ false) × (g ≡ f)
+not-twelve true g f x e = absurd (x (sym e))
+not-twelve false g f x e = (refl, e)
 
 module _ (name : List ℕ → ℕ) (room : ℕ) where
   pub run-wrong : (s : List ℕ) → run name wrong s ≡ wrong
@@ -77,7 +77,7 @@ module _ (name : List ℕ → ℕ) (room : ℕ) where
     read-run σ p [] T sh g h = let e = finish-fine σ p T h in (e, subst (Good room) e g)
     read-run σ p (c ∷ s) T sh g h =
         let d = decide-fine (byteFault name room σ c) p _ T h in
-        let z = fault-zero (isWrong (step name σ c)) (limitFault name room σ c) (d .0) in
+        let z = not-twelve (isWrong (step name σ c)) (limitFault name room σ c) 0 (λ e. omega arith) (d .0) in
         let f = fits room name small σ c sh (z .0) in
         read-run (step name σ c) (p + 1) s T (f .0) (f .2 g (z .1)) (d .1)
 

@@ -5,20 +5,21 @@ use mathlib.Core.Logic.{_⊎_, inl, inr}
 use mathlib.Core.List.{List, [], _∷_, _++_, append-nil}
 use Prim.Native.Nat.{ℕ, zero, suc, _+_, _≤_}
 use native.Mathlib.Omega.{arith}
-use lib.Dec.{eqb, leb}
+use lib.Dec.{eqb}
 use lib.ListN.{length}
-use Rattle.value_table.specs.Value.{Values, none, member, maxDepth}
+use Rattle.value_table.specs.Value.{Values, none}
 use Rattle.json_theory.specs.Grammar.{isSpace, closer, array, object}
 use Rattle.json_theory.specs.Parts.{Turn, go as goOn, ended, stuck, StringPart, nextInString}
 use Rattle.json_theory.specs.Steps.{Stack, base, level, State, gap, after, need, first, nextKey, inKey, colon, inString, inNumber, inLiteral, wrong, step}
 use Rattle.json_theory.specs.Inside.Run.{run}
-use Rattle.json_theory.specs.Reader.{depth, written, keysIn, valueFault, keyFault, keyEnds, limitFault, isWrong, Reading, faultAt, finish, faultOr, byteFault, readFrom}
+use Rattle.json_theory.specs.Reader.{valueFault, keyFault, keyEnds, limitFault, isWrong, Reading, faultAt, finish, faultOr, byteFault, readFrom}
 use Rattle.json_theory.specs.Promises.{NoText, Twelve}
 use Rattle.json_theory.proofs.ToCome.{ToCome}
 use Rattle.json_theory.proofs.Turn.{down}
 use Rattle.json_theory.proofs.Whole.{AllBytes, end-down, run-down, run-up, text-come, come-text}
 use Rattle.json_theory.proofs.Viable.{viable}
-use Rattle.json_theory.proofs.Readings.{wrong-is, fault-zero}
+use Rattle.json_theory.proofs.Limits.{value-says, key-says}
+use Rattle.json_theory.proofs.Readings.{wrong-is, not-twelve}
 
 -- the fault of byte c in state σ, or of the text's end
 abbrev pub FaultOf : (List ℕ → ℕ) → ℕ → State → List ℕ → ℕ → Type 0
@@ -62,6 +63,11 @@ decide-fault zero p r n q h = inl (refl, h)
 decide-fault (suc f) p r n q h = let e : suc f ≡ n = cc in let z : q ≡ p = cc in inr (e, omega arith, z)
 
 module _ (name : List ℕ → ℕ) (room : ℕ) where
+  -- no byte of s has a fault
+  abbrev pub FaultFree : State → List ℕ → Type 0
+  FaultFree σ [] = Unit {0}
+  FaultFree σ (c ∷ s) = (byteFault name room σ c ≡ 0) × FaultFree (step name σ c) s
+
   -- refused with n at place q: the bytes before q have no fault, and byte q has n
   pub record Refused (σ : State) (p : ℕ) (s : List ℕ) (n q : ℕ) : Type 0 where
     pub seen : List ℕ
@@ -69,19 +75,20 @@ module _ (name : List ℕ → ℕ) (room : ℕ) where
     pub parts : s ≡ seen ++ left
     pub place : q ≡ p + length seen
     pub alive : isWrong (run name σ seen) ≡ false
+    pub before : FaultFree σ seen
     pub faulty : FaultOf name room (run name σ seen) left n
 
   pub refused-at : (σ : State) (p : ℕ) (s : List ℕ) (n q : ℕ) → isWrong σ ≡ false → readFrom name room σ p s ≡ faultAt n q → Refused σ p s n q
   unfolding readFrom run
   refused-at σ p [] n q a h =
       let f = finish-fault σ p n q h in
-      record { seen = []; left = []; parts = refl; place = omega (arith, f .1); alive = a; faulty = (f .0, f .2) }
+      record { seen = []; left = []; parts = refl; place = omega (arith, f .1); alive = a; before = tt; faulty = (f .0, f .2) }
   refused-at σ p (c ∷ s) n q a h = go (decide-fault (byteFault name room σ c) p _ n q h) (refused-at (step name σ c) (p + 1) s n q)
     where
       go : ((byteFault name room σ c ≡ 0) × (readFrom name room (step name σ c) (p + 1) s ≡ faultAt n q)) ⊎ ((byteFault name room σ c ≡ n) × (1 ≤ n) × (q ≡ p)) →
           (isWrong (step name σ c) ≡ false → readFrom name room (step name σ c) (p + 1) s ≡ faultAt n q → Refused (step name σ c) (p + 1) s n q) → Refused σ p (c ∷ s) n q
       go (inl x) ih =
-          let z = fault-zero (isWrong (step name σ c)) (limitFault name room σ c) (x .0) in
+          let z = not-twelve (isWrong (step name σ c)) (limitFault name room σ c) 0 (λ e. omega arith) (x .0) in
           let r = ih (z .0) (x .1) in
           record {
             seen = c ∷ r .seen;
@@ -89,9 +96,10 @@ module _ (name : List ℕ → ℕ) (room : ℕ) where
             parts = ap (λ (t : List ℕ). c ∷ t) (r .parts);
             place = omega (arith, r .place);
             alive = r .alive;
+            before = (x .0, r .before);
             faulty = r .faulty;
           }
-      go (inr x) ih = record { seen = []; left = c ∷ s; parts = refl; place = omega (arith, x .2); alive = a; faulty = (x .0, x .1) }
+      go (inr x) ih = record { seen = []; left = c ∷ s; parts = refl; place = omega (arith, x .2); alive = a; before = tt; faulty = (x .0, x .1) }
 
   positive : (σ : State) (left : List ℕ) (n : ℕ) → FaultOf name room σ left n → 1 ≤ n
   positive σ [] n f = omega (arith, f .0)
@@ -102,22 +110,10 @@ module _ (name : List ℕ → ℕ) (room : ℕ) where
 
   -- the other faults are not 12
   value-not : (around : Stack) → valueFault room around ≡ 12 → ⊥
-  unfolding valueFault
-  value-not around = go (leb maxDepth (depth around)) (leb room (written around))
-    where
-      go : (a b : Bool) → _≡_ {A = ℕ} (cond a 7 (cond b 11 0)) 12 → ⊥
-      go true b h = omega arith
-      go false true h = omega arith
-      go false false h = omega arith
+  value-not around h = value-says room around 12 h (λ x d. omega arith) (λ x d w. omega arith) (λ x d w. omega arith)
 
   key-not : (key : ℕ) (around : Stack) → keyFault key around ≡ 12 → ⊥
-  unfolding keyFault
-  key-not key around = go (eqb key 0) (member key (keysIn around))
-    where
-      go : (a b : Bool) → _≡_ {A = ℕ} (cond a 13 (cond b 6 0)) 12 → ⊥
-      go true b h = omega arith
-      go false true h = omega arith
-      go false false h = omega arith
+  key-not key around h = key-says key around 12 h (λ x k. omega arith) (λ x k m. omega arith) (λ x k m. omega arith)
 
   either-not : (b : Bool) (f g : ℕ) → (f ≡ 12 → ⊥) → (g ≡ 12 → ⊥) → cond b f g ≡ 12 → ⊥
   either-not true f g x y h = x h

@@ -72,7 +72,7 @@ module _ (name : List ℕ → ℕ) where
         go (open′ o) b = (content, m, b .1, subst (λ (k : Head). After name around (value k key content none) m T) (b .0) (h .4))
         go nothing b = b
 
-    begin-up : (key : ℕ) (around : Stack) → ToCome name (begin (start c) key around) s T → Needed name key around T (c ∷ s)
+    pub begin-up : (key : ℕ) (around : Stack) → ToCome name (begin (start c) key around) s T → Needed name key around T (c ∷ s)
     unfolding begin
     begin-up key around h = go (start c) (λ head content m b. value-up name c s small b) h
       where

@@ -8,5 +8,6 @@ pub mod Parts
 pub mod Steps
 pub mod Reader
 pub mod Promises
+pub mod Places
 pub mod Trials
 pub mod Inside

@@ -1,28 +1,29 @@
 -- The laws of numbers and words.
-use mathlib.Core.Path.{_≡_, refl, sym, _∙_, ap, subst}
-use mathlib.Core.Bool.{Bool, true, false, cond, _&&_, _||_}
+use mathlib.Core.Path.{_≡_, refl, sym, _∙_, ap}
+use mathlib.Core.Bool.{Bool, true, false, cond, _||_}
 use mathlib.Core.List.{List, []}
 use Prim.Native.Nat.{ℕ, _+_, _≤_, _<_}
 use native.Mathlib.Numerals.{add-one}
 use native.Mathlib.Omega.{arith}
-use lib.Dec.{eqb, leb, ltb}
+use lib.Dec.{eqb}
 use lib.ListN.{length, getD, drop, drop-of-length-le}
 use lib.Seq.{drop-cons}
-use borrow.Author.Tests.{eqb-true, eq-eqb, ne-eqb, ltb-true, ltb-false, leb-true, leb-false, lt-leb, le-leb}
+use borrow.Author.Tests.{eqb-true, eq-eqb, ne-eqb, le-leb}
 use Rattle.json_theory.specs.Rx.{within}
 use Rattle.json_theory.specs.Grammar.{quote, array, object}
-use Rattle.json_theory.specs.Parts.{go, stuck, goIf, isDigit, isE, NumberPart, minus, nought, whole, point, decimal, e, signed, power, nextInNumber, mayEnd, Start, letters, number, string, open′, nothing, start}
-use Rattle.json_theory.specs.Inside.Scanning.{byteAt, RunTo, Goes, here, on, Stops}
-use Rattle.json_tokens.specs.Inside.Tokens.{isSign, DigitsIs, NumberTo, NumberIs, nextLetter}
+use Rattle.json_theory.specs.Parts.{Turn, go, stuck, goIf, isDigit, isE, NumberPart, minus, nought, whole, point, decimal, e, signed, power, nextInNumber, mayEnd, Start, letters, number, string, open′, nothing, start}
+use Rattle.json_theory.specs.Inside.Scanning.{byteAt, Running, RunTo, Goes, here, on, Stops}
+use Rattle.json_tokens.specs.Inside.Tokens.{afterInt, afterFrac, afterSign, noMore, PartTo, NumberTo, PartIs, NumberIs, BehindIs}
+use Rattle.json_tokens.specs.Inside.Tokens.{isSign, DigitsIs, nextLetter}
 use Rattle.json_tokens.specs.declared.scan.Scan.{Scan}
 use Rattle.json_tokens.specs.declared.scan.Scan.the-variants.{To, Bad}
 use Rattle.json_theory.proofs.Rx.{false-true}
-use Rattle.byte_records.proofs.Tests.{and-parts}
-use Rattle.json_theory.proofs.Scanning.{byte-none, byte-inside, goes-one, goes-on, goes-run, stops-here, stops-on}
+use Rattle.json_theory.proofs.Scanning.{goes-one, goes-on, goes-run, stops-here, stops-on}
+use Rattle.json_tokens.proofs.Tokens.{test-inside, goes-inside, goes-upto}
 use Rattle.json_tokens.proofs.Strings.{go-if, stuck-if}
 
 -- no part goes on with 0
-pub number-zero : (a : NumberPart) → nextInNumber a 0 ≡ stuck
+number-zero : (a : NumberPart) → nextInNumber a 0 ≡ stuck
 unfolding nextInNumber
 number-zero minus = refl
 number-zero nought = refl
@@ -34,31 +35,10 @@ number-zero signed = refl
 number-zero power = refl
 
 pub number-inside : (text : List ℕ) (a b : NumberPart) (p : ℕ) → nextInNumber a (byteAt text p) ≡ go b → p < length text
-number-inside text a b p h = look (ltb p (length text)) refl
-  where
-    look : (t : Bool) → ltb p (length text) ≡ t → p < length text
-    look true q = ltb-true p (length text) q
-    look false q =
-        let z : nextInNumber a 0 ≡ go b = rw (byte-none text p (ltb-false p (length text) q)) at h in
-        let y = number-zero a in
-        absurd (let x : _≡_ {A = ℕ} 0 1 = cc in omega arith)
+number-inside = goes-inside nextInNumber number-zero
 
-pub e-inside : (text : List ℕ) (p : ℕ) → isE (byteAt text p) ≡ true → p < length text
-e-inside text p h = byte-inside text p (look (eqb (byteAt text p) 0x45) refl h)
-  where
-    look : (t : Bool) → eqb (byteAt text p) 0x45 ≡ t → (t || eqb (byteAt text p) 0x65) ≡ true → 1 ≤ byteAt text p
-    look true q r = omega (arith, eqb-true (byteAt text p) 0x45 q)
-    look false q r = omega (arith, eqb-true (byteAt text p) 0x65 r)
-
-pub sign-inside : (text : List ℕ) (p : ℕ) → isSign (byteAt text p) ≡ true → p < length text
-sign-inside text p h = byte-inside text p (look (eqb (byteAt text p) 0x2B) refl h)
-  where
-    look : (t : Bool) → eqb (byteAt text p) 0x2B ≡ t → (t || eqb (byteAt text p) 0x2D) ≡ true → 1 ≤ byteAt text p
-    look true q r = omega (arith, eqb-true (byteAt text p) 0x2B q)
-    look false q r = omega (arith, eqb-true (byteAt text p) 0x2D r)
-
-pub digit-inside : (text : List ℕ) (p : ℕ) → isDigit (byteAt text p) ≡ true → p < length text
-digit-inside text p h = byte-inside text p (omega (arith, leb-true 0x30 (byteAt text p) (and-parts (leb 0x30 (byteAt text p)) (leb (byteAt text p) 0x39) h .0)))
+pub number-upto : {text : List ℕ} {a b : NumberPart} {p q : ℕ} → Goes nextInNumber text a p b q → p ≤ length text → q ≤ length text
+number-upto = goes-upto nextInNumber number-zero
 
 -- a sign is no digit
 sign-digit : (c : ℕ) → isSign c ≡ true → isDigit c ≡ false
@@ -68,130 +48,89 @@ sign-digit c h = look (eqb c 0x2B) refl h
     look true q r = rw (eqb-true c 0x2B q) refl
     look false q r = rw (eqb-true c 0x2D r) refl
 
--- parts that digits keep
-decimal-digit : (c : ℕ) → isDigit c ≡ true → nextInNumber decimal c ≡ go decimal
+minus-turn : (c : ℕ) → (c ≡ 0x30 → ⊥) → nextInNumber minus c ≡ goIf (within 0x31 0x39 c) whole
 unfolding nextInNumber
-decimal-digit c h = rw h refl
+minus-turn c h = rw (ne-eqb c 0x30 h) refl
 
-whole-digit : (c : ℕ) → isDigit c ≡ true → nextInNumber whole c ≡ go whole
-unfolding nextInNumber
-whole-digit c h = rw h refl
+module _ {text : List ℕ} {turn : ℕ → Turn NumberPart} where
+  pub part-here : {a : NumberPart} {p : ℕ} {t : Bool} → mayEnd a ≡ t → nextInNumber a (byteAt text p) ≡ turn (byteAt text p) → PartTo turn text a p p t
+  part-here {a = a} m h = record { part = a; goes = here; stays = h; end = m }
 
-power-digit : (c : ℕ) → isDigit c ≡ true → nextInNumber power c ≡ go power
-unfolding nextInNumber
-power-digit c h = rw h refl
+  to-on : {a b : NumberPart} {p q r : ℕ} {t : Bool} → Goes nextInNumber text a p b q → PartTo turn text b q r t → PartTo turn text a p r t
+  to-on g h = record { part = h .part; goes = goes-on g (h .goes); stays = h .stays; end = h .end }
+
+module _ (text : List ℕ) (turn : ℕ → Turn NumberPart) where
+  part-on : {a b : NumberPart} {p q : ℕ} → Goes nextInNumber text a p b q → (r : Scan) → PartIs turn text b q r → PartIs turn text a p r
+  part-on g (To r) h = to-on g h
+  part-on g (Bad r) h = to-on g h
+
+  -- one part of a number, then the next
+  pub part-then : (next : ℕ → Turn NumberPart) {a : NumberPart} {p q : ℕ} → PartTo next text a p q true → (r : Scan) → BehindIs next turn text q r →
+      PartIs turn text a p r
+  part-then next h r k = part-on (h .goes) r (k (h .part) (h .end) (h .stays))
+
+  -- digits from part b, which they keep; and from part a, which needs one, to part b
+  module _ (b : NumberPart) (keeps : (c : ℕ) → nextInNumber b c ≡ cond (isDigit c) (go b) (turn c)) (end : mayEnd b ≡ true) where
+    digits-to : {p q : ℕ} → RunTo isDigit text p q → PartTo turn text b p q true
+    digits-to {p} {q} r =
+        record { part = b; goes = goes-run b (λ c h. keeps c ∙ rw h refl) (r .running); stays = keeps (byteAt text q) ∙ rw (r .fails) refl; end = end }
+
+    some-digits : (a : NumberPart) (p : ℕ) → nextInNumber a (byteAt text p) ≡ goIf (isDigit (byteAt text p)) b → mayEnd a ≡ false →
+        (r : Scan) → DigitsIs text p r → PartIs turn text a p r
+    some-digits a p h m (To q) d =
+        let r = d .0 .running in
+        let k : Running isDigit text (p + 1) q = record { from = omega arith; upto = r .upto; passes = λ i l n. r .passes i (omega arith) n } in
+        to-on (goes-one (h ∙ go-if (isDigit (byteAt text p)) b (r .passes p (omega arith) (d .1)))) (digits-to (record { running = k; fails = d .0 .fails }))
+    some-digits a p h m (Bad q) d = rw (d .0) (part-here m (h ∙ stuck-if (isDigit (byteAt text p)) b (d .1)))
 
 module _ (text : List ℕ) where
-  pub number-on : (a b : NumberPart) (p q : ℕ) → Goes nextInNumber text a p b q → (r : Scan) → NumberIs text b q r → NumberIs text a p r
-  number-on a b p q g (To r) h = record { part = h .part; goes = goes-on g (h .goes); stays = h .stays; end = h .end }
-  number-on a b p q g (Bad r) h = record { part = h .part; goes = goes-on g (h .goes); stays = h .stays; end = h .end }
-
-  -- digits from a part that needs one, to a part that they keep
-  some-goes : (a b : NumberPart) (p q : ℕ) → nextInNumber a (byteAt text p) ≡ goIf (isDigit (byteAt text p)) b →
-      ((c : ℕ) → isDigit c ≡ true → nextInNumber b c ≡ go b) → RunTo isDigit text p q → p < q → Goes nextInNumber text a p b q
-  some-goes a b p q h k r l =
-      let d = r .running .passes p (omega arith) l in
-      on (h ∙ go-if (isDigit (byteAt text p)) b d)
-      (goes-run b k (record { from = omega arith; upto = r .running .upto; passes = λ i m n. r .running .passes i (omega arith) n }))
-
-  digits-none : (a b : NumberPart) (p : ℕ) → nextInNumber a (byteAt text p) ≡ goIf (isDigit (byteAt text p)) b → mayEnd a ≡ false →
-      isDigit (byteAt text p) ≡ false → NumberTo text a p p false
-  digits-none a b p h m d = record { part = a; goes = here; stays = h ∙ stuck-if (isDigit (byteAt text p)) b d; end = m }
-
-  -- the digits of an exponent
-  power-digits : (a : NumberPart) (p : ℕ) → nextInNumber a (byteAt text p) ≡ goIf (isDigit (byteAt text p)) power → mayEnd a ≡ false →
-      (r : Scan) → DigitsIs text p r → NumberIs text a p r
+  -- exponents
+  pub with-sign : (p : ℕ) → isSign (byteAt text p) ≡ true → PartTo afterSign text e p (p + 1) false
   unfolding nextInNumber mayEnd
-  power-digits a p h m (To q) d =
-      record {
-        part = power;
-        goes = some-goes a power p q h power-digit (d .0) (d .1);
-        stays = stuck-if (isDigit (byteAt text q)) power (d .0 .fails);
-        end = refl;
-      }
-  power-digits a p h m (Bad q) d = subst (λ (i : ℕ). NumberTo text a p i false) (sym (d .0)) (digits-none a power p h m (d .1))
+  with-sign p s = to-on (goes-one {b = signed} (rw (sign-digit (byteAt text p) s, s) refl)) (part-here refl refl)
 
-  pub no-exponent : (a : NumberPart) (p : ℕ) → mayEnd a ≡ true → nextInNumber a (byteAt text p) ≡ goIf (isE (byteAt text p)) e → isE (byteAt text p) ≡ false →
-      NumberTo text a p p true
-  no-exponent a p m h n = record { part = a; goes = here; stays = h ∙ stuck-if (isE (byteAt text p)) e n; end = m }
-
-  e-goes : (a : NumberPart) (p : ℕ) → nextInNumber a (byteAt text p) ≡ goIf (isE (byteAt text p)) e → isE (byteAt text p) ≡ true → Goes nextInNumber text a p e (p + 1)
-  e-goes a p h n = goes-one (h ∙ go-if (isE (byteAt text p)) e n)
-
-  pub with-sign : (a : NumberPart) (p : ℕ) → nextInNumber a (byteAt text p) ≡ goIf (isE (byteAt text p)) e → isE (byteAt text p) ≡ true →
-      isSign (byteAt text (p + 1)) ≡ true → (r : Scan) → DigitsIs text (p + 2) r → NumberIs text a p r
+  pub without-sign : (p : ℕ) → isSign (byteAt text p) ≡ false → PartTo afterSign text e p p false
   unfolding nextInNumber mayEnd
-  with-sign a p h n s r d =
-      let z : p + 1 + 1 ≡ p + 2 = omega arith in
-      let g : nextInNumber e (byteAt text (p + 1)) ≡ go signed = rw (sign-digit (byteAt text (p + 1)) s, s) refl in
-      number-on a signed p (p + 2) (rw z at (goes-on (e-goes a p h n) (goes-one g))) r (power-digits signed (p + 2) refl refl r d)
+  without-sign p s = part-here refl (rw s refl)
 
-  pub without-sign : (a : NumberPart) (p : ℕ) → nextInNumber a (byteAt text p) ≡ goIf (isE (byteAt text p)) e → isE (byteAt text p) ≡ true →
-      isSign (byteAt text (p + 1)) ≡ false → (r : Scan) → DigitsIs text (p + 1) r → NumberIs text a p r
+  pub exponent : (a : NumberPart) (p q : ℕ) → nextInNumber a (byteAt text p) ≡ afterFrac (byteAt text p) → isE (byteAt text p) ≡ true →
+      PartTo afterSign text e (p + 1) q false → (r : Scan) → DigitsIs text q r → NumberIs text a p r
   unfolding nextInNumber mayEnd
-  without-sign a p h n s r d =
-      let g : nextInNumber e (byteAt text (p + 1)) ≡ goIf (isDigit (byteAt text (p + 1))) power = rw s refl in
-      number-on a e p (p + 1) (e-goes a p h n) r (power-digits e (p + 1) g refl r d)
+  exponent a p q h n s r d =
+      part-on text noMore (goes-on (goes-one (h ∙ go-if (isE (byteAt text p)) e n)) (s .goes)) r
+      (some-digits text noMore power (λ c. refl) refl (s .part) q (s .stays) (s .end) r d)
 
   -- fractions
-  pub no-point : (a : NumberPart) (c : ℕ) → nextInNumber a c ≡ cond (eqb c 0x2E) (go point) (goIf (isE c) e) → (c ≡ 0x2E → ⊥) → nextInNumber a c ≡ goIf (isE c) e
-  no-point a c h n = rw (ne-eqb c 0x2E n) at h
-
-  pub a-point : (a : NumberPart) (p : ℕ) → nextInNumber a (byteAt text p) ≡ cond (eqb (byteAt text p) 0x2E) (go point) (goIf (isE (byteAt text p)) e) →
-      byteAt text p ≡ 0x2E → Goes nextInNumber text a p point (p + 1)
-  a-point a p h n = goes-one (rw (eq-eqb (byteAt text p) 0x2E n) at h)
-
-  pub decimals : (p q : ℕ) → RunTo isDigit text p q → p < q → Goes nextInNumber text point p decimal q
-  unfolding nextInNumber
-  decimals p q r l = some-goes point decimal p q refl decimal-digit r l
-
-  pub decimals-end : (p q : ℕ) → RunTo isDigit text p q → nextInNumber decimal (byteAt text q) ≡ goIf (isE (byteAt text q)) e
-  unfolding nextInNumber
-  decimals-end p q r = rw (r .fails) refl
-
-  pub no-decimals : (p q : ℕ) → q ≡ p → isDigit (byteAt text p) ≡ false → NumberTo text point p q false
+  pub fraction : (a : NumberPart) (p : ℕ) → nextInNumber a (byteAt text p) ≡ afterInt (byteAt text p) → byteAt text p ≡ 0x2E →
+      (r : Scan) → DigitsIs text (p + 1) r → PartIs afterFrac text a p r
   unfolding nextInNumber mayEnd
-  no-decimals p q z d = rw z (digits-none point decimal p refl refl d)
+  fraction a p h n r d =
+      part-on text afterFrac (goes-one (rw (eq-eqb (byteAt text p) 0x2E n) at h)) r
+      (some-digits text afterFrac decimal (λ c. refl) refl point (p + 1) refl refl r d)
 
-  -- whole numbers
-  pub minus-zero : (p : ℕ) → byteAt text p ≡ 0x30 → Goes nextInNumber text minus p nought (p + 1)
+  -- ints
+  pub after-nought : (p : ℕ) → PartTo afterInt text nought p p true
+  unfolding nextInNumber mayEnd
+  after-nought p = part-here refl refl
+
+  pub after-whole : {p q : ℕ} → RunTo isDigit text p q → PartTo afterInt text whole p q true
+  unfolding nextInNumber mayEnd
+  after-whole r = digits-to text afterInt whole (λ c. refl) refl r
+
+  pub nought-int : (p : ℕ) → byteAt text p ≡ 0x30 → PartTo afterInt text minus p (p + 1) true
   unfolding nextInNumber
-  minus-zero p h = goes-one (rw (eq-eqb (byteAt text p) 0x30 h) refl)
+  nought-int p h = to-on (goes-one (ap (nextInNumber minus) h)) (after-nought (p + 1))
 
-  minus-turn : (c : ℕ) → (c ≡ 0x30 → ⊥) → nextInNumber minus c ≡ goIf (isDigit c) whole
-  unfolding nextInNumber
-  minus-turn c h = rw (ne-eqb c 0x30 h) (ap (λ (t : Bool). goIf (t && leb c 0x39) whole) (look (leb 0x30 c) refl))
-    where
-      look : (t : Bool) → leb 0x30 c ≡ t → leb 0x31 c ≡ t
-      look true q = le-leb 0x31 c (omega (arith, leb-true 0x30 c q))
-      look false q = lt-leb 0x31 c (omega (arith, leb-false 0x30 c q))
+  pub whole-int : (p q : ℕ) → 0x31 ≤ byteAt text p → byteAt text p ≤ 0x39 → RunTo isDigit text (p + 1) q → PartTo afterInt text minus p q true
+  whole-int p q l m r =
+      let c = byteAt text p in
+      to-on (goes-one (minus-turn c (λ z. omega arith) ∙ go-if (within 0x31 0x39 c) whole (rw (le-leb 0x31 c l, le-leb c 0x39 m) refl))) (after-whole r)
 
-  pub minus-digits : (p q : ℕ) → (byteAt text p ≡ 0x30 → ⊥) → isDigit (byteAt text p) ≡ true → RunTo isDigit text (p + 1) q → Goes nextInNumber text minus p whole q
-  minus-digits p q n d r = on (minus-turn (byteAt text p) n ∙ go-if (isDigit (byteAt text p)) whole d) (goes-run whole whole-digit (r .running))
-
-  pub whole-end : (p q : ℕ) → RunTo isDigit text p q → nextInNumber whole (byteAt text q) ≡ cond (eqb (byteAt text q) 0x2E) (go point) (goIf (isE (byteAt text q)) e)
-  unfolding nextInNumber
-  whole-end p q r = rw (r .fails) refl
-
-  pub no-number : (p : ℕ) → (byteAt text p ≡ 0x30 → ⊥) → isDigit (byteAt text p) ≡ false → NumberTo text minus p p false
+  pub no-int : (p c : ℕ) → c ≡ byteAt text p → (c ≡ 0x30 → ⊥) → within 0x31 0x39 c ≡ false → NumberTo text minus p p false
   unfolding mayEnd
-  no-number p n d = digits-none minus whole p (minus-turn (byteAt text p) n) refl d
+  no-int p c z n h = part-here refl (ap (nextInNumber minus) (sym z) ∙ minus-turn c n ∙ stuck-if (within 0x31 0x39 c) whole h)
 
-  -- from the first byte
-  first-number : (a : NumberPart) (p q : ℕ) (t : Bool) → nextInNumber minus (byteAt text p) ≡ go a → NumberTo text minus p q t → NumberTo text a (p + 1) q t
-  first-number a p q t h n = look (n .goes) (n .stays)
-    where
-      look : Goes nextInNumber text minus p (n .part) q → nextInNumber (n .part) (byteAt text q) ≡ stuck → NumberTo text a (p + 1) q t
-      look g s = split g s (n .end)
-        where
-          split : {b : NumberPart} {i : ℕ} → Goes nextInNumber text minus p b i → nextInNumber b (byteAt text i) ≡ stuck → mayEnd b ≡ t → NumberTo text a (p + 1) i t
-          split here s m = absurd (let x : _≡_ {A = ℕ} 0 1 = cc in omega arith)
-          split (on {b = d} x g) s m = let z : d ≡ a = cc in record { part = _; goes = rw z at g; stays = s; end = m }
-
-  pub unsigned-number : (a : NumberPart) (p : ℕ) → nextInNumber minus (byteAt text p) ≡ go a → (r : Scan) → NumberIs text minus p r → NumberIs text a (p + 1) r
-  unsigned-number a p h (To q) n = first-number a p q true h n
-  unsigned-number a p h (Bad q) n = first-number a p q false h n
-
+-- the first byte
 isNumber : Start → Bool
 isNumber (letters kind l ls) = false
 isNumber (number part) = true
@@ -209,20 +148,23 @@ others false false false true w x y z a b d = b
 others false false false false true x y z a b d = d
 others false false false false false x y z a b d = refl
 
-pub start-number : (c : ℕ) (a : NumberPart) → (c ≡ 0x2D → ⊥) → start c ≡ number a → nextInNumber minus c ≡ go a
-unfolding start nextInNumber isNumber
-start-number c a n h =
-    look (eqb c quote) (eqb c 0x30) (within 0x31 0x39 c) _ (others (eqb c 0x5B) (eqb c 0x7B) (eqb c 0x6E) (eqb c 0x66) (eqb c 0x74) _ _ _ refl refl refl) (rw (ne-eqb c 0x2D n) at h)
-  where
-    look : (q z w : Bool) (s : Start) → isNumber s ≡ false → cond q string (cond z (number nought) (cond w (number whole) s)) ≡ number a → cond z (go nought) (goIf w whole) ≡ go a
-    look true z w s f k = absurd (let x : _≡_ {A = ℕ} 0 1 = cc in omega arith)
-    look false true w s f k = cc
-    look false false true s f k = cc
-    look false false false s f k = false-true (sym f ∙ ap isNumber k)
+pub start-inside : (text : List ℕ) (p : ℕ) (a : NumberPart) → start (byteAt text p) ≡ number a → p < length text
+unfolding start isNumber
+start-inside text p a h = test-inside (λ c. isNumber (start c)) text p refl (ap isNumber h)
 
-pub start-minus : (c : ℕ) (a : NumberPart) → c ≡ 0x2D → start c ≡ number a → a ≡ minus
-unfolding start
-start-minus c a z h = let k : number minus ≡ number a = rw z at h in cc
+pub start-at : (k : ℕ) (b : NumberPart) → start k ≡ number b → (c : ℕ) (a : NumberPart) → c ≡ k → start c ≡ number a → a ≡ b
+start-at k b h c a q g = let z : start k ≡ number a = rw q at g in cc
+
+pub start-whole : (c : ℕ) (a : NumberPart) → (c ≡ 0x2D → ⊥) → (c ≡ 0x30 → ⊥) → start c ≡ number a → a ≡ whole
+unfolding start isNumber
+start-whole c a m n h =
+    look (eqb c quote) (within 0x31 0x39 c) _ (others (eqb c 0x5B) (eqb c 0x7B) (eqb c 0x6E) (eqb c 0x66) (eqb c 0x74) _ _ _ refl refl refl)
+    (rw (ne-eqb c 0x2D m, ne-eqb c 0x30 n) at h)
+  where
+    look : (q w : Bool) (s : Start) → isNumber s ≡ false → cond q string (cond w (number whole) s) ≡ number a → a ≡ whole
+    look true w s f k = absurd (let x : _≡_ {A = ℕ} 0 1 = cc in omega arith)
+    look false true s f k = cc
+    look false false s f k = false-true (sym f ∙ ap isNumber k)
 
 -- words
 pub word-start : (text word : List ℕ) (p : ℕ) → Goes nextLetter text word p (drop 0 word) (p + 0)

@@ -6,21 +6,20 @@ use Prim.Native.Nat.{ℕ, zero, suc, _+_, _≤_, _<_}
 use native.Mathlib.Omega.{arith}
 use lib.Dec.{eqb, leb, ltb}
 use lib.ListN.{length}
-use borrow.Author.Tests.{eqb-true, eqb-false, eq-eqb, ne-eqb, ltb-true, ltb-false, le-ltb, leb-true, leb-false, le-leb, not-true}
+use borrow.Author.Tests.{eqb-true, eqb-false, eq-eqb, ne-eqb, ltb-true, ltb-false, le-ltb, leb-true, leb-false, le-leb, lt-leb, not-true}
 use Rattle.json_theory.specs.Rx.{within}
 use Rattle.json_theory.specs.Grammar.{quote}
 use Rattle.json_theory.specs.Parts.{Turn, go, ended, stuck, goIf, StringPart, plain, escape, hexes4, hexes3, hexes2, hexes1, tails3, tails2, tails1, behindE0, behindED, behindF0, behindF4, isHex, isEscape, nextInString}
 use Rattle.json_theory.specs.Inside.Scanning.{byteAt, Running, Goes, here, on, Stops}
-use Rattle.json_tokens.specs.Inside.Tokens.{isPlain, isOther, ScanIs, TailTo, TailIs, CharTo, CharIs, CharsTo, StringTo, QuotedIs, quotedOf}
+use Rattle.json_tokens.specs.Inside.Tokens.{isPlain, isOther, lowestBehind, highestBehind, widthOf, TailFits, ScanIs, TailTo, TailIs, CharTo, CharIs, CharsTo, StringTo, QuotedIs, quotedOf}
 use Rattle.json_tokens.specs.declared.scan.Scan.{Scan}
 use Rattle.json_tokens.specs.declared.scan.Scan.the-variants.{To, Bad}
 use Rattle.json_tokens.specs.declared.scan.Quoted.{Quoted}
 use Rattle.json_tokens.specs.declared.scan.Quoted.the-variants.{Plain, Escaped, Broken}
-use Rattle.json_theory.proofs.Rx.{false-true}
 use Rattle.byte_records.proofs.Tests.{and-parts}
 use Rattle.json_theory.proofs.Parts.{every, every-at}
-use Rattle.json_theory.proofs.Scanning.{byte-none, byte-inside, running-start, running-one, running-to, running-weaker, goes-one, goes-on, goes-run, stops-here, stops-on, goes-up}
-use Rattle.json_tokens.proofs.Tokens.{or-second}
+use Rattle.json_theory.proofs.Scanning.{byte-inside, running-start, running-one, running-to, running-weaker, goes-one, goes-on, goes-run, stops-here, stops-on, goes-up}
+use Rattle.json_tokens.proofs.Tokens.{goes-inside, goes-upto, or-second}
 
 -- the parts of a string as numbers
 abbrev partCode : StringPart → ℕ
@@ -83,12 +82,12 @@ same-turn : (t u : Turn StringPart) → eqb (turnCode t) (turnCode u) ≡ true �
 same-turn t u h = sym (turn-back t) ∙ ap turnOf (eqb-true (turnCode t) (turnCode u) h) ∙ turn-back u
 
 -- from low to high the first byte of a char gives t
-pub first-byte : (t : Turn StringPart) (low high : ℕ) → every (λ c. ltb c low || eqb (turnCode (nextInString plain c)) (turnCode t)) (suc high) ≡ true →
-    (c : ℕ) → low ≤ c → c ≤ high → nextInString plain c ≡ t
+first-byte : (t : ℕ → Turn StringPart) (low high : ℕ) → every (λ c. ltb c low || eqb (turnCode (nextInString plain c)) (turnCode (t c))) (suc high) ≡ true →
+    (c : ℕ) → low ≤ c → c ≤ high → nextInString plain c ≡ t c
 first-byte t low high h c l m =
-    same-turn (nextInString plain c) t
-    (or-second (ltb c low) (eqb (turnCode (nextInString plain c)) (turnCode t)) (le-ltb c low l)
-    (every-at (λ c. ltb c low || eqb (turnCode (nextInString plain c)) (turnCode t)) (suc high) c h (omega arith)))
+    same-turn (nextInString plain c) (t c)
+    (or-second (ltb c low) (eqb (turnCode (nextInString plain c)) (turnCode (t c))) (le-ltb c low l)
+    (every-at (λ c. ltb c low || eqb (turnCode (nextInString plain c)) (turnCode (t c))) (suc high) c h (omega arith)))
 
 pub plain-goes : (c : ℕ) → isPlain c ≡ true → nextInString plain c ≡ go plain
 unfolding nextInString
@@ -123,18 +122,10 @@ zero-stuck behindF0 = refl
 zero-stuck behindF4 = refl
 
 pub string-inside : (text : List ℕ) (a b : StringPart) (p : ℕ) → nextInString a (byteAt text p) ≡ go b → p < length text
-string-inside text a b p h = look (ltb p (length text)) refl
-  where
-    look : (t : Bool) → ltb p (length text) ≡ t → p < length text
-    look true e = ltb-true p (length text) e
-    look false e =
-        let z : nextInString a 0 ≡ go b = rw (byte-none text p (ltb-false p (length text) e)) at h in
-        let y = zero-stuck a in
-        absurd (let x : _≡_ {A = ℕ} 0 1 = cc in omega arith)
+string-inside = goes-inside nextInString zero-stuck
 
 pub string-upto : {text : List ℕ} {a b : StringPart} {p q : ℕ} → Goes nextInString text a p b q → p ≤ length text → q ≤ length text
-string-upto here l = l
-string-upto {text} {a} {b} {p} (on {b = d} e h) l = string-upto h (omega (arith, string-inside text a d p e))
+string-upto = goes-upto nextInString zero-stuck
 
 -- hexadecimal digits
 unfoldable pub hexAfter : ℕ → StringPart
@@ -193,9 +184,10 @@ module _ (text : List ℕ) where
   escaped-char p e (To q) h = record { goes = on (ap (nextInString plain) e) h; some = omega (arith, goes-up h); clean = λ n. absurd (n e) }
   escaped-char p e (Bad q) h = stops-on (goes-one (ap (nextInString plain) e)) h
 
-  pub plain-char : (p : ℕ) → isPlain (byteAt text p) ≡ true → p < length text → CharTo text p (p + 1)
-  plain-char p e l =
-      record { goes = goes-one (plain-goes (byteAt text p) e); some = omega arith; clean = λ n. running-one l (plain-other (byteAt text p) e) }
+  pub plain-char : (p : ℕ) → isPlain (byteAt text p) ≡ true → CharTo text p (p + 1)
+  plain-char p e =
+      let g = plain-goes (byteAt text p) e in
+      record { goes = goes-one g; some = omega arith; clean = λ n. running-one (string-inside text plain plain p g) (plain-other (byteAt text p) e) }
 
 -- chars in a row
 module _ {text : List ℕ} where
@@ -278,41 +270,98 @@ unfolding nextInString
 tail-stop text p h = within-stop text p 0x80 0xBF tails1 plain (λ c. refl) h
 
 -- no char begins so
-strange : ℕ → Bool
-strange c = (leb 0x20 c && ltb c 0x80) || ((leb 0xC2 c && ltb c 0xF5) || eqb (turnCode (nextInString plain c)) 14)
-
-strange-all : every strange 256 ≡ true
-unfolding every strange nextInString
-strange-all = refl
-
-and-not : (s t : Bool) → (s ≡ true → t ≡ false) → (s && t) ≡ false
-and-not true t h = h refl
-and-not false t h = refl
-
-pub plain-stuck : (c : ℕ) → c < 256 → (0x20 ≤ c → 0x80 ≤ c) → (0xC2 ≤ c → 0xF5 ≤ c) → nextInString plain c ≡ stuck
-unfolding strange
-plain-stuck c l h k =
-    let a = and-not (leb 0x20 c) (ltb c 0x80) (λ e. le-ltb c 0x80 (h (leb-true 0x20 c e))) in
-    let b = and-not (leb 0xC2 c) (ltb c 0xF5) (λ e. le-ltb c 0xF5 (k (leb-true 0xC2 c e))) in
-    let t = eqb (turnCode (nextInString plain c)) 14 in
-    same-turn (nextInString plain c) stuck
-    (or-second (leb 0xC2 c && ltb c 0xF5) t b (or-second (leb 0x20 c && ltb c 0x80) ((leb 0xC2 c && ltb c 0xF5) || t) a (every-at strange 256 c strange-all l)))
-
-pub plain-inside : (text : List ℕ) (p : ℕ) → isPlain (byteAt text p) ≡ true → p < length text
-plain-inside text p e = string-inside text plain plain p (plain-goes (byteAt text p) e)
-
--- neither the quote, a \ nor plain: below 20 or above 7F
-pub wide-first : (c : ℕ) → (c ≡ quote → ⊥) → (c ≡ 0x5C → ⊥) → isPlain c ≡ false → 0x20 ≤ c → 0x80 ≤ c
-wide-first c h k e l = look (leb c 0x7F) refl (rw (ne-eqb c quote h, ne-eqb c 0x5C k, le-leb 0x20 c l) at e)
-  where
-    look : (t : Bool) → leb c 0x7F ≡ t → t ≡ false → 0x80 ≤ c
-    look true f g = false-true (sym g)
-    look false f g = omega (arith, leb-false c 0x7F f)
-
-pub wide-three : (c : ℕ) → 0xE1 ≤ c → c ≤ 0xEF → (c ≡ 0xED → ⊥) → nextInString plain c ≡ go tails2
+pub low-stuck : (c : ℕ) → c < 0xC2 → (0x20 ≤ c → 0x80 ≤ c) → nextInString plain c ≡ stuck
 unfolding every nextInString
-wide-three c l m n = look (ltb c 0xED) refl
+low-stuck c l h = look (ltb c 0x20) refl
   where
-    look : (t : Bool) → ltb c 0xED ≡ t → nextInString plain c ≡ go tails2
-    look true e = first-byte (go tails2) 0xE1 0xEC refl c l (omega (arith, ltb-true c 0xED e))
-    look false e = first-byte (go tails2) 0xEE 0xEF refl c (omega (arith, ltb-false c 0xED e)) m
+    look : (t : Bool) → ltb c 0x20 ≡ t → nextInString plain c ≡ stuck
+    look true e = first-byte (λ c. stuck) 0x00 0x1F refl c (omega arith) (omega (arith, ltb-true c 0x20 e))
+    look false e = first-byte (λ c. stuck) 0x80 0xC1 refl c (h (ltb-false c 0x20 e)) (omega arith)
+
+pub high-stuck : (c : ℕ) → 0xF5 ≤ c → c < 0x100 → nextInString plain c ≡ stuck
+unfolding every nextInString
+high-stuck c l m = first-byte (λ c. stuck) 0xF5 0xFF refl c l (omega arith)
+
+-- in a match of ranges: neither the quote nor a \, from 20 to 7F
+pub in-plain : (c : ℕ) → (c ≡ quote → ⊥) → (c ≡ 0x5C → ⊥) → 0x20 ≤ c → c ≤ 0x7F → isPlain c ≡ true
+in-plain c h k l m = rw (ne-eqb c quote h, ne-eqb c 0x5C k, le-leb 0x20 c l, le-leb c 0x7F m) refl
+
+-- lead bytes: of two bytes; and of three or four, behind which the next is from lowestBehind to highestBehind
+pub lead-two : (c : ℕ) → 0xC2 ≤ c → c ≤ 0xDF → nextInString plain c ≡ go tails1
+unfolding every nextInString
+lead-two c l m = first-byte (λ c. go tails1) 0xC2 0xDF refl c l m
+
+record Lead (c : ℕ) : Type 0 where
+  pub part : StringPart
+  pub leads : nextInString plain c ≡ go part
+  pub goes : (x : ℕ) → nextInString part x ≡ goIf (within (lowestBehind c) (highestBehind c) x) (cond (leb c 0xEF) tails1 tails2)
+
+lead : (c : ℕ) → 0xE0 ≤ c → c ≤ 0xF4 → Lead c
+unfolding every nextInString
+lead c l m = look (eqb c 0xE0) (eqb c 0xED) (eqb c 0xF0) (eqb c 0xF4) (leb c 0xEF) refl refl refl refl refl
+  where
+    three : leb c 0xEF ≡ true → nextInString plain c ≡ cond (eqb c 0xE0) (go behindE0) (cond (eqb c 0xED) (go behindED) (go tails2))
+    three i = first-byte (λ c. cond (eqb c 0xE0) (go behindE0) (cond (eqb c 0xED) (go behindED) (go tails2))) 0xE0 0xEF refl c l (leb-true c 0xEF i)
+
+    four : leb c 0xEF ≡ false → nextInString plain c ≡ cond (eqb c 0xF0) (go behindF0) (cond (eqb c 0xF4) (go behindF4) (go tails3))
+    four i = first-byte (λ c. cond (eqb c 0xF0) (go behindF0) (cond (eqb c 0xF4) (go behindF4) (go tails3))) 0xF0 0xF4 refl c (leb-false c 0xEF i) m
+
+    look : (s t u v w : Bool) → eqb c 0xE0 ≡ s → eqb c 0xED ≡ t → eqb c 0xF0 ≡ u → eqb c 0xF4 ≡ v → leb c 0xEF ≡ w → Lead c
+    look true t u v w e f g h i = rw (eqb-true c 0xE0 e) (record { part = behindE0; leads = refl; goes = λ x. refl })
+    look false true u v w e f g h i = rw (eqb-true c 0xED f) (record { part = behindED; leads = refl; goes = λ x. refl })
+    look false false true v w e f g h i = rw (eqb-true c 0xF0 g) (record { part = behindF0; leads = refl; goes = λ x. refl })
+    look false false false true w e f g h i = rw (eqb-true c 0xF4 h) (record { part = behindF4; leads = refl; goes = λ x. refl })
+    look false false false false true e f g h i = record { part = tails2; leads = three i ∙ rw (e, f) refl; goes = λ x. rw (e, f, g, h, i) refl }
+    look false false false false false e f g h i = record { part = tails3; leads = four i ∙ rw (g, h) refl; goes = λ x. rw (e, f, g, h, i) refl }
+
+pub lead-end : (text : List ℕ) (p c low high : ℕ) (b : StringPart) → c ≡ byteAt text p → 0xE0 ≤ c → c ≤ 0xF4 →
+    low ≡ lowestBehind c → high ≡ highestBehind c → cond (leb c 0xEF) tails1 tails2 ≡ b →
+    (r : Scan) → ((a : StringPart) → ((x : ℕ) → nextInString a x ≡ goIf (within low high x) b) → TailIs text a (p + 1) r) → CharIs text p r
+lead-end text p c low high b e l m f g h r k =
+    let z = lead c l m in
+    lead-on text (z .part) p (ap (nextInString plain) (sym e) ∙ z .leads) (omega arith) r (k (z .part) (λ x. rw (f, g, ← h) (z .goes x)))
+
+low-behind : (c : ℕ) → 0x80 ≤ lowestBehind c
+low-behind c = look (eqb c 0xE0) (eqb c 0xF0)
+  where
+    look : (s t : Bool) → 0x80 ≤ cond s 0xA0 (cond t 0x90 0x80)
+    look true t = omega arith
+    look false true = omega arith
+    look false false = omega arith
+
+-- a character whose tail fits
+module _ (text : List ℕ) (p c : ℕ) (e : c ≡ byteAt text p) (t : TailFits text p c) where
+  whole-two : 0xC2 ≤ c → c ≤ 0xDF → CharTo text p (p + 2)
+  whole-two l m =
+      let low = ne-eqb c 0xE0 (λ f. omega arith) in
+      let second : within 0x80 0xBF (byteAt text (p + 1)) ≡ true =
+      rw (low, ne-eqb c 0xF0 (λ f. omega arith), ne-eqb c 0xED (λ f. omega arith), ne-eqb c 0xF4 (λ f. omega arith)) at (t .second) in
+      let z : p + 1 + 1 ≡ p + 2 = omega arith in
+      lead-on text tails1 p (ap (nextInString plain) (sym e) ∙ lead-two c l m) (omega arith) (To (p + 2)) (rw z at (tail-last text (p + 1) second))
+
+  whole-three : 0xE0 ≤ c → c ≤ 0xEF → CharTo text p (p + 3)
+  whole-three l m =
+      let y : p + 1 + 1 ≡ p + 2 = omega arith in
+      let z : p + 2 + 1 ≡ p + 3 = omega arith in
+      lead-end text p c (lowestBehind c) (highestBehind c) tails1 e l (omega arith) refl refl (rw (le-leb c 0xEF m) refl) (To (p + 3))
+      (λ a f. within-on text (p + 1) (lowestBehind c) (highestBehind c) a tails1 f (low-behind c) (t .second) (To (p + 3))
+      (rw (y, ← z) (tail-last text (p + 2) (t .third l))))
+
+  whole-four : 0xF0 ≤ c → c ≤ 0xF4 → CharTo text p (p + 4)
+  unfolding nextInString
+  whole-four l m =
+      let x : p + 1 + 1 ≡ p + 2 = omega arith in
+      let y : p + 2 + 1 ≡ p + 3 = omega arith in
+      let z : p + 3 + 1 ≡ p + 4 = omega arith in
+      let last = rw z at (tail-last text (p + 3) (t .fourth l)) in
+      let third = within-on text (p + 2) 0x80 0xBF tails2 tails1 (λ b. refl) (omega arith) (t .third (omega arith)) (To (p + 4)) (rw y last) in
+      lead-end text p c (lowestBehind c) (highestBehind c) tails2 e (omega arith) m refl refl (rw (lt-leb c 0xEF (omega arith)) refl) (To (p + 4))
+      (λ a f. within-on text (p + 1) (lowestBehind c) (highestBehind c) a tails2 f (low-behind c) (t .second) (To (p + 4)) (rw x third))
+
+  pub whole-char : 0xC2 ≤ c → c ≤ 0xF4 → CharTo text p (p + widthOf c)
+  whole-char l m = look (leb c 0xDF) (leb c 0xEF) refl refl
+    where
+      look : (s u : Bool) → leb c 0xDF ≡ s → leb c 0xEF ≡ u → CharTo text p (p + cond s 2 (cond u 3 4))
+      look true u f g = whole-two l (leb-true c 0xDF f)
+      look false true f g = whole-three (omega (arith, leb-false c 0xDF f)) (leb-true c 0xEF g)
+      look false false f g = whole-four (omega (arith, leb-false c 0xEF g)) m

@@ -1,32 +1,52 @@
 -- The laws of scans and of tests by bytes.
-use mathlib.Core.Path.{_≡_, refl, sym, subst}
+use mathlib.Core.Path.{_≡_, refl, sym, _∙_, ap, subst}
 use mathlib.Core.Bool.{Bool, true, false, not, _&&_, _||_}
 use mathlib.Core.Logic.{inl, inr}
 use mathlib.Core.List.{List, [], _∷_}
-use Prim.Native.Nat.{ℕ, suc, _≤_}
+use Prim.Native.Nat.{ℕ, suc, _≤_, _<_}
 use native.Mathlib.Omega.{arith}
 use lib.Dec.{T, eqb, ltb}
+use lib.ListN.{length}
 use types.Run.{OneOf, hit}
 use mir.Val.{hasKey}
-use borrow.Author.Tests.{ne-eqb, le-ltb, not-true}
-use Rattle.json_theory.specs.Grammar.{isSpace}
-use Rattle.json_theory.specs.Parts.{Turn, isEscape}
-use Rattle.json_theory.specs.Inside.Scanning.{Goes}
+use borrow.Author.Tests.{ne-eqb, ltb-true, ltb-false, le-ltb, not-true}
+use Rattle.json_theory.specs.Parts.{Turn, go, ended, stuck, isEscape}
+use Rattle.json_theory.specs.Inside.Scanning.{byteAt, Goes, here, on}
 use Rattle.json_tokens.specs.Inside.Tokens.{ScanIs}
 use Rattle.json_tokens.specs.declared.scan.Scan.{Scan}
 use Rattle.json_tokens.specs.declared.scan.Scan.the-variants.{To, Bad}
 use Rattle.json_theory.proofs.Parts.{every, every-at}
 use Rattle.json_theory.proofs.Rx.{false-true}
 use Rattle.byte_records.proofs.Tests.{and-parts}
-use Rattle.json_theory.proofs.Scanning.{goes-on, stops-on}
-
-pub space-last : (c : ℕ) → (c ≡ 0x20 → ⊥) → (c ≡ 0x09 → ⊥) → (c ≡ 0x0A → ⊥) → eqb c 0x0D ≡ isSpace c
-space-last c a b d = rw (ne-eqb c 0x20 a, ne-eqb c 0x09 b, ne-eqb c 0x0A d) refl
+use Rattle.json_theory.proofs.Scanning.{byte-none, goes-on, stops-on}
 
 module _ {P : Type 0} {next : P → ℕ → Turn P} {text : List ℕ} where
   pub scan-on : {a b : P} {p q : ℕ} (d : P) → Goes next text a p b q → (r : Scan) → ScanIs next text b q d r → ScanIs next text a p d r
   scan-on d h (To r) k = goes-on h k
   scan-on d h (Bad r) k = stops-on h k
+
+-- a byte that passes a test which 0 fails stands in the text
+pub test-inside : (test : ℕ → Bool) (text : List ℕ) (p : ℕ) → test 0 ≡ false → test (byteAt text p) ≡ true → p < length text
+test-inside test text p z h = look (ltb p (length text)) refl
+  where
+    look : (t : Bool) → ltb p (length text) ≡ t → p < length text
+    look true q = ltb-true p (length text) q
+    look false q = false-true (sym z ∙ (rw (byte-none text p (ltb-false p (length text) q)) at h))
+
+isGo : {P : Type 0} → Turn P → Bool
+isGo (go part) = true
+isGo ended = false
+isGo stuck = false
+
+-- where no part goes on with 0, a scan stays in the text
+module _ {P : Type 0} (next : P → ℕ → Turn P) (stop : (a : P) → next a 0 ≡ stuck) where
+  pub goes-inside : (text : List ℕ) (a b : P) (p : ℕ) → next a (byteAt text p) ≡ go b → p < length text
+  unfolding isGo
+  goes-inside text a b p h = test-inside (λ c. isGo (next a c)) text p (ap isGo (stop a)) (ap isGo h)
+
+  pub goes-upto : {text : List ℕ} {a b : P} {p q : ℕ} → Goes next text a p b q → p ≤ length text → q ≤ length text
+  goes-upto here l = l
+  goes-upto {text} {a} {b} {p} (on {b = d} e h) l = goes-upto h (omega (arith, goes-inside text a d p e))
 
 -- tests of a `match` with several bytes to an arm, and with ranges
 unfoldable pub allOf : (ℕ → Bool) → List ℕ → Bool

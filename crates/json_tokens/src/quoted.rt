@@ -2,6 +2,10 @@
 use crate::scan::Quoted;
 use crate::scan::Scan;
 use crate::scan::byte_at;
+use crate::tails::highest;
+use crate::tails::lowest;
+use crate::tails::tail_fits;
+use crate::tails::width;
 ghost use mathlib.Core.Path.{_≡_};
 ghost use mathlib.Core.Bool.{true, false, _||_};
 ghost use Prim.Native.Nat.{ℕ, _≤_, _<_};
@@ -10,7 +14,7 @@ ghost use Rattle.json_theory.specs.Rx.{within};
 ghost use Rattle.json_theory.specs.Grammar.{quote};
 ghost use Rattle.json_theory.specs.Parts.{goIf, isHex, isEscape, StringPart, plain, escape, hexes4, tails1, tails2, nextInString};
 ghost use Rattle.json_theory.specs.Inside.Scanning.{byteAt, PlaceIn, RunTo};
-ghost use Rattle.json_tokens.specs.Inside.Tokens.{isPlain, ScanIs, TailIs, CharIs, QuotedIs, quotedOf};
+ghost use Rattle.json_tokens.specs.Inside.Tokens.{isPlain, lowestBehind, highestBehind, ScanIs, TailIs, CharIs, QuotedIs, quotedOf};
 
 fn is_hex(c: u8) -> bool
     ensures { λ r. ⌜ r ≡ isHex c ⌝ }
@@ -108,19 +112,29 @@ fn three_end(text: &[u8], from: usize, low: u8, high: u8) -> Scan
     }
 }
 
+// A character whose lead byte, at `from`, is c: by one test of its tail, or byte by byte to the fault.
+fn lead_end(text: &[u8], from: usize, c: u8) -> Scan
+    requires { ⌜ PlaceIn (now text) from × (c ≡ byteAt (now text) from) × (0xC2 ≤ c) × (c ≤ 0xF4) ⌝ }
+    ensures { λ r. ⌜ CharIs (now (text .entry)) from r ⌝ }
+{
+    if tail_fits(text, from, c) {
+        let end = from + width(c);
+        return Scan::To(end);
+    }
+    match c {
+        0x00..=0xDF => tail_end(text, from + 1),
+        0xE0..=0xEF => two_end(text, from + 1, lowest(c), highest(c)),
+        _ => three_end(text, from + 1, lowest(c), highest(c)),
+    }
+}
+
 // A character of more than one byte.
 fn wide_end(text: &[u8], from: usize, c: u8) -> Scan
     requires { ⌜ PlaceIn (now text) from × (c ≡ byteAt (now text) from) × (0x20 ≤ c → 0x80 ≤ c) ⌝ }
     ensures { λ r. ⌜ CharIs (now (text .entry)) from r ⌝ }
 {
     match c {
-        0xE0 => two_end(text, from + 1, 0xA0, 0xBF),
-        0xED => two_end(text, from + 1, 0x80, 0x9F),
-        0xF0 => three_end(text, from + 1, 0x90, 0xBF),
-        0xF4 => three_end(text, from + 1, 0x80, 0x8F),
-        0xC2..=0xDF => tail_end(text, from + 1),
-        0xE1..=0xEF => two_end(text, from + 1, 0x80, 0xBF),
-        0xF1..=0xF3 => three_end(text, from + 1, 0x80, 0xBF),
+        0xC2..=0xF4 => lead_end(text, from, c),
         _ => Scan::Bad(from),
     }
 }
@@ -128,16 +142,12 @@ fn wide_end(text: &[u8], from: usize, c: u8) -> Scan
 fn is_plain(c: u8) -> bool
     ensures { λ r. ⌜ r ≡ isPlain c ⌝ }
 {
-    if c == 0x22 {
-        return false;
+    match c {
+        0x22 => false,
+        0x5C => false,
+        0x20..=0x7F => true,
+        _ => false,
     }
-    if c == 0x5C {
-        return false;
-    }
-    if c < 0x20 {
-        return false;
-    }
-    c <= 0x7F
 }
 
 // The first byte from `from` that is no plain character of one byte, or the end.
@@ -160,13 +170,11 @@ fn character_end(text: &[u8], at: usize, c: u8) -> Scan
     requires { ⌜ PlaceIn (now text) at × (c ≡ byteAt (now text) at) × (c ≡ quote → ⊥) ⌝ }
     ensures { λ r. ⌜ CharIs (now (text .entry)) at r ⌝ }
 {
-    if c == 0x5C {
-        return escape_end(text, at + 1);
+    match c {
+        0x5C => escape_end(text, at + 1),
+        0x20..=0x7F => Scan::To(at + 1),
+        _ => wide_end(text, at, c),
     }
-    if is_plain(c) {
-        return Scan::To(at + 1);
-    }
-    wide_end(text, at, c)
 }
 
 fn or_escape(escaped: bool, c: u8) -> bool

@@ -5,9 +5,10 @@ ghost use mathlib.Core.List.{[]};
 ghost use Prim.Native.Nat.{_≤_, _+_};
 ghost use lib.ListN.{length};
 ghost use Rattle.json_theory.specs.Grammar.{isSpace};
-ghost use Rattle.json_theory.specs.Parts.{isDigit, isE, NumberPart, minus, number, start};
+ghost use Rattle.json_theory.specs.Parts.{isDigit, isE, NumberPart, minus, e, number, start};
 ghost use Rattle.json_theory.specs.Inside.Scanning.{byteAt, PlaceIn, RunTo};
-ghost use Rattle.json_tokens.specs.Inside.Tokens.{DigitsIs, NumberIs, ExponentIs, FractionIs, isSign, nextLetter, ScanIs};
+ghost use Rattle.json_tokens.specs.Inside.Tokens.{afterInt, afterFrac, afterSign, noMore, PartTo, PartIs, BehindIs, NumberIs};
+ghost use Rattle.json_tokens.specs.Inside.Tokens.{isSign, DigitsIs, nextLetter, ScanIs};
 
 // Where a token ends, or the byte with which it cannot go on.
 pub enum Scan {
@@ -32,16 +33,13 @@ pub fn byte_at(text: &[u8], at: usize) -> u8
 pub fn is_space(c: u8) -> bool
     ensures { λ r. ⌜ r ≡ isSpace c ⌝ }
 {
-    if c == 0x20 {
-        return true;
+    match c {
+        0x20 => true,
+        0x09 => true,
+        0x0A => true,
+        0x0D => true,
+        _ => false,
     }
-    if c == 0x09 {
-        return true;
-    }
-    if c == 0x0A {
-        return true;
-    }
-    c == 0x0D
 }
 
 // The first byte from `from` that is no white space, or the end.
@@ -62,16 +60,15 @@ pub fn space_end(text: &[u8], from: usize) -> usize
 fn is_digit(c: u8) -> bool
     ensures { λ r. ⌜ r ≡ isDigit c ⌝ }
 {
-    if c < 0x30 {
-        return false;
+    match c {
+        0x30..=0x39 => true,
+        _ => false,
     }
-    c <= 0x39
 }
 
 // The end of a run of digits.
 fn digits_end(text: &[u8], from: usize) -> usize
-    requires { ⌜ PlaceIn (now text) from ⌝ }
-    ensures { λ r. ⌜ RunTo isDigit (now (text .entry)) from r ⌝ }
+    ensures { λ r. ⌜ (from ≤ length (now (text .entry)) → RunTo isDigit (now (text .entry)) from r) ⌝ }
 {
     let mut at = from;
     while at < text.len() {
@@ -85,7 +82,7 @@ fn digits_end(text: &[u8], from: usize) -> usize
 
 // One digit or more.
 fn some_digits(text: &[u8], from: usize) -> Scan
-    requires { ⌜ PlaceIn (now text) from ⌝ }
+    requires { ⌜ from ≤ length (now text) ⌝ }
     ensures { λ r. ⌜ DigitsIs (now (text .entry)) from r ⌝ }
 {
     let end = digits_end(text, from);
@@ -99,63 +96,87 @@ fn some_digits(text: &[u8], from: usize) -> Scan
 fn is_e(c: u8) -> bool
     ensures { λ r. ⌜ r ≡ isE c ⌝ }
 {
-    if c == 0x45 {
-        return true;
+    match c {
+        0x45 => true,
+        0x65 => true,
+        _ => false,
     }
-    c == 0x65
 }
 
 fn is_sign(c: u8) -> bool
     ensures { λ r. ⌜ r ≡ isSign c ⌝ }
 {
-    if c == 0x2B {
-        return true;
+    match c {
+        0x2B => true,
+        0x2D => true,
+        _ => false,
     }
-    c == 0x2D
 }
 
-// An exponent, or nothing, behind a part of a number that may be its end.
+// The sign of an exponent, or nothing.
+fn sign_end(text: &[u8], from: usize) -> usize
+    ensures { λ r. ⌜ PartTo afterSign (now (text .entry)) e from r false ⌝ }
+{
+    if is_sign(byte_at(text, from)) {
+        from + 1
+    } else {
+        from
+    }
+}
+
+// An exponent, or nothing.
 fn exponent_end(text: &[u8], from: usize) -> Scan
-    requires { ⌜ PlaceIn (now text) from ⌝ }
-    ensures { λ r. ⌜ ExponentIs (now (text .entry)) from r ⌝ }
+    ensures { λ r. ⌜ BehindIs afterFrac noMore (now (text .entry)) from r ⌝ }
 {
     if !is_e(byte_at(text, from)) {
         return Scan::To(from);
     }
-    if is_sign(byte_at(text, from + 1)) {
-        some_digits(text, from + 2)
-    } else {
-        some_digits(text, from + 1)
+    some_digits(text, sign_end(text, from + 1))
+}
+
+// A point and digits, or nothing.
+fn fraction_end(text: &[u8], from: usize) -> Scan
+    ensures { λ r. ⌜ BehindIs afterInt afterFrac (now (text .entry)) from r ⌝ }
+{
+    if byte_at(text, from) != 0x2E {
+        return Scan::To(from);
     }
+    some_digits(text, from + 1)
 }
 
 // A fraction and an exponent, or one of them, or nothing.
-fn fraction_end(text: &[u8], from: usize) -> Scan
-    requires { ⌜ PlaceIn (now text) from ⌝ }
-    ensures { λ r. ⌜ FractionIs (now (text .entry)) from r ⌝ }
+fn behind_int(text: &[u8], from: usize) -> Scan
+    ensures { λ r. ⌜ BehindIs afterInt noMore (now (text .entry)) from r ⌝ }
 {
-    if byte_at(text, from) != 0x2E {
-        return exponent_end(text, from);
-    }
-    match some_digits(text, from + 1) {
+    match fraction_end(text, from) {
         Scan::To(end) => exponent_end(text, end),
         Scan::Bad(at) => Scan::Bad(at),
     }
 }
 
-// A number after its sign.
-fn unsigned_end(text: &[u8], from: usize) -> Scan
-    requires { ⌜ PlaceIn (now text) from ⌝ }
-    ensures { λ r. ⌜ NumberIs (now (text .entry)) minus from r ⌝ }
+// The int behind the minus: a 0, or digits that begin with another one.
+fn int_end(text: &[u8], from: usize) -> Scan
+    ensures { λ r. ⌜ PartIs afterInt (now (text .entry)) minus from r ⌝ }
 {
     let c = byte_at(text, from);
-    if c == 0x30 {
-        return fraction_end(text, from + 1);
+    match c {
+        0x30 => Scan::To(from + 1),
+        0x31..=0x39 => Scan::To(digits_end(text, from + 1)),
+        _ => Scan::Bad(from),
     }
-    if is_digit(c) {
-        return fraction_end(text, digits_end(text, from + 1));
+}
+
+// A number up to its fraction or exponent; its first byte is known to begin one.
+fn signed_end(text: &[u8], from: usize) -> Scan
+    requires { ⌜ PlaceIn (now text) from ⌝ }
+    ensures { λ r. ⌜ ((a : NumberPart) → start (byteAt (now (text .entry)) from) ≡ number a → PartIs afterInt (now (text .entry)) a (from + 1) r) ⌝ }
+{
+    let c = byte_at(text, from);
+    match c {
+        0x2D => int_end(text, from + 1),
+        0x30 => Scan::To(from + 1),
+        _ => Scan::To(digits_end(text, from + 1)),
     }
-    Scan::Bad(from)
 }
 
 // A number, whose first byte is at `from`.
@@ -163,10 +184,9 @@ pub fn number_end(text: &[u8], from: usize) -> Scan
     requires { ⌜ PlaceIn (now text) from ⌝ }
     ensures { λ r. ⌜ ((a : NumberPart) → start (byteAt (now (text .entry)) from) ≡ number a → NumberIs (now (text .entry)) a (from + 1) r) ⌝ }
 {
-    if byte_at(text, from) == 0x2D {
-        unsigned_end(text, from + 1)
-    } else {
-        unsigned_end(text, from)
+    match signed_end(text, from) {
+        Scan::To(end) => behind_int(text, end),
+        Scan::Bad(at) => Scan::Bad(at),
     }
 }
 

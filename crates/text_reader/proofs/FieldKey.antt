@@ -25,8 +25,8 @@ use borrow.Author.Tests.{ne-eqb}
 use Rattle.text_reader.proofs.MarksHold.{marks-member, marks-key}
 
 module _ {text book : List ℕ} {p k q : ℕ} (t : KeyTo text book p k q) where
-  pub key-slot : {listed d : ℕ} {seen : List ℕ} → listed ≡ bookRecords book → MarksRow listed seen d → Slot listed seen d k
-  key-slot e r = record { room = r .room; small = r .small; level-low = r .level-low; some = t .some; listed-key = omega (arith, t .listed) }
+  pub key-slot : {d : ℕ} {seen : List ℕ} → MarksRow (bookRecords book) seen d → Slot (bookRecords book) seen d k
+  key-slot r = record { room = r .room; small = r .small; level-low = r .level-low; some = t .some; listed-key = t .listed }
 
   module _ {seen : List ℕ} {key mark : ℕ} {done : Values} {outer : Stack} (own : written outer + 1 ≡ mark)
       (m : MarksHold (bookRecords book) seen (level object key done outer) []) (room : ℕ) where
@@ -45,7 +45,7 @@ module _ {text book : List ℕ} {p k q : ℕ} (t : KeyTo text book p k q) where
     key-new e r same stored =
         record {
           reads = t .reads room (level object key done outer) ∙ rw (has false e) refl;
-          marks = marks-key k m (key-slot refl r) same (stored ∙ rw (sym own) refl);
+          marks = marks-key k m (key-slot r) same (stored ∙ rw (sym own) refl);
         }
 
 -- the first byte of a field: its opening quote, or a fault

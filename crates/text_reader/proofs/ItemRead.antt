@@ -1,18 +1,20 @@
 -- An item by its parts: a value alone, or a key and its value.
-use mathlib.Core.Path.{_≡_, refl, _∙_}
+use mathlib.Core.Path.{_≡_, refl, sym, _∙_}
 use mathlib.Core.Bool.{true, false, true≢false}
 use mathlib.Core.List.{List, []}
-use mathlib.Core.Path.{sym}
 use Prim.Native.Nat.{ℕ, _-_, _≤_}
 use native.Mathlib.Omega.{arith}
 use Rattle.value_table.specs.Value.{Values, none}
-use Rattle.json_theory.specs.Grammar.{array, object}
+use Rattle.json_theory.specs.Grammar.{array, object, isSpace}
 use Rattle.json_theory.specs.Steps.{Stack, base, level, State, need}
 use Rattle.json_theory.specs.Book.{bookRecords}
 use Rattle.json_theory.specs.Reader.{depth}
+use Rattle.json_theory.specs.Inside.Scanning.{byteAt}
 use Rattle.text_reader.specs.Inside.Marks.{MarksHold}
-use Rattle.text_reader.specs.Inside.Progress.{AwaitsItem, message, firstItem, element, field, AwaitsValue, messageValue, firstElement, needed, inObject}
-use Rattle.text_reader.specs.Inside.Items.{KeyRead, ValueIs, ValuePlace, ItemIs}
+use Rattle.text_reader.specs.Inside.Progress.{AwaitsItem, message, firstItem, element, field, AwaitsValue, messageValue, firstElement, needed, Ready, inObject}
+use Rattle.text_reader.specs.Inside.Items.{FieldKeyIs, ItemKey, ItemKeyIs, ValueIs, ValuePlace, ItemIs}
+use Rattle.text_reader.specs.declared.field.Key.{Key}
+use Rattle.text_reader.specs.declared.field.Key.the-variants.{Found, Wrong}
 use Rattle.text_reader.specs.declared.value.Value.{Value}
 use Rattle.text_reader.specs.declared.value.Value.the-variants.{Scalar, Opened, Refused}
 use Rattle.text_reader.proofs.MarksHold.{marks-none, marks-scalar, marks-open}
@@ -41,32 +43,34 @@ pub outer-depth : {around : Stack} (b : Object around) {d : ℕ} → depth aroun
 unfolding depth
 outer-depth b e = let z = rw (b .is) at e in omega (arith, z)
 
-pub key-here : (text book seen : List ℕ) (room : ℕ) (σ : State) (p : ℕ) (around : Stack) (b : Object around) (k q : ℕ) →
-    let inner = level object (b .key) (b .done) (b .outer) in
-    KeyRead text book seen room σ p inner k (need k inner) q → KeyRead text book seen room σ p around k (need k around) q
-key-here text book seen room σ p around b k q h = rw (b .is) h
+module _ (text book seen : List ℕ) (room : ℕ) (σ : State) (p : ℕ) (around : Stack) where
+  -- an item with no key
+  pub no-key : AwaitsItem σ around → inObject around ≡ false → isSpace (byteAt text p) ≡ false → Ready text σ p → MarksHold (bookRecords book) seen around [] →
+      ItemKey text book seen room σ p around 0 p
+  no-key w o a r m = record { state = σ; awaits = value-item σ around w o; read = record { reads = refl; marks = marks-none m }; byte = a; ready = r }
 
-module _ (text book table seen : List ℕ) (room : ℕ) (σ : State) (p : ℕ) (around : Stack) where
-  pub plain-item : (v : Value) → ValueIs text book table room σ p 0 around v → MarksHold (bookRecords book) seen around [] → ItemIs text book table seen room σ p around v
-  plain-item (Scalar q) h m = record { key = 0; read = h; marks = marks-scalar (h .head) 0 (marks-none m) }
-  plain-item (Opened q isObj) h m = record { key = 0; read = h; marks = marks-open (h .container) 0 (marks-none m) }
-  plain-item (Refused why q) h m = h
+  -- the key of a field
+  pub field-item : (b : Object around) (r : Key) → FieldKeyIs text book seen room σ p (level object (b .key) (b .done) (b .outer)) r →
+      ItemKeyIs text book seen room σ p around r
+  field-item b (Found k q) h = record { state = need k around; awaits = needed; read = rw (b .is) (h .0); byte = h .1; ready = tt }
+  field-item b (Wrong why q) h = h
 
-  pub field-item : (k q : ℕ) (v : Value) → KeyRead text book seen room σ p around k (need k around) q → ValueIs text book table room (need k around) q k around v →
+  -- a key, or none, and its value
+  pub keyed-item : (table : List ℕ) {k q : ℕ} (i : ItemKey text book seen room σ p around k q) (v : Value) → ValueIs text book table room (i .state) q k around v →
       ItemIs text book table seen room σ p around v
-  field-item k q (Scalar n) r h =
+  keyed-item table {k = k} i (Scalar n) h =
       record {
         key = k;
-        read = record { head = h .head; reads = r .reads ∙ h .reads; holds = h .holds };
-        marks = marks-scalar (h .head) k (r .marks);
+        read = record { head = h .head; reads = i .read .reads ∙ h .reads; holds = h .holds };
+        marks = marks-scalar (h .head) k (i .read .marks);
       }
-  field-item k q (Opened n isObj) r h =
+  keyed-item table {k = k} i (Opened n isObj) h =
       record {
         key = k;
-        read = record { container = h .container; is-object = h .is-object; reads = r .reads ∙ h .reads; holds = h .holds; shallow = h .shallow };
-        marks = marks-open (h .container) k (r .marks);
+        read = record { container = h .container; is-object = h .is-object; reads = i .read .reads ∙ h .reads; holds = h .holds; shallow = h .shallow };
+        marks = marks-open (h .container) k (i .read .marks);
       }
-  field-item k q (Refused why n) r h = r .reads ∙ h
+  keyed-item table i (Refused why n) h = i .read .reads ∙ h
 
 pub value-place : (text : List ℕ) {p q : ℕ} → p ≤ q → (v : Value) → ValuePlace text q v → ValuePlace text p v
 value-place text l (Scalar n) h = (omega (arith, h .0), h .1)

@@ -10,3 +10,4 @@ pub mod ValueAt
 pub mod ItemRead
 pub mod ReadUpTo
 pub mod LoopFacts
+pub mod InFront

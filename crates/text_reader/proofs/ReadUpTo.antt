@@ -54,9 +54,6 @@ levels-open records objects o key d n b around deep counted is l m h = (
   levels-kept records objects d n b around (omega arith) h,
 )
 
-base-level : (ms : Values) {o : Container} {key : ℕ} {done : Values} {outer : Stack} → base ms ≡ level o key done outer → ⊥
-base-level ms e = let z : _≡_ {A = ℕ} 0 1 = cc in omega arith
-
 closer-some : {c : ℕ} (o : Container) → c ≡ closer o → 1 ≤ c
 closer-some array e = omega arith
 closer-some object e = omega arith

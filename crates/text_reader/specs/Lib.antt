@@ -1,2 +1,3 @@
--- The reader of texts.
+-- The reader of texts: what its call answers.
+pub mod Answer
 pub mod Inside

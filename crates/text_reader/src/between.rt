@@ -1,4 +1,5 @@
 // Between two items of a level: whether it is shut, and where the next item begins.
+use crate::Level;
 use json_tokens::scan::byte_at;
 use json_tokens::scan::space_end;
 ghost use mathlib.Core.Path.{_≡_};
@@ -20,14 +21,14 @@ pub enum Next {
     Bad(usize),
 }
 
-// Whether the byte at `at` shuts the innermost of `depth` open values.
-pub fn closes(text: &[u8], at: usize, depth: usize, object: bool) -> bool
-    ensures { λ r. ⌜ r ≡ shuts depth object (byteAt (now (text .entry)) at) ⌝ }
+// Whether the byte at `at` shuts the innermost open value.
+pub fn closes(text: &[u8], at: usize, level: Level) -> bool
+    ensures { λ r. ⌜ r ≡ shuts (level .depth) (level .object) (byteAt (now (text .entry)) at) ⌝ }
 {
-    if depth == 0 {
+    if level.depth == 0 {
         return false;
     }
-    if object {
+    if level.object {
         byte_at(text, at) == 0x7D
     } else {
         byte_at(text, at) == 0x5D

@@ -7,6 +7,8 @@ use json_items::item::colon_end;
 use json_items::item::key_end;
 use json_tokens::scan::Scan;
 use json_tokens::scan::byte_at;
+use key_book::guesses::HINTS;
+use key_book::validity;
 ghost use mathlib.Core.Path.{_≡_};
 ghost use mathlib.Core.Bool.{false};
 ghost use mathlib.Core.List.{[]};
@@ -33,20 +35,21 @@ pub enum Key {
 fn new_key(
     text: &[u8],
     book: &[u8],
+    hints: &[u16; HINTS],
     seen: &mut [u8],
     from: usize,
-    listed: usize,
     level: usize,
     mark: usize,
 ) -> Key
-    requires { ⌜ PlaceIn (now text) from × (length (now book) ≤ maxLength) × (badBook (now book) ≡ false) × (listed ≡ bookRecords (now book)) ⌝ }
-    requires { ⌜ MarksRow listed (now seen) level × (mark < 65536) ⌝ }
+    requires { ⌜ PlaceIn (now text) from × (length (now book) ≤ maxLength) × (badBook (now book) ≡ false) ⌝ }
+    requires { ⌜ MarksRow (bookRecords (now book)) (now seen) level × (mark < 65536) ⌝ }
     ensures { λ r. ⌜ KeyPlace (now (text .entry)) from r ⌝ }
     ensures { λ r. ⌜ ((room key : ℕ) (done : Values) (outer : Stack) → depthOf outer ≡ level → written outer + 1 ≡ mark →
-        MarksHold listed (now (seen .entry)) (inside object key done outer) [] →
+        MarksHold (bookRecords (now (book .entry))) (now (seen .entry)) (inside object key done outer) [] →
         NewKeyIs (now (text .entry)) (now (book .entry)) (now (seen .exit)) room (inKey plain [] (inside object key done outer)) from (inside object key done outer) r) ⌝ }
 {
-    match key_end(text, book, from) {
+    let listed = book.len() / validity::SIZE;
+    match key_end(text, book, from, hints) {
         Named::Faulty(place) => Key::Wrong(TextFault::Grammar, place),
         Named::Unlisted(quote) => Key::Wrong(TextFault::Unlisted, quote),
         Named::Found(key, quote) => {
@@ -54,7 +57,8 @@ fn new_key(
                 return Key::Wrong(TextFault::Repeated, quote);
             }
             set_mark(seen, listed, level, key, mark);
-            Key::Found(key, quote + 1)
+            let behind = quote + 1;
+            Key::Found(key, behind)
         }
     }
 }
@@ -74,24 +78,24 @@ fn behind_colon(text: &[u8], key: usize, from: usize) -> Key
 pub fn field_key(
     text: &[u8],
     book: &[u8],
+    hints: &[u16; HINTS],
     seen: &mut [u8],
     at: usize,
-    listed: usize,
     level: usize,
     mark: usize,
 ) -> Key
-    requires { ⌜ PlaceIn (now text) at × (length (now book) ≤ maxLength) × (badBook (now book) ≡ false) × (listed ≡ bookRecords (now book)) ⌝ }
-    requires { ⌜ MarksRow listed (now seen) level × (mark < 65536) ⌝ }
+    requires { ⌜ PlaceIn (now text) at × (length (now book) ≤ maxLength) × (badBook (now book) ≡ false) ⌝ }
+    requires { ⌜ MarksRow (bookRecords (now book)) (now seen) level × (mark < 65536) ⌝ }
     ensures { λ r. ⌜ KeyPlace (now (text .entry)) at r ⌝ }
     ensures { λ r. ⌜ ((room key : ℕ) (done : Values) (outer : Stack) (σ : State) → AwaitsItem σ (inside object key done outer) →
         isSpace (byteAt (now (text .entry)) at) ≡ false → Ready (now (text .entry)) σ at →
-        depthOf outer ≡ level → written outer + 1 ≡ mark → MarksHold listed (now (seen .entry)) (inside object key done outer) [] →
+        depthOf outer ≡ level → written outer + 1 ≡ mark → MarksHold (bookRecords (now (book .entry))) (now (seen .entry)) (inside object key done outer) [] →
         FieldKeyIs (now (text .entry)) (now (book .entry)) (now (seen .exit)) room σ at (inside object key done outer) r) ⌝ }
 {
     if byte_at(text, at) != 0x22 {
         return Key::Wrong(TextFault::Grammar, at);
     }
-    match new_key(text, book, seen, at + 1, listed, level, mark) {
+    match new_key(text, book, hints, seen, at + 1, level, mark) {
         Key::Wrong(why, place) => Key::Wrong(why, place),
         Key::Found(key, from) => behind_colon(text, key, from),
     }

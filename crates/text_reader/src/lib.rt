@@ -1,5 +1,6 @@
 // The reader from JSON text to a value table.
 pub mod between;
+pub mod call;
 pub mod field;
 pub mod item;
 pub mod key_marks;
@@ -14,4 +15,11 @@ pub enum TextFault {
     Repeated,
     Deep,
     Full,
+}
+
+// The innermost open value: its record, whether it is an object, and how many values are open. Where none is, the record is 0 and no object.
+pub struct Level {
+    record: usize,
+    object: bool,
+    depth: usize,
 }

@@ -1,4 +1,5 @@
 // The loop over a text, item by item.
+use crate::Level;
 use crate::TextFault;
 use crate::between::Next;
 use crate::between::closes;
@@ -6,19 +7,19 @@ use crate::between::next_item;
 use crate::item::item_at;
 use crate::value::Value;
 use json_tokens::scan::space_end;
+use key_book::guesses::HINTS;
 use value_table::record;
 use value_table::record_store::store_span;
 ghost use mathlib.Core.Path.{_≡_};
-ghost use mathlib.Core.Bool.{false, cond};
 ghost use mathlib.Core.List.{[]};
-ghost use Prim.Native.Nat.{_*_, _-_, _/_, _≤_};
-ghost use lib.Dec.{eqb};
-ghost use lib.ListN.{length, getD};
+ghost use mathlib.Core.Bool.{false};
+ghost use Prim.Native.Nat.{_*_, _/_, _≤_};
+ghost use lib.ListN.{length};
 ghost use Rattle.value_table.specs.Value.{recordSize, maxLength, maxDepth, none};
 ghost use Rattle.json_theory.specs.Steps.{base};
 ghost use Rattle.json_theory.specs.Book.{badBook, bookRecords};
 ghost use Rattle.text_reader.specs.Inside.Marks.{MarksHold};
-ghost use Rattle.text_reader.specs.Inside.Items.{ReadIs};
+ghost use Rattle.text_reader.specs.Inside.Items.{InnermostIs, ReadIs};
 
 // The open values: the record of each, whether it is an object, and how many there are.
 struct Open {
@@ -33,23 +34,37 @@ pub enum ReadText {
     Faulty(TextFault, usize),
 }
 
-// The record of the innermost of `depth` open values, or 0 where there is none.
-fn inner_record(records: &[usize; record::MAX_DEPTH], depth: usize) -> usize
-    requires { ⌜ depth ≤ maxDepth ⌝ }
-    ensures { λ r. ⌜ r ≡ cond (eqb depth 0) 0 (getD (now (records .entry)) (depth - 1) 0) ⌝ }
+// No value is open.
+fn none_open() -> Open
+    ensures { λ r. ⌜ (length (r .records) ≡ maxDepth) × (length (r .objects) ≡ maxDepth) × (r .depth ≡ 0) ⌝ }
 {
-    if depth == 0 { 0 } else { records[depth - 1] }
+    Open {
+        records: [0; record::MAX_DEPTH],
+        objects: [false; record::MAX_DEPTH],
+        depth: 0,
+    }
 }
 
-// Whether the innermost of `depth` open values is an object.
-fn inner_object(objects: &[bool; record::MAX_DEPTH], depth: usize) -> bool
+// The innermost of `depth` open values.
+fn innermost<'a>(
+    records: &'a [usize; record::MAX_DEPTH],
+    objects: &'a [bool; record::MAX_DEPTH],
+    depth: usize,
+) -> Level
     requires { ⌜ depth ≤ maxDepth ⌝ }
-    ensures { λ r. ⌜ r ≡ cond (eqb depth 0) false (getD (now (objects .entry)) (depth - 1) false) ⌝ }
+    ensures { λ r. ⌜ InnermostIs (now (records .entry)) (now (objects .entry)) depth r ⌝ }
 {
     if depth == 0 {
-        false
-    } else {
-        objects[depth - 1]
+        return Level {
+            record: 0,
+            object: false,
+            depth: 0,
+        };
+    }
+    Level {
+        record: records[depth - 1],
+        object: objects[depth - 1],
+        depth: depth,
     }
 }
 
@@ -57,67 +72,50 @@ fn inner_object(objects: &[bool; record::MAX_DEPTH], depth: usize) -> bool
 pub fn read_messages(
     text: &[u8],
     book: &[u8],
+    hints: &[u16; HINTS],
     table: &mut [u8],
     seen: &mut [u8],
-    listed: usize,
 ) -> ReadText
-    requires { ⌜ (length (now text) ≤ maxLength) × (length (now book) ≤ maxLength) × (badBook (now book) ≡ false) × (listed ≡ bookRecords (now book)) ⌝ }
-    requires { ⌜ (length (now table) ≤ maxLength) × MarksHold listed (now seen) (base none) [] × (length (now seen) ≤ 2 * maxLength) ⌝ }
+    requires { ⌜ (length (now text) ≤ maxLength) × (length (now book) ≤ maxLength) × (badBook (now book) ≡ false) ⌝ }
+    requires { ⌜ (length (now table) ≤ maxLength) × MarksHold (bookRecords (now book)) (now seen) (base none) [] × (length (now seen) ≤ 2 * maxLength) ⌝ }
     ensures { λ r. ⌜ ReadIs (now (text .entry)) (now (book .entry)) (now (table .exit)) (length (now (table .entry)) / recordSize) r ⌝ }
 {
-    let mut open = Open {
-        records: [0; record::MAX_DEPTH],
-        objects: [false; record::MAX_DEPTH],
-        depth: 0,
-    };
+    let mut open = none_open();
     let mut count = 0;
     let mut at = 0;
     let mut fresh = true;
     loop {
         let depth = open.depth;
-        let own = inner_record(&open.records, depth);
-        let object = inner_object(&open.objects, depth);
+        let level = innermost(&open.records, &open.objects, depth);
         let here = space_end(text, at);
-        if closes(text, here, depth, object) {
-            store_span(table, own, count - own);
+        if closes(text, here, level) {
+            store_span(table, level.record, count - level.record);
             open.depth = depth - 1;
             at = here + 1;
             fresh = false;
             continue;
         }
-        match next_item(text, at, here, depth, fresh) {
+        let start = match next_item(text, at, here, depth, fresh) {
+            Next::Item(start) => start,
             Next::End => return ReadText::Accepted(count),
             Next::Bad(place) => return ReadText::Faulty(TextFault::Grammar, place),
-            Next::Item(start) => {
-                match item_at(
-                    text,
-                    book,
-                    table,
-                    seen,
-                    start,
-                    count,
-                    depth,
-                    object,
-                    listed,
-                    own + 1,
-                ) {
-                    Value::Refused(why, place) => return ReadText::Faulty(why, place),
-                    Value::Scalar(end) => {
-                        at = end;
-                        fresh = false;
-                        count += 1;
-                        continue;
-                    }
-                    Value::Opened(end, is_object) => {
-                        open.records[depth] = count;
-                        open.objects[depth] = is_object;
-                        open.depth = depth + 1;
-                        at = end;
-                        fresh = true;
-                        count += 1;
-                        continue;
-                    }
-                }
+        };
+        match item_at(text, book, hints, table, seen, start, count, level) {
+            Value::Refused(why, place) => return ReadText::Faulty(why, place),
+            Value::Scalar(end) => {
+                at = end;
+                fresh = false;
+                count += 1;
+                continue;
+            }
+            Value::Opened(end, is_object) => {
+                open.records[depth] = count;
+                open.objects[depth] = is_object;
+                open.depth = depth + 1;
+                at = end;
+                fresh = true;
+                count += 1;
+                continue;
             }
         }
     }

@@ -49,7 +49,7 @@ pub fn start_of(layout: Layout, i: usize) -> usize
     }
 }
 
-fn store(bytes: &mut [u8], p: usize, number: u64) {
+pub fn store(bytes: &mut [u8], p: usize, number: u64) {
     if p < bytes.len() {
         bytes[p] = (number % 256) as u8;
     }

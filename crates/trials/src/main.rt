@@ -1,6 +1,7 @@
-// Document 01's trials of the five calls, and every refusal of them: reads the trials, and prints the answer to each as a line.
+// Trials of the calls by documents 01 and 02, and every refusal of them: reads the trials, and prints the answer to each as a line.
 mod lines;
 mod output;
+mod texts;
 mod trial;
 
 fn main() {

@@ -6,6 +6,7 @@ use crate::output::print;
 use crate::output::print_answer;
 use crate::output::print_type;
 use crate::output::type_in;
+use crate::texts::try_text;
 use answers::Answered;
 use trial_notation::notation::build;
 use trial_notation::records::Layout;
@@ -22,10 +23,10 @@ use value_table::record;
 const LARGEST: usize = record::MAX_LENGTH / type_record::SIZE * type_record::SIZE;
 
 // One type record more than a type may have.
-const ROOM: usize = LARGEST + type_record::SIZE;
+pub const ROOM: usize = LARGEST + type_record::SIZE;
 
 // What the buffers that a call writes hold beforehand.
-const DIRT: u8 = 165;
+pub const DIRT: u8 = 165;
 
 // Call 1. The line may name the table's length.
 fn try_table(head: &[u8], records: &[u8]) {
@@ -121,7 +122,7 @@ fn try_merge(equivalence: u64, head: &[u8], records: &[u8]) {
 
 fn takes_equivalence(call: u8) -> bool {
     match call {
-        b'1' | b'3' => false,
+        b'1' | b'3' | b'6' => false,
         _ => true,
     }
 }
@@ -145,6 +146,7 @@ fn try_under(call: u8, equivalence: u64, head: &[u8], records: &[u8]) {
         b'1' => try_table(head, records),
         b'4' => try_type(equivalence, head, records),
         b'5' => try_merge(equivalence, head, records),
+        b'6' => try_text(head, records),
         _ => try_inference(call, equivalence, head, records),
     }
     io::write_all(1, b"\n");

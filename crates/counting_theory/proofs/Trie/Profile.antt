@@ -1,9 +1,9 @@
--- Equations between tries, by their maps: reduce is add, and order and grouping make no difference to a profile.
+-- Equations between tries, by their maps: reduce is add, order makes no difference to a profile, and the merge of two is the profile of both.
 use mathlib.Core.Path.{_≡_, refl, sym, _∙_, ap}
-use mathlib.Core.List.{List, [], _∷_, _++_, List·Permᴰ, List·Permᴰ·nil, List·Permᴰ·cons, List·Permᴰ·swap, List·Permᴰ·trans}
+use mathlib.Core.List.{List, List·Permᴰ, List·Permᴰ·nil, List·Permᴰ·cons, List·Permᴰ·swap, List·Permᴰ·trans}
 use Rattle.counting_theory.specs.Trie.{Forest, nil, node, TrieOps, Trie, lookup, add, profile, reduce, Sorted}
 use Rattle.counting_theory.specs.Inside.TrieLaws.{TrieLaws, append, concat, SameMap}
-use Rattle.counting_theory.proofs.Trie.Join.{⊞-none, ⊞-comm, ⊞-assoc, ⊞-left-comm}
+use Rattle.counting_theory.proofs.Trie.Join.{⊞-none, ⊞-comm, ⊞-left-comm}
 use Rattle.counting_theory.proofs.Trie.Lookup.{lookup-add, lookup-append, lookup-reduce}
 use Rattle.counting_theory.proofs.Trie.Sorted.{sorted-add, sorted-profile, sorted-reduce}
 use Rattle.counting_theory.proofs.Trie.Canonical.{canonical}
@@ -13,22 +13,9 @@ unfolding append
 append-assoc nil s t = refl
 append-assoc (node l a c r) s t = ap (node l a c) (append-assoc r s t)
 
-concat-append : {L P : Type 0} (rs qs : List (Forest L P)) → concat (rs ++ qs) ≡ append (concat rs) (concat qs)
-unfolding concat append
-concat-append [] qs = refl
-concat-append (r ∷ rs) qs = rw (concat-append rs qs) (sym (append-assoc r (concat rs) (concat qs)))
-
 module _ {T : TrieOps} (W : TrieLaws T) where
   pub reduce-add : (f g : Trie T) → Sorted T f → Sorted T g → reduce T f g ≡ add T f g
   reduce-add f g u v = canonical W (sorted-reduce W f g u v) (sorted-add W f g v) (λ p. lookup-reduce W f g p ∙ sym (lookup-add W f g p))
-
-  pub reduce-comm : (f g : Trie T) → Sorted T f → Sorted T g → reduce T f g ≡ reduce T g f
-  reduce-comm f g u v = canonical W (sorted-reduce W f g u v) (sorted-reduce W g f v u) (λ p. simp (lookup-reduce W) (⊞-comm W _ _))
-
-  pub reduce-assoc : (f g h : Trie T) → Sorted T f → Sorted T g → Sorted T h → reduce T (reduce T f g) h ≡ reduce T f (reduce T g h)
-  reduce-assoc f g h u v w =
-      canonical W (sorted-reduce W (reduce T f g) h (sorted-reduce W f g u v) w) (sorted-reduce W f (reduce T g h) u (sorted-reduce W g h v w))
-      (λ p. simp (lookup-reduce W) (⊞-assoc W _ _ _))
 
   pub lookup-profile : (r : Trie T) → SameMap T (profile T r) r
   unfolding lookup
@@ -57,10 +44,6 @@ module _ {T : TrieOps} (W : TrieLaws T) where
   reduce-profile r s =
       canonical W (sorted-reduce W (profile T r) (profile T s) (sorted-profile W r) (sorted-profile W s)) (sorted-profile W (append r s))
       (λ p. simp (lookup-reduce W, lookup-profile, lookup-append W))
-
-  -- so the grouping of a collection makes no difference
-  pub reduce-concat : (rs qs : List (Trie T)) → reduce T (profile T (concat rs)) (profile T (concat qs)) ≡ profile T (concat (rs ++ qs))
-  reduce-concat rs qs = reduce-profile (concat rs) (concat qs) ∙ ap (profile T) (sym (concat-append rs qs))
 
   pub add-comm : (r f : Trie T) → Sorted T f → add T r f ≡ add T f (profile T r)
   add-comm r f u =

@@ -2,11 +2,11 @@
 use mathlib.Core.Path.{_≡_}
 use mathlib.Core.Bool.{Bool, true, false, cond, not, _&&_, _||_}
 use mathlib.Core.List.{List, [], _∷_}
-use Prim.Native.Nat.{ℕ, _≤_, _<_}
-use lib.Dec.{eqb}
+use Prim.Native.Nat.{ℕ, _+_, _≤_, _<_}
+use lib.Dec.{eqb, leb}
 use Rattle.json_theory.specs.Rx.{within}
 use Rattle.json_theory.specs.Grammar.{quote}
-use Rattle.json_theory.specs.Parts.{Turn, go, ended, stuck, goIf, StringPart, plain, nextInString, NumberPart, point, e, isDigit, isE, nextInNumber, mayEnd}
+use Rattle.json_theory.specs.Parts.{Turn, go, ended, stuck, goIf, StringPart, plain, nextInString, NumberPart, point, e, power, isDigit, isE, nextInNumber, mayEnd}
 use Rattle.json_tokens.specs.declared.scan.Scan.{Scan}
 use Rattle.json_tokens.specs.declared.scan.Scan.the-variants.{To, Bad}
 use Rattle.json_tokens.specs.declared.scan.Quoted.{Quoted}
@@ -19,6 +19,23 @@ isPlain c = not (eqb c quote) && (not (eqb c 0x5C) && within 0x20 0x7F c)
 
 abbrev pub isOther : ℕ → Bool
 isOther c = not (eqb c 0x5C)
+
+-- the bytes that may stand behind a lead byte, RFC 3629
+abbrev pub lowestBehind : ℕ → ℕ
+lowestBehind c = cond (eqb c 0xE0) 0xA0 (cond (eqb c 0xF0) 0x90 0x80)
+
+abbrev pub highestBehind : ℕ → ℕ
+highestBehind c = cond (eqb c 0xED) 0x9F (cond (eqb c 0xF4) 0x8F 0xBF)
+
+-- how many bytes a character has by its lead byte
+abbrev pub widthOf : ℕ → ℕ
+widthOf c = cond (leb c 0xDF) 2 (cond (leb c 0xEF) 3 4)
+
+-- the bytes behind the lead byte c at p are those that it asks for
+pub record TailFits (text : List ℕ) (p c : ℕ) : Type 0 where
+  pub second : within (lowestBehind c) (highestBehind c) (byteAt text (p + 1)) ≡ true
+  pub third : 0xE0 ≤ c → within 0x80 0xBF (byteAt text (p + 2)) ≡ true
+  pub fourth : 0xF0 ≤ c → within 0x80 0xBF (byteAt text (p + 3)) ≡ true
 
 -- a scan from part a to part b
 abbrev pub ScanIs : {P : Type 0} → (P → ℕ → Turn P) → List ℕ → P → ℕ → P → Scan → Type 0
@@ -81,25 +98,40 @@ abbrev pub DigitsIs : List ℕ → ℕ → Scan → Type 0
 DigitsIs text p (To q) = RunTo isDigit text p q × (p < q)
 DigitsIs text p (Bad q) = (q ≡ p) × (isDigit (byteAt text p) ≡ false)
 
--- a number from part a at byte p: byte q is the first that it cannot go on with, and it may end there or not
-pub record NumberTo (text : List ℕ) (a : NumberPart) (p q : ℕ) (ends : Bool) : Type 0 where
+-- what a number goes on with: behind int, behind frac and behind the sign of exp; and with nothing
+abbrev pub afterInt : ℕ → Turn NumberPart
+afterInt c = cond (eqb c 0x2E) (go point) (goIf (isE c) e)
+
+abbrev pub afterFrac : ℕ → Turn NumberPart
+afterFrac c = goIf (isE c) e
+
+abbrev pub afterSign : ℕ → Turn NumberPart
+afterSign c = goIf (isDigit c) power
+
+abbrev pub noMore : ℕ → Turn NumberPart
+noMore c = stuck
+
+-- a number from part a at byte p to another at byte q: what it goes on with there, and whether it may end
+pub record PartTo (turn : ℕ → Turn NumberPart) (text : List ℕ) (a : NumberPart) (p q : ℕ) (ends : Bool) : Type 0 where
   pub part : NumberPart
   pub goes : Goes nextInNumber text a p part q
-  pub stays : nextInNumber part (byteAt text q) ≡ stuck
+  pub stays : nextInNumber part (byteAt text q) ≡ turn (byteAt text q)
   pub end : mayEnd part ≡ ends
 
+-- the whole number: byte q is the first that it cannot go on with
+abbrev pub NumberTo : List ℕ → NumberPart → ℕ → ℕ → Bool → Type 0
+NumberTo text a p q ends = PartTo noMore text a p q ends
+
+abbrev pub PartIs : (ℕ → Turn NumberPart) → List ℕ → NumberPart → ℕ → Scan → Type 0
+PartIs turn text a p (To q) = PartTo turn text a p q true
+PartIs turn text a p (Bad q) = NumberTo text a p q false
+
 abbrev pub NumberIs : List ℕ → NumberPart → ℕ → Scan → Type 0
-NumberIs text a p (To q) = NumberTo text a p q true
-NumberIs text a p (Bad q) = NumberTo text a p q false
+NumberIs text a p r = PartIs noMore text a p r
 
--- behind a part of a number that may be its end: an exponent or nothing; and the same with a fraction before it
-abbrev pub ExponentIs : List ℕ → ℕ → Scan → Type 0
-ExponentIs text p r = (a : NumberPart) → mayEnd a ≡ true → nextInNumber a (byteAt text p) ≡ goIf (isE (byteAt text p)) e → NumberIs text a p r
-
-abbrev pub FractionIs : List ℕ → ℕ → Scan → Type 0
-FractionIs text p r =
-    (a : NumberPart) → mayEnd a ≡ true → nextInNumber a (byteAt text p) ≡ cond (eqb (byteAt text p) 0x2E) (go point) (goIf (isE (byteAt text p)) e) →
-    NumberIs text a p r
+-- behind a part that may be the end and goes on by `turn`, to where it goes on by `next`
+abbrev pub BehindIs : (turn next : ℕ → Turn NumberPart) → List ℕ → ℕ → Scan → Type 0
+BehindIs turn next text p r = (a : NumberPart) → mayEnd a ≡ true → nextInNumber a (byteAt text p) ≡ turn (byteAt text p) → PartIs next text a p r
 
 -- the letters of a word that are to come
 unfoldable pub nextLetter : List ℕ → ℕ → Turn (List ℕ)

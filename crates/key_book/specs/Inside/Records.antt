@@ -6,7 +6,8 @@ use Prim.Native.Nat.{ℕ, _+_, _*_, _≤_, _<_}
 use lib.Dec.{eqb}
 use lib.ListN.{length, getD, take, drop}
 use Rattle.value_table.specs.Value.{maxLength}
-use Rattle.json_theory.specs.Book.{bookSize, before, bookRecords, goodRecord, badBook}
+use Rattle.json_theory.specs.Book.{bookSize, keyOf, before, bookRecords, goodRecord, badBook}
+use Rattle.json_theory.specs.Inside.Scanning.{Running, between}
 use Rattle.key_book.specs.declared.search.Order.{Order}
 use Rattle.key_book.specs.declared.search.Order.the-variants.{Less, Same, More}
 
@@ -40,3 +41,15 @@ OrderIs k w More = before w k ≡ true
 
 abbrev pub isFilled : ℕ → Bool
 isFilled c = not (eqb c 0)
+
+-- record i, and up to 32 bytes of a text without a zero
+abbrev pub Sought : List ℕ → ℕ → List ℕ → ℕ → ℕ → Type 0
+Sought b i text p q = HasRecord b i × Running isFilled text p q × (q ≤ p + bookSize)
+
+-- a yes is right; a no may be wrong
+abbrev pub KeyIf : List ℕ → ℕ → List ℕ → ℕ → ℕ → Bool → Type 0
+KeyIf b i text p q t = t ≡ true → keyOf (bookRecord b i) ≡ between text p q
+
+-- the places for guesses
+abbrev pub places : ℕ
+places = 4096

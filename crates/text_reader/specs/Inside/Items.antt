@@ -1,23 +1,28 @@
 -- What the functions between two items answer.
 use mathlib.Core.Path.{_≡_}
-use mathlib.Core.Bool.{Bool, false, cond}
+use mathlib.Core.Bool.{Bool, true, false, cond}
 use mathlib.Core.List.{List, [], _∷_}
-use Prim.Native.Nat.{ℕ, _*_, _≤_, _<_}
-use lib.Dec.{ltb}
-use lib.ListN.{length, drop}
-use Rattle.value_table.specs.Value.{Head, Values, none, value, size, maxDepth, maxLength}
+use Prim.Native.Nat.{ℕ, _+_, _*_, _-_, _≤_, _<_}
+use lib.Dec.{eqb, ltb}
+use lib.ListN.{length, getD, take, drop}
+use Rattle.value_table.specs.Value.{recordSize, Head, Values, none, value, size, maxDepth, maxLength}
 use Rattle.json_theory.specs.Grammar.{isSpace, Container, headOf}
 use Rattle.json_theory.specs.Parts.{Start, open′}
 use Rattle.json_theory.specs.Steps.{Stack, base, level, add, State, gap, after, first, need, colon, begin}
 use Rattle.json_theory.specs.Book.{bookRecords}
 use Rattle.json_theory.specs.Reader.{depth, written, fine, faultAt, readFrom}
 use Rattle.json_theory.specs.Inside.Scanning.{byteAt, Leads, Breaks}
-use Rattle.text_reader.specs.Inside.Progress.{ItemAt, readsFrom, isObject, kindStarted, Between, LevelsHold}
+use Rattle.text_reader.specs.Answer.{numberOfTextFault, outcomeOfText}
+use Rattle.text_reader.specs.declared.call.TextAnswer.{TextAnswer}
+use Rattle.byte_records.specs.Number.{zeros}
+use Rattle.json_theory.specs.Reader.{Read}
+use Rattle.text_reader.specs.Inside.Progress.{ItemAt, readsFrom, isObject, kindStarted, Between, LevelsHold, AwaitsValue, Ready, inObject, ownRecord}
 use Rattle.text_reader.specs.Inside.Laid.{TableHolds}
 use Rattle.json_items.specs.Inside.Items.{ColonTo}
 use Rattle.text_reader.specs.Inside.Marks.{markSize, MarksHold}
 use Rattle.text_reader.specs.declared.TextFault.{TextFault}
-use Rattle.text_reader.specs.declared.TextFault.the-variants.{Grammar, Unlisted, Repeated, Deep, Full}
+use Rattle.text_reader.specs.declared.TextFault.the-variants.{Grammar}
+use Rattle.text_reader.specs.declared.Level.{Level}
 use Rattle.text_reader.specs.declared.field.Key.{Key}
 use Rattle.text_reader.specs.declared.field.Key.the-variants.{Found, Wrong}
 use Rattle.text_reader.specs.declared.reader.ReadText.{ReadText}
@@ -40,14 +45,6 @@ NextIs text σ p around (Bad q) = Breaks text σ p q
 
 abbrev pub messageOrEnd : List ℕ → ℕ → Next
 messageOrEnd text p = cond (ltb p (length text)) (Item p) End
-
--- the refusal numbers of document 02
-abbrev pub numberOfTextFault : TextFault → ℕ
-numberOfTextFault Grammar = 12
-numberOfTextFault Unlisted = 13
-numberOfTextFault Repeated = 6
-numberOfTextFault Deep = 7
-numberOfTextFault Full = 11
 
 -- the reading from state σ at byte p is refused
 abbrev pub RefusedBy : (text book : List ℕ) → ℕ → State → ℕ → TextFault → ℕ → Type 0
@@ -81,6 +78,37 @@ pub record MarksRow (listed : ℕ) (seen : List ℕ) (d : ℕ) : Type 0 where
   pub room : markSize * (maxDepth * listed) ≤ length seen
   pub small : length seen ≤ 2 * maxLength
   pub level-low : d < maxDepth
+
+-- the innermost of d open values
+pub record InnermostIs (records : List ℕ) (objects : List Bool) (d : ℕ) (lv : Level) : Type 0 where
+  pub depth-is : lv .depth ≡ d
+  pub record-is : lv .record ≡ cond (eqb d 0) 0 (getD records (d - 1) 0)
+  pub object-is : lv .object ≡ cond (eqb d 0) false (getD objects (d - 1) false)
+
+pub record LevelIs (around : Stack) (lv : Level) : Type 0 where
+  pub depth-is : depth around ≡ lv .depth
+  pub record-is : ownRecord around ≡ lv .record
+  pub object-is : inObject around ≡ lv .object
+
+-- its keys have their marks, and their mark is a number of two bytes
+pub record LevelFits (listed : ℕ) (seen : List ℕ) (lv : Level) : Type 0 where
+  pub room : markSize * (maxDepth * listed) ≤ length seen
+  pub small : length seen ≤ 2 * maxLength
+  pub shallow : lv .depth ≤ maxDepth
+  pub deep : lv .object ≡ true → 1 ≤ lv .depth
+  pub record-low : lv .record + 1 < 65536
+
+-- the key of an item has been read and marked, or there is none, and its value begins at byte q
+pub record ItemKey (text book seen : List ℕ) (room : ℕ) (σ : State) (p : ℕ) (around : Stack) (k q : ℕ) : Type 0 where
+  pub state : State
+  pub awaits : AwaitsValue state k around
+  pub read : KeyRead text book seen room σ p around k state q
+  pub byte : isSpace (byteAt text q) ≡ false
+  pub ready : Ready text state q
+
+abbrev pub ItemKeyIs : (text book seen : List ℕ) → ℕ → State → ℕ → Stack → Key → Type 0
+ItemKeyIs text book seen room σ p around (Found k q) = ItemKey text book seen room σ p around k q
+ItemKeyIs text book seen room σ p around (Wrong why q) = RefusedBy text book room σ p why q
 
 -- a scalar has been read up to byte q, and has its record
 pub record ScalarRead (text book table : List ℕ) (room : ℕ) (σ : State) (p key : ℕ) (around : Stack) (q : ℕ) : Type 0 where
@@ -154,3 +182,10 @@ pub record AllRead (text book table : List ℕ) (room n : ℕ) : Type 0 where
 abbrev pub ReadIs : (text book table : List ℕ) → ℕ → ReadText → Type 0
 ReadIs text book table room (Accepted n) = AllRead text book table room n
 ReadIs text book table room (Faulty why q) = RefusedBy text book room (gap none) 0 why q
+
+-- before the rest of the table is cleared: the answer is that of r, and the table begins with the records that it counts
+pub record ReadInFront (r : Read) (answer : TextAnswer) (table : List ℕ) : Type 0 where
+  pub outcome : outcomeOfText answer ≡ r .outcome
+  pub front : take (recordSize * r .outcome .count) table ≡ take (recordSize * r .outcome .count) (r .table)
+  pub room : recordSize * r .outcome .count ≤ length table
+  pub rest : drop (recordSize * r .outcome .count) (r .table) ≡ zeros (length table - recordSize * r .outcome .count)

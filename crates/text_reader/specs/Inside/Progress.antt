@@ -83,14 +83,10 @@ kindStarted string = 4
 kindStarted (open′ o) = kindOf o
 kindStarted nothing = 0
 
--- whether the innermost level is an object, and the mark of its record, which outside of all is of no use
+-- whether the innermost level is an object
 abbrev pub inObject : Stack → Bool
 inObject (base ms) = false
 inObject (level o key done outer) = isObject o
-
-abbrev pub markOf : Stack → ℕ
-markOf (base ms) = 1
-markOf (level o key done outer) = written outer + 1
 
 -- the record of the innermost level, and whether the byte c shuts it
 abbrev pub ownRecord : Stack → ℕ

@@ -1,6 +1,6 @@
 -- `digits_end` meets its contract.
 use mathlib.Core.Path.{refl, sym, _∙_}
-use Prim.Native.Nat.{_-_}
+use Prim.Native.Nat.{_-_, _≤_}
 use lib.ListN.{length}
 use borrow.Author.Tests.{not-true, not-false}
 use borrow.Author.Needs.{needs}
@@ -11,24 +11,24 @@ use Rattle.json_tokens.proofs.scan.digits_end.Statement.{statement}
 use Rattle.json_tokens.proofs.scan.digits_end.Tie as tie
 
 abbrev Inv-loop : tie.InvT-loop
-Inv-loop text from at₀ at = Running isDigit text from at
+Inv-loop text from at₀ at = from ≤ length text → Running isDigit text from at
 
 abbrev μ-loop : tie.MeasureT-loop
 μ-loop text from at₀ at = length text - at
 
 loop-holds : tie.Need-loop-holds Inv-loop μ-loop
-loop-holds c = running-start (search needs)
+loop-holds c = λ l. running-start l
 
 returns : tie.Need-returns Inv-loop μ-loop
-returns c = record { running = c .before .before .before .before .loop .inv; fails = sym (c .before .is-digit .ensures) ∙ not-true _ (c .if1 .taken) }
+returns c = λ l. record { running = c .before .before .before .before .loop .inv l; fails = sym (c .before .is-digit .ensures) ∙ not-true _ (c .if1 .taken) }
 
 loop-again : tie.Need-loop-again Inv-loop μ-loop
 loop-again c =
     let turn = c .before .before .before .before in
-    running-on (turn .loop .inv) (c .before .before .before .loop-test .taken) (sym (c .before .is-digit .ensures) ∙ not-false _ (c .if1 .left))
+    λ l. running-on (turn .loop .inv l) (c .before .before .before .loop-test .taken) (sym (c .before .is-digit .ensures) ∙ not-false _ (c .if1 .left))
 
 returns-2 : tie.Need-returns-2 Inv-loop μ-loop
-returns-2 c = run-out (c .before .loop .inv) (c .loop-test .left) refl
+returns-2 c = λ l. run-out (c .before .loop .inv l) (c .loop-test .left) refl
 
 pub digits-end-spec : {M : Type 1} → statement M
 digits-end-spec =

@@ -1,55 +1,40 @@
 -- `exponent_end` meets its contract.
-use mathlib.Core.Path.{sym, ap, _∙_}
-use Prim.Native.Nat.{_+_}
+use mathlib.Core.Path.{_≡_, refl, sym, ap, _∙_}
+use mathlib.Core.Bool.{true}
+use Prim.Native.Nat.{_<_}
+use native.Mathlib.Omega.{arith}
+use lib.ListN.{length}
 use borrow.Author.Tests.{not-true, not-false}
 use borrow.Author.Needs.{needs}
-use Rattle.json_theory.specs.Parts.{isE}
-use Rattle.json_tokens.specs.Inside.Tokens.{isSign}
-use Rattle.json_tokens.proofs.Numbers.{e-inside, sign-inside, no-exponent, with-sign, without-sign}
+use Rattle.json_theory.specs.Parts.{isE, e}
+use Rattle.json_theory.specs.Inside.Scanning.{byteAt}
+use Rattle.json_tokens.proofs.Tokens.{test-inside}
+use Rattle.json_tokens.proofs.Strings.{stuck-if}
+use Rattle.json_tokens.proofs.Numbers.{number-upto, part-here, exponent}
 use Rattle.json_tokens.proofs.scan.exponent_end.Statement.{statement}
 use Rattle.json_tokens.proofs.scan.exponent_end.Tie as tie
 
+an-e : (c : tie.Else1) → isE (byteAt (c .before .before .before .before .args .text .now) (c .before .before .before .before .args .from)) ≡ true
+an-e c = ap isE (sym (c .before .before .byte-at .ensures)) ∙ sym (c .before .is-e .ensures) ∙ not-false _ (c .if1 .left)
+
+inside : (c : tie.Else1) → c .before .before .before .before .args .from < length (c .before .before .before .before .args .text .now)
+inside c = let entry = c .before .before .before .before in test-inside isE (entry .args .text .now) (entry .args .from) refl (an-e c)
+
 returns : tie.Need-returns
-returns c = λ a m h. no-exponent _ a _ m h (ap isE (sym (c .before .before .byte-at .ensures)) ∙ sym (c .before .is-e .ensures) ∙ not-true _ (c .if1 .taken))
+returns c =
+    λ a m h. part-here m
+    (h ∙ stuck-if _ e (ap isE (sym (c .before .before .byte-at .ensures)) ∙ sym (c .before .is-e .ensures) ∙ not-true _ (c .if1 .taken)))
+
+add-sign-end : tie.Need-add-sign-end
+add-sign-end c = let i = inside c in search needs
 
 some-digits-requires : tie.Need-some-digits-requires
-some-digits-requires c κs =
-    let entry = c .before .before .before .before .before .before .before in
-    let text = entry .args .text .now in
-    let from = entry .args .from in
-    let i = sign-inside text (from + 1) (ap isSign (sym (c .before .before .byte-at2 .ensures)) ∙ sym (c .before .is-sign .ensures) ∙ c .if2 .taken) in
-    search needs
-
-some-digits-requires-2 : tie.Need-some-digits-requires-2
-some-digits-requires-2 c κs =
-    let entry = c .before .before .before .before .before .before .before in
-    let text = entry .args .text .now in
-    let from = entry .args .from in
-    let i = e-inside text from
-    (ap isE (sym (c .before .before .before .before .before .byte-at .ensures)) ∙ sym (c .before .before .before .before .is-e .ensures) ∙ not-false _
-    (c .before .before .before .if1 .left))
-    in
-    search needs
+some-digits-requires c κs = number-upto (c .sign-end .ensures .goes) (omega (arith, inside (c .before)))
 
 returns-2 : tie.Need-returns-2
-returns-2 c =
-    λ a m h. with-sign _ a _ h
-    (ap isE (sym (c .before .before .before .before .before .before .byte-at .ensures)) ∙ sym (c .before .before .before .before .before .is-e .ensures)
-    ∙ not-false _ (c .before .before .before .before .if1 .left))
-    (ap isSign (sym (c .before .before .before .byte-at2 .ensures)) ∙ sym (c .before .before .is-sign .ensures) ∙ c .before .if2 .taken)
-    (c .some-digits .result) (c .some-digits .ensures)
-
-returns-3 : tie.Need-returns-3
-returns-3 c =
-    λ a m h. without-sign _ a _ h
-    (ap isE (sym (c .before .before .before .before .before .before .byte-at .ensures)) ∙ sym (c .before .before .before .before .before .is-e .ensures)
-    ∙ not-false _ (c .before .before .before .before .if1 .left))
-    (ap isSign (sym (c .before .before .before .byte-at2 .ensures)) ∙ sym (c .before .before .is-sign .ensures) ∙ c .before .if2 .left)
-    (c .some-digits2 .result) (c .some-digits2 .ensures)
+returns-2 c = λ a m h. exponent _ a _ _ h (an-e (c .before .before)) (c .before .sign-end .ensures) (c .some-digits .result) (c .some-digits .ensures)
 
 pub exponent-end-spec : {M : Type 1} → statement M
 exponent-end-spec =
     tie.close
-    (tie.spec (λ c κs. search needs) (λ c κs. search needs) returns (λ c. search needs) (λ c κs. search needs)
-    (λ c κs. search needs) (λ c. search needs) some-digits-requires (λ c. search needs) some-digits-requires-2 returns-2
-    returns-3)
+    (tie.spec (λ c κs. search needs) (λ c κs. search needs) returns add-sign-end (λ c κs. search needs) some-digits-requires returns-2)

@@ -1,5 +1,6 @@
 -- `some_digits` meets its contract.
 use mathlib.Core.Path.{refl, sym, ap, _∙_}
+use native.Mathlib.Omega.{arith}
 use borrow.Author.Needs.{needs}
 use Rattle.json_theory.specs.Parts.{isDigit}
 use Rattle.json_theory.specs.Inside.Scanning.{byteAt}
@@ -7,7 +8,12 @@ use Rattle.json_tokens.proofs.scan.some_digits.Statement.{statement}
 use Rattle.json_tokens.proofs.scan.some_digits.Tie as tie
 
 returns : tie.Need-returns
-returns c = (refl, ap (λ i. isDigit (byteAt (c .before .before .before .args .text .now) i)) (sym (c .if1 .taken)) ∙ c .before .digits-end .ensures .fails)
+returns c =
+    let entry = c .before .before .before in
+    (refl, ap (λ i. isDigit (byteAt (entry .args .text .now) i)) (sym (c .if1 .taken)) ∙ c .before .digits-end .ensures (entry .pre) .fails)
+
+returns-2 : tie.Need-returns-2
+returns-2 c = let r = c .before .digits-end .ensures (c .before .before .before .pre) in (r, omega (arith, r .running .from))
 
 pub some-digits-spec : {M : Type 1} → statement M
-some-digits-spec = tie.close (tie.spec (λ c κs. search needs) returns (λ c. search needs))
+some-digits-spec = tie.close (tie.spec (λ c κs. search needs) returns returns-2)

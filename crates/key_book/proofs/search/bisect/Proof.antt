@@ -7,7 +7,7 @@ use Rattle.json_theory.specs.Book.{bookRecords, bookKeys}
 use Rattle.key_book.specs.Inside.Records.{OrderIs}
 use Rattle.json_theory.specs.Inside.Scanning.{between}
 use Rattle.key_book.proofs.Halving.{Among, among-none}
-use Rattle.key_book.proofs.Matching.{among-all, halve-left, halve-right, halve-found}
+use Rattle.key_book.proofs.Matching.{among-all, key-found, halve-left, halve-right}
 use Rattle.key_book.proofs.search.bisect.Statement.{statement}
 use Rattle.key_book.proofs.search.bisect.Tie as tie
 
@@ -36,7 +36,7 @@ loop-again c = (
 
 returns : tie.Need-returns Inv-loop μ-loop
 returns c =
-    halve-found _ _ (c .before .before .before .before .before .before .before .pre .1) _ _ _ (omega arith) (c .before .before .before .before .loop .inv .2)
+    key-found _ _ (c .before .before .before .before .before .before .before .pre .1) _ (omega arith)
     (subst (OrderIs _ _) (c .enum-told2 .given .1) (c .before .before .compare .ensures))
 
 loop-again-2 : tie.Need-loop-again-2 Inv-loop μ-loop

@@ -16,4 +16,7 @@ returns c =
     sym (long-unlisted _ _ _ 0 (omega (arith, between-length text from end (entry .pre .2 .upto))))
 
 pub find-key-spec : {M : Type 1} → statement M
-find-key-spec = tie.close (tie.spec (λ c. search needs) returns (λ c κs. search needs) (λ c. search needs))
+find-key-spec =
+    tie.close
+    (tie.spec (λ c. search needs) returns (λ c κs. search needs) (λ c. c .before .guessed .ensures (c .if3 .taken))
+    (λ c κs. search needs) (λ c. search needs))

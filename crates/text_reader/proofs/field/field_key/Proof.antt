@@ -26,7 +26,7 @@ new-key-requires : tie.Need-new-key-requires
 new-key-requires c κs =
     let s = c .before .before .before .before .before .before in
     let i = byte-inside (s .args .text .now) (s .args .at) (omega (arith, c .before .if1 .left, c .before .before .byte-at .ensures)) in
-    (((omega arith, s .pre .0 .0 .1), s .pre .0 .1, s .pre .0 .2, s .pre .0 .3), s .pre .1)
+    (((omega arith, s .pre .0 .0 .1), s .pre .0 .1, s .pre .0 .2), s .pre .1)
 
 behind-colon-requires : tie.Need-behind-colon-requires
 behind-colon-requires c κs =
@@ -43,7 +43,7 @@ returns-2 c =
       λ room key done outer σ a sp st d own m.
           quote-opens (s .args .text .now) (s .args .book .now) room (s .args .at) key done outer σ a
           (sym (n .before .before .before .byte-at .ensures) ∙ n .before .before .if1 .left)
-          ∙ subst (NewKeyIs (s .args .text .now) (s .args .book .now) (n .new-key .last .1 .1 .0) room _ (s .args .at + 1) _) (c .before .why .given .1)
+          ∙ subst (NewKeyIs (s .args .text .now) (s .args .book .now) (n .new-key .last .1 .1 .1 .0) room _ (s .args .at + 1) _) (c .before .why .given .1)
           (n .new-key .ensures .1 room key done outer d own m),
     )
 
@@ -56,9 +56,9 @@ returns-3 c =
       λ room key done outer σ a sp st d own m.
           let opens = quote-opens (s .args .text .now) (s .args .book .now) room (s .args .at) key done outer σ a
           (sym (n .before .before .before .byte-at .ensures) ∙ n .before .before .if1 .left) in
-          let read = subst (NewKeyIs (s .args .text .now) (s .args .book .now) (n .new-key .last .1 .1 .0) room _ (s .args .at + 1) _) (c .before .before .key .given .1)
+          let read = subst (NewKeyIs (s .args .text .now) (s .args .book .now) (n .new-key .last .1 .1 .1 .0) room _ (s .args .at + 1) _) (c .before .before .key .given .1)
           (n .new-key .ensures .1 room key done outer d own m) in
-          key-colon (s .args .text .now) (s .args .book .now) (n .new-key .last .1 .1 .0) room (s .args .at) σ _ _ _ (c .behind-colon .result)
+          key-colon (s .args .text .now) (s .args .book .now) (n .new-key .last .1 .1 .1 .0) room (s .args .at) σ _ _ _ (c .behind-colon .result)
           (record { reads = opens ∙ read .reads; marks = read .marks }) (c .behind-colon .ensures _),
     )
 

@@ -15,24 +15,24 @@ found c =
     subst (NamedIs (s .args .text .now) (s .args .book .now) (s .args .from)) (c .key .given .1) (c .before .before .key-end .ensures)
 
 has-mark-requires : tie.Need-has-mark-requires
-has-mark-requires c κs = let k = c .before .before in let s = k .before .before .before .before .before .before in key-slot (found k) (s .pre .0 .3) (s .pre .1 .0)
+has-mark-requires c κs = let k = c .before .before in let s = k .before .before .before .before .before .before in key-slot (found k) (s .pre .1 .0)
 
 returns : tie.Need-returns
 returns c =
     let k = c .before .before .before .before in
     let s = k .before .before .before .before .before .before in (
       tt,
-      λ room key done outer d own m. key-repeated (found k) own (rw (s .pre .0 .3) at m) room (rw (sym d, s .pre .0 .3) at (sym (c .if1 .taken) ∙ c .before .has-mark .ensures)),
+      λ room key done outer d own m. key-repeated (found k) own m room (rw (sym d) at (sym (c .if1 .taken) ∙ c .before .has-mark .ensures)),
     )
 
 set-mark-requires : tie.Need-set-mark-requires
 set-mark-requires c κs =
     let k = c .before .before .before .before .before in
     let s = k .before .before .before .before .before .before in
-    (key-slot (found k) (s .pre .0 .3) (s .pre .1 .0), s .pre .1 .1)
+    (key-slot (found k) (s .pre .1 .0), s .pre .1 .1)
 
-add-t23 : tie.Need-add-t23
-add-t23 c = let k = c .before .before .before .before .before .before .before .before in omega (arith, found k .upto)
+add-behind : tie.Need-add-behind
+add-behind c = let k = c .before .before .before .before .before .before .before .before in omega (arith, found k .upto)
 
 returns-2 : tie.Need-returns-2
 returns-2 c =
@@ -52,9 +52,9 @@ returns-4 c =
     let s = k .before .before .before .before .before .before in (
       (omega (arith, found k .from), omega (arith, found k .upto)),
       λ room key done outer d own m.
-          key-new (found k) own (rw (s .pre .0 .3) at m) room
-          (rw (sym d, s .pre .0 .3) at (sym (c .before .before .before .before .if1 .left) ∙ c .before .before .before .before .before .has-mark .ensures))
-          (rw (s .pre .0 .3, sym d) at (s .pre .1 .0)) (c .before .before .set-mark .kept .0) (rw (sym d, s .pre .0 .3) at (c .before .before .set-mark .ensures)),
+          key-new (found k) own m room
+          (rw (sym d) at (sym (c .before .before .before .before .if1 .left) ∙ c .before .before .before .before .before .has-mark .ensures))
+          (rw (sym d) at (s .pre .1 .0)) (c .before .before .set-mark .kept .0) (rw (sym d) at (c .before .before .set-mark .ensures)),
     )
 
 pub new-key-spec : {M : Type 1} → statement M
@@ -69,7 +69,7 @@ new-key-spec =
     (λ c. search needs)
     returns
     set-mark-requires
-    add-t23
+    add-behind
     returns-2
     returns-3
     (λ c. search needs)

@@ -1,339 +1,236 @@
 -- `read_messages` meets its contract.
-use mathlib.Core.Path.{_≡_, refl, sym, _∙_, ap, subst}
+use mathlib.Core.Path.{_≡_, refl, sym, _∙_, subst}
 use mathlib.Core.Bool.{true}
-use Prim.Native.Nat.{_+_, _-_, _/_, _<_}
+use Prim.Native.Nat.{_-_, _/_, _≤_, _<_}
 use native.Mathlib.Omega.{arith}
 use lib.ListN.{length, length-set}
 use borrow.Author.Needs.{needs}
-use Rattle.value_table.specs.Value.{recordSize, maxDepth}
+use Rattle.value_table.specs.Value.{recordSize, maxLength, maxDepth}
 use Rattle.json_theory.specs.Inside.Scanning.{byteAt}
-use Rattle.text_reader.specs.Inside.Progress.{inObject, ownRecord, shuts, ItemAt}
-use Rattle.text_reader.specs.Inside.Items.{ReadUpTo, NextIs, ItemIs, ValuePlace}
+use Rattle.text_reader.specs.Inside.Progress.{inObject, shuts, ItemAt}
+use Rattle.text_reader.specs.Inside.Items.{ReadUpTo, LevelIs, NextIs, ItemIs, ValuePlace}
 use Rattle.text_reader.specs.declared.value.Value.the-variants.{Opened}
 use Rattle.text_reader.proofs.ReadUpTo.{upto-start, upto-shut, upto-scalar, upto-open, all-read}
-use Rattle.text_reader.proofs.LoopFacts.{own-is, object-is, own-low, mark-is, holds-room, object-deep, own-inside, stays-open, shut-deep, shut-inside}
+use Rattle.text_reader.proofs.LoopFacts.{level-is, level-shuts, level-fits, own-low, holds-room, own-inside, stays-open, shut-deep, shut-inside}
 use Rattle.text_reader.proofs.reader.read_messages.Statement.{statement}
 use Rattle.text_reader.proofs.reader.read_messages.Tie as tie
 
-abbrev Inv-loop : tie.InvT-loop
-Inv-loop text book table₀ seen₀ listed open₀ count₀ at₀ fresh₀ table seen «open» count at fresh =
+abbrev Inv : tie.InvT-loop
+Inv text book hints table₀ seen₀ open₀ count₀ at₀ fresh₀ table seen «open» count at fresh =
     ReadUpTo text book table seen (length table₀ / recordSize) («open» .records) («open» .objects) at count («open» .depth) fresh
     × (length («open» .records) ≡ maxDepth) × (length («open» .objects) ≡ maxDepth) × (length table ≡ length table₀) × (length seen ≡ length seen₀)
 
-abbrev μ-loop : tie.MeasureT-loop
-μ-loop text book table₀ seen₀ listed open₀ count₀ at₀ fresh₀ table seen «open» count at fresh = length text - at
+abbrev μ : tie.MeasureT-loop
+μ text book hints table₀ seen₀ open₀ count₀ at₀ fresh₀ table seen «open» count at fresh = length text - at
 
-loop-holds : tie.Need-loop-holds Inv-loop μ-loop
+-- the ways back: to the function's start, to the head of the loop, to what the loop's calls gave
+abbrev start : tie.At-loop Inv μ → tie.Start Inv μ
+start l = l .before .before .before .before .before .before
+
+abbrev head : tie.After-innermost Inv μ → tie.At-loop Inv μ
+head o = o .before .before .before .before
+
+abbrev level-of : tie.After-next-item Inv μ → tie.After-innermost Inv μ
+level-of n = n .before .before .before .before
+
+abbrev start-of : tie.After-item-at Inv μ → tie.After-start Inv μ
+start-of m = m .before .before .before .before
+
+abbrev turn : tie.After-start Inv μ → tie.At-loop Inv μ
+turn t = head (level-of (t .before .before))
+
+abbrev refused-item : tie.After-known-told3 Inv μ → tie.After-item-at Inv μ
+refused-item c = c .before .before .before .before .before .before .before
+
+abbrev scalar-item : tie.After-known-told4 Inv μ → tie.After-item-at Inv μ
+scalar-item c = c .before .before .before .before .before .before .before
+
+abbrev open-item : tie.After-known-told5 Inv μ → tie.After-item-at Inv μ
+open-item c = c .before .before .before .before .before .before .before
+
+loop-holds : tie.Need-loop-holds Inv μ
 loop-holds c =
-    let s = c .before .before .before .before in
-    (upto-start _ _ _ _ _ _ _ (rw (s .pre .0 .3) at (s .pre .1 .1)), refl, refl, refl, refl)
+    let s = c .before .before .before .before .before in
+    let o = c .none-open .ensures in
+    (rw (o .2) (upto-start _ _ _ _ _ _ _ (s .pre .1 .1)), o .0, o .1, refl, refl)
 
-inner-record-requires : tie.Need-inner-record-requires Inv-loop μ-loop
-inner-record-requires c κs = c .before .before .loop .inv .0 .shallow
+innermost-requires : tie.Need-innermost-requires Inv μ
+innermost-requires c κs = c .before .before .before .loop .inv .0 .shallow
 
-inner-object-requires : tie.Need-inner-object-requires Inv-loop μ-loop
-inner-object-requires c κs = c .before .before .before .before .before .loop .inv .0 .shallow
+space-end-requires : tie.Need-space-end-requires Inv μ
+space-end-requires c κs = (head c .loop .inv .0 .place, start (head c) .pre .0 .0)
 
-space-end-requires : tie.Need-space-end-requires Inv-loop μ-loop
-space-end-requires c κs =
-    let l = c .before .before .before .before .before .before in
-    (l .loop .inv .0 .place, l .before .before .before .before .before .pre .0 .0)
+-- the innermost level
+inner : (o : tie.After-innermost Inv μ) → LevelIs (head o .loop .inv .0 .around) (o .innermost .result)
+inner o = let u = head o .loop .inv .0 in level-is _ _ (u .around) _ _ (u .levels) (u .deep) (o .innermost .ensures)
 
--- the record of the innermost level, and whether it is an object
-own : (c : tie.After-inner-object Inv-loop μ-loop) → c .before .before .before .inner-record .result ≡ ownRecord (c .before .before .before .before .before .before .loop .inv .0 .around)
-own c =
-    let u = c .before .before .before .before .before .before .loop .inv .0 in
-    c .before .before .before .inner-record .ensures ∙ own-is _ _ (u .around) _ (u .levels) (u .deep)
+-- it is shut at this byte
+shut : (c : tie.Then1 Inv μ) → let e = c .before .before in let l = head (e .before) in
+    shuts (l .loop .«open» .depth) (inObject (l .loop .inv .0 .around)) (byteAt (start l .args .text .now) (e .space-end .result)) ≡ true
+shut c = let o = c .before .before .before in level-shuts _ _ (inner o) (head o .loop .inv .0 .deep) (sym (c .before .closes .ensures) ∙ c .if1 .taken)
 
-isObj : (c : tie.After-inner-object Inv-loop μ-loop) → c .inner-object .result ≡ inObject (c .before .before .before .before .before .before .loop .inv .0 .around)
-isObj c =
-    let u = c .before .before .before .before .before .before .loop .inv .0 in
-    c .inner-object .ensures ∙ object-is _ _ (u .around) _ (u .levels) (u .deep)
-
--- the innermost level is shut at this byte
-shut : (c : tie.Then1 Inv-loop μ-loop) → let e = c .before .before in let l = e .before .before .before .before .before .before .before in
-    shuts (l .loop .«open» .depth) (inObject (l .loop .inv .0 .around)) (byteAt (l .before .before .before .before .before .args .text .now) (e .space-end .result)) ≡ true
-shut c = rw (← isObj (c .before .before .before)) (sym (c .before .closes .ensures) ∙ c .if1 .taken)
-
-sub-store-span : tie.Need-sub-store-span Inv-loop μ-loop
+sub-store-span : tie.Need-sub-store-span Inv μ
 sub-store-span c =
-    let o = c .before .before .before .before in
-    let u = o .before .before .before .before .before .before .loop .inv .0 in
-    omega (arith, own o, own-low (u .around), u .counted)
+    let o = c .before .before .before .before .before in
+    let u = head o .loop .inv .0 in
+    omega (arith, inner o .record-is, own-low (u .around), u .counted)
 
-store-span-requires : tie.Need-store-span-requires Inv-loop μ-loop
+store-span-requires : tie.Need-store-span-requires Inv μ
 store-span-requires c κs =
-    let o = c .before .before .before .before in
-    let l = o .before .before .before .before .before .before in
-    let u = l .loop .inv .0 in
-    omega (arith, own o, own-inside (u .around) _ _ (u .deep) (shut (c .before)), holds-room _ (u .around) (u .holds))
+    let o = c .before .before .before .before .before in
+    let u = head o .loop .inv .0 in
+    omega (arith, inner o .record-is, own-inside (u .around) _ _ (u .deep) (shut (c .before .before)), holds-room _ (u .around) (u .holds))
 
-sub-open : tie.Need-sub-open Inv-loop μ-loop
-sub-open c =
-    let o = c .before .before .before .before .before .before .before in
-    let u = o .before .before .before .before .before .before .loop .inv .0 in
-    shut-deep (u .around) _ _ (u .deep) (shut (c .before .before .before .before))
+abbrev shut-of : tie.After-slice-known3 Inv μ → tie.Then1 Inv μ
+shut-of c = c .before .before .before .before .before
 
-add-at : tie.Need-add-at Inv-loop μ-loop
-add-at c =
-    let e = c .before .before .before .before .before .before in
-    omega (arith, e .space-end .ensures .running .upto)
+sub-open : tie.Need-sub-open Inv μ
+sub-open c = let u = head (shut-of c .before .before .before) .loop .inv .0 in shut-deep (u .around) _ _ (u .deep) (shut (shut-of c))
 
-loop-less : tie.Need-loop-less Inv-loop μ-loop
+add-at : tie.Need-add-at Inv μ
+add-at c = let e = shut-of c .before .before in omega (arith, e .space-end .ensures .running .upto, start (head (e .before)) .pre .0 .0)
+
+loop-less : tie.Need-loop-less Inv μ
 loop-less c =
-    let e = c .before .before .before .before .before .before in
-    let l = e .before .before .before .before .before .before .before in
-    let n = shut-inside (l .before .before .before .before .before .args .text .now) (e .space-end .result) (l .loop .«open» .depth) (inObject (l .loop .inv .0 .around))
-    (shut (c .before .before .before .before)) in
+    let e = shut-of c .before .before in
+    let l = head (e .before) in
+    let n = shut-inside (start l .args .text .now) (e .space-end .result) (l .loop .«open» .depth) (inObject (l .loop .inv .0 .around)) (shut (shut-of c)) in
     omega (arith, e .space-end .ensures .running .from, n)
 
-loop-again : tie.Need-loop-again Inv-loop μ-loop
+loop-again : tie.Need-loop-again Inv μ
 loop-again c =
-    let e = c .before .before .before .before .before .before in
-    let o = e .before in
-    let l = o .before .before .before .before .before .before in
-    let v = l .loop .inv in (
-      upto-shut _ _ _ _ _ _ _ _ _ _ _ _ _ (e .space-end .ensures) (v .0 .shallow) (c .before .before .store-span .ensures) (v .0) (own o) (shut (c .before .before .before .before)),
+    let e = shut-of c .before .before in
+    let v = head (e .before) .loop .inv in
+    let stored = c .before .before .store-span in (
+      upto-shut _ _ _ _ _ _ _ _ _ _ _ _ _ (e .space-end .ensures) (v .0 .shallow) (stored .ensures) (v .0) (sym (inner (e .before) .record-is)) (shut (shut-of c)),
       v .1,
       v .2,
-      c .before .before .store-span .kept .0 ∙ v .3,
+      stored .kept .0 ∙ v .3,
       v .4,
     )
 
-next-item-requires : tie.Need-next-item-requires Inv-loop μ-loop
-next-item-requires c κs =
-    let e = c .before .before in
-    let l = e .before .before .before .before .before .before .before in
-    (l .before .before .before .before .before .pre .0 .0, e .space-end .ensures)
+next-item-requires : tie.Need-next-item-requires Inv μ
+next-item-requires c κs = let e = c .before .before in (start (head (e .before)) .pre .0 .0, e .space-end .ensures)
 
 -- what comes next, with the ghost state of the loop
-next : (c : tie.After-next-item Inv-loop μ-loop) → let e = c .before .before .before in let l = e .before .before .before .before .before .before .before in
-    NextIs (l .before .before .before .before .before .args .text .now) (l .loop .inv .0 .state) (l .loop .at) (l .loop .inv .0 .around) (c .next-item .result)
-next c =
-    let e = c .before .before .before in
-    let l = e .before .before .before .before .before .before .before in
-    let u = l .loop .inv .0 in
-    c .next-item .ensures (u .state) (u .around) (u .between) (u .deep)
-    (stays-open (u .around) _ _ (u .deep) (rw (← isObj (e .before)) (sym (c .before .before .closes .ensures) ∙ c .before .if1 .left)))
+next : (n : tie.After-next-item Inv μ) → let l = head (level-of n) in
+    NextIs (start l .args .text .now) (l .loop .inv .0 .state) (l .loop .at) (l .loop .inv .0 .around) (n .next-item .result)
+next n =
+    let u = head (level-of n) .loop .inv .0 in
+    n .next-item .ensures (u .state) (u .around) (u .between) (u .deep)
+    (stays-open (u .around) _ _ (u .deep) (level-shuts _ _ (inner (level-of n)) (u .deep) (sym (n .before .before .closes .ensures) ∙ n .before .if1 .left)))
 
-returns : tie.Need-returns Inv-loop μ-loop
-returns c =
-    let n = c .before .before in
-    let l = n .before .before .before .before .before .before .before .before .before .before in
-    let u = l .loop .inv .0 in
-    let f = subst (NextIs _ _ _ _) (c .enum-told .given .1) (next n) in
-    all-read u f
+returns : tie.Need-returns Inv μ
+returns c = let n = c .before .before in all-read (head (level-of n) .loop .inv .0) (subst (NextIs _ _ _ _) (c .enum-told .given .1) (next n))
 
-returns-2 : tie.Need-returns-2 Inv-loop μ-loop
+returns-2 : tie.Need-returns-2 Inv μ
 returns-2 c =
     let n = c .before .before .before in
-    let l = n .before .before .before .before .before .before .before .before .before .before in
+    let l = head (level-of n) in
     let u = l .loop .inv .0 in
     sym (u .reads) ∙ subst (NextIs _ (u .state) (l .loop .at) (u .around)) (c .before .place .given .1) (next n) _ _
 
 -- the item that comes next
-there : (c : tie.After-start Inv-loop μ-loop) → let n = c .before .before in let l = n .before .before .before .before .before .before .before .before .before .before in
-    ItemAt (l .before .before .before .before .before .args .text .now) (l .loop .inv .0 .state) (l .loop .at) (l .loop .inv .0 .around) (c .start .given .0 .0)
-there c = subst (NextIs _ _ _ _) (c .start .given .1) (next (c .before .before))
+there : (t : tie.After-start Inv μ) → let l = turn t in
+    ItemAt (start l .args .text .now) (l .loop .inv .0 .state) (l .loop .at) (l .loop .inv .0 .around) (t .start .given .0 .0)
+there t = subst (NextIs _ _ _ _) (t .start .given .1) (next (t .before .before))
 
-add-item-at : tie.Need-add-item-at Inv-loop μ-loop
-add-item-at c =
-    let n = c .before .before .before .before .before in
-    let o = n .before .before .before .before in
-    let l = o .before .before .before .before .before .before in
-    let u = l .loop .inv .0 in
-    omega (arith, own o, own-low (u .around), holds-room _ (u .around) (u .holds), l .loop .inv .3, l .before .before .before .before .before .pre .1 .0)
-
-item-at-requires : tie.Need-item-at-requires Inv-loop μ-loop
+item-at-requires : tie.Need-item-at-requires Inv μ
 item-at-requires c κs =
-    let i = there (c .before .before .before) in
-    let n = c .before .before .before .before .before in
-    let o = n .before .before .before .before in
-    let l = o .before .before .before .before .before .before in
-    let v = l .loop .inv in
+    let t = c .before .before .before in
+    let v = turn t .loop .inv in
     let u = v .0 in
-    let s = l .before .before .before .before .before in
-    let room = holds-room _ (u .around) (u .holds) in (
-      ((i .upto, s .pre .0 .0), s .pre .0 .1, s .pre .0 .2, s .pre .0 .3),
-      (
-        omega (arith, v .3, s .pre .1 .0),
-        omega (arith, room, u .counted),
-        u .shallow,
-        λ e. rw (u .deep) at (object-deep (u .around) (sym (isObj o) ∙ e)),
-        rw (s .pre .0 .3) (u .marks .room),
-        omega (arith, v .4, s .pre .1 .2),
-        omega (arith, own o, own-low (u .around), room, v .3, s .pre .1 .0),
-      ),
-    )
+    let p = start (turn t) .pre in
+    let low : length (turn t .loop .table) ≤ maxLength = omega (arith, v .3, p .1 .0) in
+    let fits = level-fits (inner (level-of (t .before .before))) (u .marks) (omega (arith, v .4, p .1 .2)) (omega (arith, u .deep, u .shallow)) (u .holds) low in
+    (((there t .upto, p .0 .0), p .0 .1, p .0 .2, fits), (low, omega (arith, holds-room _ (u .around) (u .holds), u .counted)))
 
 -- what the item is, with the ghost state of the loop
-item : (c : tie.After-item-at Inv-loop μ-loop) → let t = c .before .before .before .before in let n = t .before .before in
-    let l = n .before .before .before .before .before .before .before .before .before .before in let s = l .before .before .before .before .before in
-    ItemIs (s .args .text .now) (s .args .book .now) (c .item-at .last .1 .1 .0) (c .item-at .last .1 .1 .1 .0) (length (s .args .table .now) / recordSize) (there t .state)
-    (t .start .given .0 .0) (l .loop .inv .0 .around) (c .item-at .result)
-item c =
-    let t = c .before .before .before .before in
+item : (m : tie.After-item-at Inv μ) → let t = start-of m in let l = turn t in let s = start l in
+    ItemIs (s .args .text .now) (s .args .book .now) (m .item-at .last .1 .1 .1 .0) (m .item-at .last .1 .1 .1 .1 .0) (length (s .args .table .now) / recordSize) (there t .state)
+    (t .start .given .0 .0) (l .loop .inv .0 .around) (m .item-at .result)
+item m =
+    let t = start-of m in
     let i = there t in
-    let n = t .before .before in
-    let o = n .before .before .before .before in
-    let l = o .before .before .before .before .before .before in
-    let v = l .loop .inv in
+    let v = turn t .loop .inv in
     let u = v .0 in
-    let s = l .before .before .before .before .before in
-    rw (← v .3) (c .item-at .ensures .1 (i .state) (u .around) (i .awaits) (i .byte) (i .ready) (sym (isObj o)) (mark-is (u .around) ∙ ap (λ x. x + 1) (sym (own o))) (u .deep) (u .counted)
-    (u .holds) (rw (s .pre .0 .3) (u .marks)))
+    rw (← v .3) (m .item-at .ensures .1 (i .state) (u .around) (i .awaits) (i .byte) (i .ready) (inner (level-of (t .before .before))) (u .counted) (u .holds) (u .marks))
 
-same-length-5 : tie.Need-same-length-5 Inv-loop μ-loop
-same-length-5 c =
-    let m = c .before .before .before .before .before .before .before in
-    let l = m .before .before .before .before .before .before .before .before .before .before .before .before .before .before .before .before in
-    m .item-at .kept .1 .1 .0 ∙ l .loop .inv .3
+-- the lengths of the table and of the marks stay
+kept : (m : tie.After-item-at Inv μ) → let s = start (turn (start-of m)) in
+    (length (m .item-at .last .1 .1 .1 .0) ≡ length (s .args .table .now)) × (length (m .item-at .last .1 .1 .1 .1 .0) ≡ length (s .args .seen .now))
+kept m = let v = turn (start-of m) .loop .inv in (m .item-at .kept .1 .1 .1 .0 ∙ v .3, m .item-at .kept .1 .1 .1 .1 .0 ∙ v .4)
 
-same-length-6 : tie.Need-same-length-6 Inv-loop μ-loop
-same-length-6 c =
-    let m = c .before .before .before .before .before .before .before in
-    let l = m .before .before .before .before .before .before .before .before .before .before .before .before .before .before .before .before in
-    m .item-at .kept .1 .1 .1 .0 ∙ l .loop .inv .4
+-- one more record has a number
+more : (m : tie.After-item-at Inv μ) → turn (start-of m) .loop .count < 65536
+more m =
+    let l = turn (start-of m) in
+    let u = l .loop .inv .0 in
+    omega (arith, holds-room _ (u .around) (u .holds), u .counted, l .loop .inv .3, start l .pre .1 .0)
 
-returns-3 : tie.Need-returns-3 Inv-loop μ-loop
+returns-3 : tie.Need-returns-3 Inv μ
 returns-3 c =
-    let m = c .before .before .before .before .before .before .before in
-    let t = m .before .before .before .before in
-    let l = t .before .before .before .before .before .before .before .before .before .before .before .before in
-    let u = l .loop .inv .0 in
-    sym (u .reads) ∙ there t .leads _ _ ∙ subst (ItemIs _ _ _ _ _ _ _ _) (c .before .why .given .1) (item m)
+    let m = refused-item c in
+    let t = start-of m in
+    sym (turn t .loop .inv .0 .reads) ∙ there t .leads _ _ ∙ subst (ItemIs _ _ _ _ _ _ _ _) (c .before .why .given .1) (item m)
 
-place : (c : tie.After-item-at Inv-loop μ-loop) → let t = c .before .before .before .before in let n = t .before .before in
-    let l = n .before .before .before .before .before .before .before .before .before .before in
-    ValuePlace (l .before .before .before .before .before .args .text .now) (t .start .given .0 .0) (c .item-at .result)
-place c = c .item-at .ensures .0
-
-add-count : tie.Need-add-count Inv-loop μ-loop
-add-count c =
-    let m = c .before .before .before .before .before .before .before in
-    let l = m .before .before .before .before .before .before .before .before .before .before .before .before .before .before .before .before in
-    let u = l .loop .inv .0 in
-    omega (arith, holds-room _ (u .around) (u .holds), u .counted, l .loop .inv .3, l .before .before .before .before .before .pre .1 .0)
-
-loop-less-2 : tie.Need-loop-less-2 Inv-loop μ-loop
+loop-less-2 : tie.Need-loop-less-2 Inv μ
 loop-less-2 c =
-    let m = c .before .before .before .before .before .before .before in
-    let t = m .before .before .before .before in
-    let p = subst (ValuePlace _ (t .start .given .0 .0)) (c .before .end .given .1) (place m) in
-    omega (arith, p, there t .from)
+    let m = scalar-item c in
+    omega (arith, subst (ValuePlace _ _) (c .before .end .given .1) (m .item-at .ensures .0), there (start-of m) .from)
 
-loop-again-2 : tie.Need-loop-again-2 Inv-loop μ-loop
+loop-again-2 : tie.Need-loop-again-2 Inv μ
 loop-again-2 c =
-    let m = c .before .before .before .before .before .before .before in
-    let t = m .before .before .before .before in
-    let l = t .before .before .before .before .before .before .before .before .before .before .before .before in
-    let v = l .loop .inv in
-    let p = subst (ValuePlace _ (t .start .given .0 .0)) (c .before .end .given .1) (place m) in (
-      upto-scalar (v .0) (there t) (subst (ItemIs _ _ _ _ _ _ _ _) (c .before .end .given .1) (item m)) (p .1),
-      v .1,
-      v .2,
-      m .item-at .kept .1 .1 .0 ∙ v .3,
-      m .item-at .kept .1 .1 .1 .0 ∙ v .4,
-    )
+    let m = scalar-item c in
+    let t = start-of m in
+    let v = turn t .loop .inv in
+    let p = subst (ValuePlace _ _) (c .before .end .given .1) (m .item-at .ensures .0) in
+    (upto-scalar (v .0) (there t) (subst (ItemIs _ _ _ _ _ _ _ _) (c .before .end .given .1) (item m)) (p .1), v .1, v .2, kept m .0, kept m .1)
 
 -- the value that opens
-opens : (c : tie.After-known-told5 Inv-loop μ-loop) → let m = c .before .before .before .before .before .before .before in let t = m .before .before .before .before in
-    let l = t .before .before .before .before .before .before .before .before .before .before .before .before in let s = l .before .before .before .before .before in
-    ItemIs (s .args .text .now) (s .args .book .now) (m .item-at .last .1 .1 .0) (m .item-at .last .1 .1 .1 .0) (length (s .args .table .now) / recordSize) (there t .state)
+opens : (c : tie.After-known-told5 Inv μ) → let m = open-item c in let t = start-of m in let l = turn t in let s = start l in
+    ItemIs (s .args .text .now) (s .args .book .now) (m .item-at .last .1 .1 .1 .0) (m .item-at .last .1 .1 .1 .1 .0) (length (s .args .table .now) / recordSize) (there t .state)
     (t .start .given .0 .0) (l .loop .inv .0 .around) (Opened (c .before .end2 .given .0 .0) (c .before .end2 .given .0 .1 .0))
-opens c = let m = c .before .before .before .before .before .before .before in subst (ItemIs _ _ _ _ _ _ _ _) (c .before .end2 .given .1) (item m)
+opens c = subst (ItemIs _ _ _ _ _ _ _ _) (c .before .end2 .given .1) (item (open-item c))
 
 -- there is a level left for it
-level-left : (c : tie.After-known-told5 Inv-loop μ-loop) → let m = c .before .before .before .before .before .before .before in let t = m .before .before .before .before in
-    let l = t .before .before .before .before .before .before .before .before .before .before .before .before in l .loop .«open» .depth < maxDepth
-level-left c =
-    let m = c .before .before .before .before .before .before .before in
-    let t = m .before .before .before .before in
-    let l = t .before .before .before .before .before .before .before .before .before .before .before .before in
-    omega (arith, opens c .read .shallow, l .loop .inv .0 .deep)
+level-left : (c : tie.After-known-told5 Inv μ) → turn (start-of (open-item c)) .loop .«open» .depth < maxDepth
+level-left c = omega (arith, opens c .read .shallow, turn (start-of (open-item c)) .loop .inv .0 .deep)
 
-mul-open : tie.Need-mul-open Inv-loop μ-loop
-mul-open c = omega (arith, level-left c)
-
-element-write-open : tie.Need-element-write-open Inv-loop μ-loop
+element-write-open : tie.Need-element-write-open Inv μ
 element-write-open c = let k = level-left c in search needs
 
-element-write-open-2 : tie.Need-element-write-open-2 Inv-loop μ-loop
+element-write-open-2 : tie.Need-element-write-open-2 Inv μ
 element-write-open-2 c = let k = level-left c in search needs
 
-add-open : tie.Need-add-open Inv-loop μ-loop
-add-open c = omega (arith, level-left c)
-
-add-count-2 : tie.Need-add-count-2 Inv-loop μ-loop
-add-count-2 c =
-    let m = c .before .before .before .before .before .before .before in
-    let l = m .before .before .before .before .before .before .before .before .before .before .before .before .before .before .before .before in
-    let u = l .loop .inv .0 in
-    omega (arith, holds-room _ (u .around) (u .holds), u .counted, l .loop .inv .3, l .before .before .before .before .before .pre .1 .0)
-
-loop-less-3 : tie.Need-loop-less-3 Inv-loop μ-loop
+loop-less-3 : tie.Need-loop-less-3 Inv μ
 loop-less-3 c =
-    let m = c .before .before .before .before .before .before .before in
-    let t = m .before .before .before .before in
-    let p = subst (ValuePlace _ (t .start .given .0 .0)) (c .before .end2 .given .1) (place m) in
-    omega (arith, p, there t .from)
+    let m = open-item c in
+    omega (arith, subst (ValuePlace _ _) (c .before .end2 .given .1) (m .item-at .ensures .0), there (start-of m) .from)
 
-loop-again-3 : tie.Need-loop-again-3 Inv-loop μ-loop
+loop-again-3 : tie.Need-loop-again-3 Inv μ
 loop-again-3 c =
-    let m = c .before .before .before .before .before .before .before in
-    let t = m .before .before .before .before in
-    let l = t .before .before .before .before .before .before .before .before .before .before .before .before in
+    let m = open-item c in
+    let t = start-of m in
+    let l = turn t in
     let v = l .loop .inv in
-    let p = subst (ValuePlace _ (t .start .given .0 .0)) (c .before .end2 .given .1) (place m) in (
+    let p = subst (ValuePlace _ _) (c .before .end2 .given .1) (m .item-at .ensures .0) in (
       upto-open (v .0) (there t) (opens c) (p .1) (v .1) (v .2),
       length-set (l .loop .«open» .records) (l .loop .«open» .depth) (l .loop .count) ∙ v .1,
       length-set (l .loop .«open» .objects) (l .loop .«open» .depth) (c .before .end2 .given .0 .1 .0) ∙ v .2,
-      m .item-at .kept .1 .1 .0 ∙ v .3,
-      m .item-at .kept .1 .1 .1 .0 ∙ v .4,
+      kept m .0,
+      kept m .1,
     )
 
 pub read-messages-spec : {M : Type 1} → statement M
 read-messages-spec =
     tie.close
-    (tie.spec
-    Inv-loop
-    μ-loop
-    loop-holds
-    inner-record-requires
-    inner-object-requires
-    space-end-requires
-    (λ c κs. search needs)
-    sub-store-span
-    store-span-requires
-    sub-open
-    add-at
-    loop-less
-    loop-again
-    next-item-requires
-    (λ c. search needs)
-    (λ c. search needs)
-    (λ c. search needs)
-    returns
-    (λ c. search needs)
-    (λ c. search needs)
-    (λ c. search needs)
-    returns-2
-    (λ c. search needs)
-    add-item-at
+    (tie.spec Inv μ (λ c κs. search needs) loop-holds innermost-requires space-end-requires (λ c κs. search needs)
+    sub-store-span store-span-requires sub-open add-at loop-less loop-again next-item-requires (λ c. search needs)
+    (λ c. search needs) (λ c. search needs) (λ c. search needs) returns
+    (λ c. search needs) (λ c. search needs) (λ c. search needs) returns-2
     item-at-requires
-    (λ c. search needs)
-    same-length-5
-    same-length-6
-    returns-3
-    (λ c. search needs)
-    add-count
-    loop-less-2
-    loop-again-2
-    (λ c. search needs)
-    mul-open
-    element-write-open
-    element-write-open-2
-    add-open
-    add-count-2
-    loop-less-3
-    loop-again-3)
+    (λ c. search needs) (λ c. kept (refused-item c) .0) (λ c. kept (refused-item c) .1) returns-3
+    (λ c. search needs) (λ c. omega (arith, more (scalar-item c))) loop-less-2 loop-again-2
+    (λ c. search needs) (λ c. omega (arith, level-left c)) element-write-open element-write-open-2 (λ c. omega (arith, level-left c))
+    (λ c. omega (arith, more (open-item c))) loop-less-3 loop-again-3)

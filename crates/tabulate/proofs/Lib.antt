@@ -1,0 +1,2 @@
+-- What the tabulate program's proofs cite.
+pub mod Room

@@ -1,0 +1,2 @@
+-- From a text to the profile of its messages.
+pub mod TextProfile
