@@ -1,5 +1,5 @@
 //! Texts for the workloads of the reader, each with its key book. All of them are accepted with the longest table. A workload has several
-//! texts: a processor learns the branches of one that is read again and again, and a log is read once.
+//! texts, since a log is read once: one that is read again and again favours what the processor remembers of it.
 
 use crate::sequence::{shuffled, Sequence};
 

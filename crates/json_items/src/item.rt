@@ -14,7 +14,7 @@ ghost use Prim.Native.Nat.{ℕ, _+_, _≤_};
 ghost use lib.ListN.{length};
 ghost use Rattle.value_table.specs.Value.{maxLength};
 ghost use Rattle.json_theory.specs.Parts.{start, plain};
-ghost use Rattle.json_theory.specs.Steps.{Stack, after, colon, inString};
+ghost use Rattle.json_theory.specs.Steps.{Stack, after, inString};
 ghost use Rattle.json_theory.specs.Book.{badBook};
 ghost use Rattle.json_theory.specs.Inside.Scanning.{byteAt, PlaceIn};
 ghost use Rattle.json_items.specs.Inside.Items.{ReadsTo, ScalarIs, NamedIs, ColonIs};

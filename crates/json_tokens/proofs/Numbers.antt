@@ -12,7 +12,7 @@ use borrow.Author.Tests.{eqb-true, eq-eqb, ne-eqb, le-leb}
 use Rattle.json_theory.specs.Rx.{within}
 use Rattle.json_theory.specs.Grammar.{quote, array, object}
 use Rattle.json_theory.specs.Parts.{Turn, go, stuck, goIf, isDigit, isE, NumberPart, minus, nought, whole, point, decimal, e, signed, power, nextInNumber, mayEnd, Start, letters, number, string, open′, nothing, start}
-use Rattle.json_theory.specs.Inside.Scanning.{byteAt, Running, RunTo, Goes, here, on, Stops}
+use Rattle.json_theory.specs.Inside.Scanning.{byteAt, Running, RunTo, Goes, here, Stops}
 use Rattle.json_tokens.specs.Inside.Tokens.{afterInt, afterFrac, afterSign, noMore, PartTo, NumberTo, PartIs, NumberIs, BehindIs}
 use Rattle.json_tokens.specs.Inside.Tokens.{isSign, DigitsIs, nextLetter}
 use Rattle.json_tokens.specs.declared.scan.Scan.{Scan}

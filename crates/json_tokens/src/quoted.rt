@@ -14,7 +14,7 @@ ghost use Rattle.json_theory.specs.Rx.{within};
 ghost use Rattle.json_theory.specs.Grammar.{quote};
 ghost use Rattle.json_theory.specs.Parts.{goIf, isHex, isEscape, StringPart, plain, escape, hexes4, tails1, tails2, nextInString};
 ghost use Rattle.json_theory.specs.Inside.Scanning.{byteAt, PlaceIn, RunTo};
-ghost use Rattle.json_tokens.specs.Inside.Tokens.{isPlain, lowestBehind, highestBehind, ScanIs, TailIs, CharIs, QuotedIs, quotedOf};
+ghost use Rattle.json_tokens.specs.Inside.Tokens.{isPlain, ScanIs, TailIs, CharIs, QuotedIs, quotedOf};
 
 fn is_hex(c: u8) -> bool
     ensures { λ r. ⌜ r ≡ isHex c ⌝ }

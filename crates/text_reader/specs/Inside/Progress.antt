@@ -1,11 +1,11 @@
 -- How far a text has been read, as the loop holds it: the state of the reading between two items, and the open values.
 use mathlib.Core.Path.{_≡_}
 use mathlib.Core.Bool.{Bool, true, false, cond}
-use mathlib.Core.List.{List, []}
-use Prim.Native.Nat.{ℕ, _+_, _≤_, _<_}
+use mathlib.Core.List.{List}
+use Prim.Native.Nat.{ℕ, _≤_, _<_}
 use lib.Dec.{eqb}
 use lib.ListN.{length, getD, drop}
-use Rattle.value_table.specs.Value.{Values, none, value}
+use Rattle.value_table.specs.Value.{Values, none}
 use Rattle.json_theory.specs.Grammar.{Container, array, object, kindOf, closer, isSpace}
 use Rattle.json_theory.specs.Parts.{Start, letters, number, string, open′, nothing}
 use Rattle.json_theory.specs.Steps.{Stack, base, level, State, gap, after, need, first, nextKey, inKey, colon, inString, inNumber, inLiteral, wrong}
