@@ -16,7 +16,7 @@ unfolding size joinValues
 size-join none b = omega arith
 size-join (value head key content n) b = omega (arith, size-join n b)
 
-count-join : (a b : Values) → count (joinValues a b) ≡ count a + count b
+pub count-join : (a b : Values) → count (joinValues a b) ≡ count a + count b
 unfolding count joinValues
 count-join none b = omega arith
 count-join (value head key content n) b = omega (arith, count-join n b)
