@@ -1,7 +1,7 @@
 //! Tables for the workloads.
 
 use crate::sequence::{shuffled, Sequence};
-use crate::validator::header;
+use crate::validator::{header, MAX_FIELDS, SIZE};
 
 const NULL: u8 = 1;
 const NUMBER: u8 = 3;
@@ -91,6 +91,17 @@ fn with_scalars(keys: impl IntoIterator<Item = u16>, mut kind: impl FnMut() -> u
 /// A message with a number at each key.
 pub fn with_keys(keys: impl IntoIterator<Item = u16>) -> Vec<u8> {
     with_scalars(keys, || NUMBER)
+}
+
+/// Messages with as many fields as a record may have, whose keys are multiples of `step`. The last one takes what is left of n records.
+pub fn wide(n: usize, step: u16) -> Vec<u8> {
+    let mut table = Vec::new();
+    while table.len() < SIZE * n {
+        let room = n - table.len() / SIZE - 1;
+        let fields = MAX_FIELDS.min(room) as u16;
+        table.extend(with_keys((1..=fields).map(|i| step * i)));
+    }
+    table
 }
 
 /// n messages of ten fields with fifty different lists of keys, in a mixed order; `kind` gives the kinds of the fields.

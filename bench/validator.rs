@@ -4,6 +4,7 @@ pub const RECORD: u8 = 5;
 const ARRAY: u8 = 6;
 pub const SIZE: usize = 8;
 const MAX_DEPTH: usize = 32;
+pub const MAX_FIELDS: usize = 256;
 
 pub struct Header {
     pub kind: u8,
