@@ -95,8 +95,8 @@ pub fn matrices(n: usize) -> Vec<u8> {
     message.repeat(n)
 }
 
-/// A message with a scalar at each key; `kind` gives their kinds.
-fn with_scalars(keys: impl IntoIterator<Item = u16>, mut kind: impl FnMut() -> u8) -> Vec<u8> {
+/// A message with a value at each key that holds no other; `kind` gives their kinds.
+fn with_kinds(keys: impl IntoIterator<Item = u16>, mut kind: impl FnMut() -> u8) -> Vec<u8> {
     let mut fields = Vec::new();
     let mut span = 1;
     for key in keys {
@@ -110,7 +110,7 @@ fn with_scalars(keys: impl IntoIterator<Item = u16>, mut kind: impl FnMut() -> u
 
 /// A message with a number at each key.
 fn with_keys(keys: impl IntoIterator<Item = u16>) -> Vec<u8> {
-    with_scalars(keys, || NUMBER)
+    with_kinds(keys, || NUMBER)
 }
 
 /// Messages with as many fields as a record may have, whose keys are multiples of `step`. The last one takes what is left of n records.
@@ -131,7 +131,7 @@ pub fn same_keys(n: usize, mut order: impl FnMut(Vec<u16>) -> Vec<u16>) -> Vec<u
     let mut sequence = Sequence::new();
     let message = || {
         let keys = order((1..=fields).collect());
-        with_scalars(keys, || null_or_string(&mut sequence))
+        with_kinds(keys, || null_or_string(&mut sequence))
     };
     filled(n, std::iter::repeat_with(message))
 }
@@ -160,8 +160,8 @@ pub fn far_keys(n: usize) -> Vec<u8> {
         keys
     });
     let all = lists.iter().cloned().chain(again);
-    // A field with a scalar is found faster.
-    array(&filled(n - 1, all.map(|keys| with_scalars(keys, || ARRAY))))
+    // Empty arrays: a field with a scalar is found faster.
+    array(&filled(n - 1, all.map(|keys| with_kinds(keys, || ARRAY))))
 }
 
 /// n messages of ten fields with fifty different lists of keys, in a mixed order; `kind` gives the kinds of the fields.
@@ -169,7 +169,7 @@ fn fifty(n: usize, mut kind: impl FnMut() -> u8) -> Vec<u8> {
     let shape = |i: usize| {
         let start = 7 * (i % 50) as u16;
         let keys = (0..8).map(move |j| 3 + (start + 5 * j) % 100);
-        with_scalars((1..=2).chain(keys), &mut kind)
+        with_kinds((1..=2).chain(keys), &mut kind)
     };
     shuffled(0..n, &mut Sequence::new()).into_iter().flat_map(shape).collect()
 }
