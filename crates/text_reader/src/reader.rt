@@ -111,7 +111,6 @@ pub fn read_messages(
                 at = end;
                 items += 1;
                 count += 1;
-                continue;
             }
             Value::Opened(end, is_object) => {
                 open.records[depth] = count;
