@@ -12,7 +12,7 @@ from collections import Counter
 from itertools import zip_longest
 
 NULL, BOOLEAN, NUMBER, STRING, RECORD, ARRAY = range(1, 7)
-LONGEST, DEEPEST = 65536, 32
+LONGEST, DEEPEST, MOST_FIELDS = 65536, 32, 256
 SPACES = re.compile(r"[ \t\n\r]*")
 # A string that may be cut off, a bracket or sign, a number or literal.
 TOKEN = re.compile(rb'"((?:[^"\\]|\\.)*)("|\\?\Z)|[][{},:]|[^][{},:" \t\n\r]+', re.DOTALL)
@@ -90,6 +90,8 @@ def other_fault(beginning, numbers, room):
                     return 13, token.end() - 1
                 if key in keys:
                     return 6, token.end() - 1
+                if len(keys) == MOST_FIELDS:
+                    return 15, token.end() - 1
                 keys.add(key)
         elif word not in (b",", b":"):
             if len(opened) == DEEPEST:
@@ -250,7 +252,7 @@ def main(program, texts="50000", seed="1"):
             sys.exit(f"{line}expected {expected} {expectation}")
         tally[found[0]] += 1
     print(", ".join(f"{number}: {tally[number]}" for number in sorted(tally)))
-    missing = {0, 1, 6, 7, 11, 12, 13, 14} - set(tally)
+    missing = {0, 1, 6, 7, 11, 12, 13, 14, 15} - set(tally)
     if missing:
         sys.exit(f"these numbers never occurred: {missing}")
     print(f"{sum(tally.values())} texts of seed {seed}: the reader of tests/compare answers as Python's json module has it")
