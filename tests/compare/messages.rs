@@ -115,7 +115,7 @@ pub fn messages(shape: &Shape, random: &mut Random) -> Vec<Value> {
         let depth = DEEPEST - 1 + random.below(3);
         messages.push(chain(depth, shape, random));
     }
-    if random.one_in(80) {
+    if random.one_in(40) {
         let count = random.up_to(3);
         messages.extend((0..count).map(|_| full(shape, random)));
     }
