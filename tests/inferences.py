@@ -8,7 +8,7 @@ from collections import Counter
 
 from counting_types import FIELD, KIND, KNOWN, LABEL, UNKNOWN
 from merges import LARGEST, rows_of, written
-from tables import ARRAY, BOOLEAN, EMPTY_ARRAY, EVERY, NINE, NULL, NUMBER, ONE_NULL, RECORD, STRING
+from tables import ARRAY, BOOLEAN, EMPTY_ARRAY, EVERY, FIVE_INSIDE, NINE, NULL, NUMBER, ONE_NULL, RECORD, STRING
 from tables import array, bytes_of, in_arrays, in_fields, judge, many, messages, nested, null, one_field_each, record, value
 from tables import with_fields, with_keys
 
@@ -152,14 +152,13 @@ FIELDS_256 = with_fields(255, array(null(), key=256))
 
 
 def fields_of_one_record():
-    five_inside = with_keys(1, 2, key=254), with_keys(1, 2, 3, key=255), null(256)
     yield "fields-256", FIELDS_256
     yield "fields-256-arena-8224", FIELDS_256, 8224
     yield "fields-256-arena-8208", FIELDS_256, 8208
     yield "fields-256-descending", with_keys(*many(256, 256, -1))
     yield "fields-256-scattered", with_keys(*many(256, 1, 40503))
-    yield "fields-256-and-five-inside", with_fields(253, *five_inside)
-    yield "fields-257-and-five-inside", with_fields(253, *five_inside, null(257))
+    yield "fields-256-and-five-inside", with_fields(253, *FIVE_INSIDE)
+    yield "fields-257-and-five-inside", with_fields(253, *FIVE_INSIDE, null(257))
     yield "fields-257", with_fields(257)
     yield "fields-257-before-room", with_fields(257), 16
     yield "fields-257-and-repeat", with_fields(256, null(1))

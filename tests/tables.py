@@ -169,11 +169,14 @@ def between():
     yield "depth-before-kind", null() + nested(33, EMPTY_ARRAY) + [(0, 0, 1)]
 
 
+# The fields 254 to 256 of a record, which have five inside them.
+FIVE_INSIDE = with_keys(1, 2, key=254), with_keys(1, 2, 3, key=255), null(256)
+
+
 def up_to_256_fields():
-    two, three = with_keys(1, 2, key=255), with_keys(1, 2, 3, key=256)
     yield "fields-256", with_fields(256)
     yield "fields-256-scattered", with_keys(*many(256, 1, 40503))
-    yield "fields-256-and-five-inside", with_fields(254, two, three)
+    yield "fields-256-and-five-inside", with_fields(253, *FIVE_INSIDE)
     yield "elements-257-in-field-256", with_fields(255, array(*[null()] * 257, key=256))
     yield "messages-257", [ONE_NULL] * 257
     yield "messages-4096-of-one-field", one_field_each([7] * 4096)
