@@ -42,5 +42,12 @@ pub nested-enter : (b : List ℕ) (i : ℕ) (around : List Open) → FaultlessIn
     Nested (records b) (i + 1) around → Nested (records b) (i + 1) (enter b i around)
 unfolding enter Distinct
 nested-enter b i [] f h = (omega (arith, f .span-low), λ e. (tt, omega arith), f .span-fits)
-nested-enter b i (o ∷ os) f h =
-    (omega (arith, f .span-low), λ e. (tt, omega arith), (f .span-fits, λ e. (distinct-snoc (keyAt b i) (o .keys) (f .fresh e) (h .1 e .0), omega (arith, f .few e, length-append (o .keys) (keyAt b i ∷ []))), h .2))
+nested-enter b i (o ∷ os) f h = (
+  omega (arith, f .span-low),
+  λ e. (tt, omega arith),
+  (
+    f .span-fits,
+    λ e. (distinct-snoc (keyAt b i) (o .keys) (f .fresh e) (h .1 e .0), omega (arith, f .few e, length-append (o .keys) (keyAt b i ∷ []))),
+    h .2,
+  ),
+)

@@ -16,7 +16,7 @@ ghost use Rattle.value_table.specs.Outcome.{outcomeOf};
 ghost use Rattle.value_table.specs.Judged.{walk};
 ghost use Rattle.value_table.specs.Inside.EarlierFields.{innermostOf, firstOf};
 
-// Around a record stand the messages before it, and the values before it in each open value.
+// The levels at which values stand around a record: that of the messages, and one in each open value.
 const LEVELS: usize = record::MAX_DEPTH + 1;
 
 // The open values around the next record: the end of each, the first field of each that is a record (else 0), and how many
