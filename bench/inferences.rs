@@ -84,7 +84,12 @@ pub fn workloads(n: usize, log: &[u8]) -> Vec<Workload> {
         ("many shapes", one_field_shapes((n / 6) as u16)),
         ("far shapes", far_shapes(n)),
     ];
-    let mut workloads = vec![workload(&INFER_DEFAULT, "messages", KIND, &tables[0].1)];
+    let mut workloads = Vec::new();
+    for (name, table) in &tables {
+        if ["messages", "far fields"].contains(name) {
+            workloads.push(workload(&INFER_DEFAULT, name, KIND, table));
+        }
+    }
     for (name, table) in tables {
         workloads.push(workload(&INFER, &format!("{name}, kind"), KIND, &table));
         workloads.push(workload(&INFER, &format!("{name}, label"), LABEL, &table));
