@@ -3,6 +3,7 @@
 use crate::pair::{Buffers, Inputs, Pair, Workload};
 use crate::sequence::Sequence;
 use crate::type_validator::{MAX_TOTAL, SIZE as TYPE_RECORD};
+use crate::validator::{header, SIZE as VALUE_RECORD};
 use ct::raw::Answer;
 
 /// The largest allowed arena.
@@ -51,6 +52,15 @@ fn raise(bytes: &mut [u8], below: u64) {
     }
 }
 
+/// Gives the first value of a table one more field, in place of the record behind that value: the widest records then have too many.
+fn widen(bytes: &mut Vec<u8>) {
+    let span = header(bytes, 0).span;
+    let end = VALUE_RECORD * span;
+    let next = bytes.len().min(end + VALUE_RECORD);
+    bytes.splice(end..next, [1, 0, 255, 255, 1, 0, 0, 0]);
+    bytes[4..8].copy_from_slice(&(span as u32 + 1).to_le_bytes());
+}
+
 /// Cuts bytes short, changes one of them, or does one of the above. Small bytes are good kinds, keys, spans and counts, which often put
 /// the fault at a later record, or make none.
 fn damage(bytes: &mut Vec<u8>, size: usize, sequence: &mut Sequence) {
@@ -61,6 +71,7 @@ fn damage(bytes: &mut Vec<u8>, size: usize, sequence: &mut Sequence) {
         1 => bytes.truncate(at / size * size),
         2 => wrap(bytes, size),
         3 | 4 if size == TYPE_RECORD => raise(bytes, sequence.below(6) as u64),
+        3 if size == VALUE_RECORD => widen(bytes),
         turn => {
             if let Some(byte) = bytes.get_mut(at) {
                 *byte = sequence.below(if turn % 2 == 0 { 8 } else { 256 }) as u8;

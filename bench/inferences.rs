@@ -4,8 +4,8 @@ use crate::pair::{accepted, refused, Buffers, Inputs, Pair, Workload, KIND, LABE
 use crate::plain_inference;
 use crate::sequence::{shuffled, Sequence};
 use crate::tables::{
-    fifty_shapes, fifty_varied, first_messages, matrices, messages, nested, one_field_shapes,
-    varied, with_keys,
+    far_keys, far_shapes, fifty_shapes, fifty_varied, first_messages, many_keys, matrices,
+    messages, nested, one_field_shapes, same_keys, varied,
 };
 use ct::raw::{self, Answer};
 
@@ -63,10 +63,11 @@ fn workload(pair: &'static Pair, name: &str, equivalence: u64, first: &[u8]) -> 
     }
 }
 
-/// Workloads with tables of n records or a few less, but of one message with thousands of fields a quarter as many: more than 2,047 fields
-/// fit no arena.
+/// Workloads with tables of n records or a few less.
 pub fn workloads(n: usize, log: &[u8]) -> Vec<Workload> {
-    let f = (n / 4 - 1) as u16;
+    let mut sequence = Sequence::new();
+    let descending = |keys: Vec<u16>| keys.into_iter().rev().collect();
+    let mixed = |keys| shuffled(keys, &mut sequence);
     let tables = [
         ("messages", messages(n / 13)),
         ("varied", varied(n / 13)),
@@ -75,12 +76,20 @@ pub fn workloads(n: usize, log: &[u8]) -> Vec<Workload> {
         ("log", first_messages(log, n)),
         ("nested", nested(n / 32)),
         ("matrices", matrices(n / 21)),
-        ("fields ascending", with_keys(1..=f)),
-        ("fields descending", with_keys((1..=f).rev())),
-        ("fields mixed", with_keys(shuffled(1..=f, &mut Sequence::new()))),
+        ("fields ascending", same_keys(n, |keys| keys)),
+        ("fields descending", same_keys(n, descending)),
+        ("fields mixed", same_keys(n, mixed)),
+        ("many fields", many_keys(n)),
+        ("far fields", far_keys(n)),
         ("many shapes", one_field_shapes((n / 6) as u16)),
+        ("far shapes", far_shapes(n)),
     ];
-    let mut workloads = vec![workload(&INFER_DEFAULT, "messages", KIND, &tables[0].1)];
+    let mut workloads = Vec::new();
+    for (name, table) in &tables {
+        if ["messages", "far fields"].contains(name) {
+            workloads.push(workload(&INFER_DEFAULT, name, KIND, table));
+        }
+    }
     for (name, table) in tables {
         workloads.push(workload(&INFER, &format!("{name}, kind"), KIND, &table));
         workloads.push(workload(&INFER, &format!("{name}, label"), LABEL, &table));

@@ -1,7 +1,7 @@
 //! Calls 1 and 4, which judge tables and types, beside plain validators.
 
 use crate::pair::{accepted, refused, Buffers, Inputs, Pair, Workload, KIND, LABEL};
-use crate::tables::{flat, messages, nested, with_keys};
+use crate::tables::{flat, messages, nested, wide};
 use crate::types::{deep, fields, lists, records};
 use crate::{type_validator, validator};
 use ct::raw::{self, Answer};
@@ -63,7 +63,9 @@ pub fn of_tables(n: usize) -> Vec<Workload> {
         workload(&TABLES, "flat", KIND, flat(n)),
         workload(&TABLES, "nested", KIND, nested(n / 32)),
         workload(&TABLES, "messages", KIND, messages(n / 13)),
-        workload(&TABLES, "wide", KIND, with_keys(1..n as u16)),
+        workload(&TABLES, "wide", KIND, wide(n, 1)),
+        // The proved judge has 64 buckets for keys, and searches only where one is used again.
+        workload(&TABLES, "wide, one bucket", KIND, wide(n, 64)),
     ]
 }
 

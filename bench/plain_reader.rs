@@ -13,6 +13,7 @@ const SIZE: usize = 8;
 const LONGEST: usize = 65_536;
 const MAX_DEPTH: usize = 32;
 const MAX_KEY: usize = 32;
+const MAX_FIELDS: usize = 256;
 
 /// The keys of a book with their numbers, if it is a good one.
 fn numbers(book: &[u8]) -> Option<HashMap<&[u8], u16>> {
@@ -120,8 +121,10 @@ impl Reader<'_> {
         }
         let seen = self.words * depth;
         self.seen[seen..seen + self.words].fill(0);
+        let mut earlier = 0;
         loop {
-            let key = self.key(seen)?;
+            let key = self.key(seen, earlier)?;
+            earlier += 1;
             self.tokens.skip_space();
             self.tokens.expect(b':')?;
             self.tokens.skip_space();
@@ -157,7 +160,8 @@ impl Reader<'_> {
         Ok(false)
     }
 
-    fn key(&mut self, seen: usize) -> Result<u16, Refusal> {
+    /// Passes a key that has so many before it in its record.
+    fn key(&mut self, seen: usize, earlier: usize) -> Result<u16, Refusal> {
         let start = self.tokens.at + 1;
         if self.tokens.peek() != b'"' {
             return self.tokens.refuse(12);
@@ -172,6 +176,9 @@ impl Reader<'_> {
         let word = &mut self.seen[seen + usize::from(number / 64)];
         if *word & bit != 0 {
             return Err((6, end));
+        }
+        if earlier == MAX_FIELDS {
+            return Err((15, end));
         }
         *word |= bit;
         Ok(number)

@@ -1,7 +1,7 @@
 //! Tables for the workloads.
 
 use crate::sequence::{shuffled, Sequence};
-use crate::validator::header;
+use crate::validator::{header, MAX_FIELDS, SIZE};
 
 const NULL: u8 = 1;
 const NUMBER: u8 = 3;
@@ -13,6 +13,26 @@ fn put(table: &mut Vec<u8>, kind: u8, key: u16, span: u32) {
     table.extend([kind, 0]);
     table.extend(key.to_le_bytes());
     table.extend(span.to_le_bytes());
+}
+
+/// An array with this content.
+fn array(content: &[u8]) -> Vec<u8> {
+    let mut array = Vec::new();
+    put(&mut array, ARRAY, 0, 1 + (content.len() / SIZE) as u32);
+    array.extend(content);
+    array
+}
+
+/// The first of some values, as many as n records can hold.
+fn filled(n: usize, values: impl IntoIterator<Item = Vec<u8>>) -> Vec<u8> {
+    let mut table = Vec::new();
+    for value in values {
+        if table.len() + value.len() > SIZE * n {
+            break;
+        }
+        table.extend(value);
+    }
+    table
 }
 
 /// n scalars.
@@ -75,8 +95,8 @@ pub fn matrices(n: usize) -> Vec<u8> {
     message.repeat(n)
 }
 
-/// A message with a scalar at each key; `kind` gives their kinds.
-fn with_scalars(keys: impl IntoIterator<Item = u16>, mut kind: impl FnMut() -> u8) -> Vec<u8> {
+/// A message with a value at each key that holds no other; `kind` gives their kinds.
+fn with_kinds(keys: impl IntoIterator<Item = u16>, mut kind: impl FnMut() -> u8) -> Vec<u8> {
     let mut fields = Vec::new();
     let mut span = 1;
     for key in keys {
@@ -89,8 +109,59 @@ fn with_scalars(keys: impl IntoIterator<Item = u16>, mut kind: impl FnMut() -> u
 }
 
 /// A message with a number at each key.
-pub fn with_keys(keys: impl IntoIterator<Item = u16>) -> Vec<u8> {
-    with_scalars(keys, || NUMBER)
+fn with_keys(keys: impl IntoIterator<Item = u16>) -> Vec<u8> {
+    with_kinds(keys, || NUMBER)
+}
+
+/// Messages with as many fields as a record may have, whose keys are multiples of `step`. The last one takes what is left of n records.
+pub fn wide(n: usize, step: u16) -> Vec<u8> {
+    let mut table = Vec::new();
+    while table.len() < SIZE * n {
+        let room = n - table.len() / SIZE - 1;
+        let fields = MAX_FIELDS.min(room) as u16;
+        table.extend(with_keys((1..=fields).map(|i| step * i)));
+    }
+    table
+}
+
+/// Messages with the same keys, as many as a record may have, in orders that `order` gives. The fields are now a null, now a string: equal
+/// messages would be added at once.
+pub fn same_keys(n: usize, mut order: impl FnMut(Vec<u16>) -> Vec<u16>) -> Vec<u8> {
+    let fields = MAX_FIELDS.min(n / 4 - 1) as u16;
+    let mut sequence = Sequence::new();
+    let message = || {
+        let keys = order((1..=fields).collect());
+        with_kinds(keys, || null_or_string(&mut sequence))
+    };
+    filled(n, std::iter::repeat_with(message))
+}
+
+/// Eight lists of descending keys, in all as many as fit a type of n / 2 records. For the largest table a list has as many as a record may.
+fn key_lists(n: usize) -> Vec<Vec<u16>> {
+    let keys: Vec<u16> = (1..=(n / 4 - 5) as u16).rev().collect();
+    let lists = keys.chunks(keys.len().div_ceil(8));
+    lists.map(<[u16]>::to_vec).collect()
+}
+
+/// Messages with these lists by turns, each time in another order.
+pub fn many_keys(n: usize) -> Vec<u8> {
+    let mut sequence = Sequence::new();
+    let message = |keys| with_keys(shuffled(keys, &mut sequence));
+    filled(n, key_lists(n).into_iter().cycle().map(message))
+}
+
+/// An array of records with these lists, and then with the largest keys again and again. As keys descend, each is searched for from the
+/// smallest on. Two of them change places every other time: equal neighbours would be added at once.
+pub fn far_keys(n: usize) -> Vec<u8> {
+    let lists = key_lists(n);
+    let again = (0..).map(|turn| {
+        let mut keys = lists[0].clone();
+        keys.swap(turn % 2, 1);
+        keys
+    });
+    let all = lists.iter().cloned().chain(again);
+    // Empty arrays: a field with a scalar is found faster.
+    array(&filled(n - 1, all.map(|keys| with_kinds(keys, || ARRAY))))
 }
 
 /// n messages of ten fields with fifty different lists of keys, in a mixed order; `kind` gives the kinds of the fields.
@@ -98,7 +169,7 @@ fn fifty(n: usize, mut kind: impl FnMut() -> u8) -> Vec<u8> {
     let shape = |i: usize| {
         let start = 7 * (i % 50) as u16;
         let keys = (0..8).map(move |j| 3 + (start + 5 * j) % 100);
-        with_scalars((1..=2).chain(keys), &mut kind)
+        with_kinds((1..=2).chain(keys), &mut kind)
     };
     shuffled(0..n, &mut Sequence::new()).into_iter().flat_map(shape).collect()
 }
@@ -119,6 +190,16 @@ pub fn one_field_shapes(n: u16) -> Vec<u8> {
     let keys = (1..=n).chain(1..=n).chain(1..=n);
     let shapes = shuffled(keys, &mut Sequence::new()).into_iter().map(|key| with_keys([key]));
     shapes.flatten().collect()
+}
+
+/// An array of arrays: the first has records of one field with different keys, each other one only the record with the largest key or
+/// the last but one. In each array the search begins with the smallest key.
+pub fn far_shapes(n: usize) -> Vec<u8> {
+    let last = (n / 6 - 1) as u16;
+    let all: Vec<u8> = (1..=last).rev().flat_map(|key| with_keys([key])).collect();
+    let again = [last - 1, last].map(|key| with_keys([key]));
+    let contents = std::iter::once(all).chain(again.into_iter().cycle());
+    array(&filled(n - 1, contents.map(|content| array(&content))))
 }
 
 /// The first messages of a log, up to n records.

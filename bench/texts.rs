@@ -6,6 +6,7 @@ use crate::sequence::{shuffled, Sequence};
 const LONGEST: usize = 65_536;
 const MOST_VALUES: usize = 8_192;
 const MOST_KEYS: usize = 2_048;
+const MOST_FIELDS: usize = 256;
 const DEEPEST: usize = 32;
 
 /// How many texts a workload has.
@@ -167,8 +168,8 @@ pub fn workloads(log: &str, book: &[u8]) -> Vec<Texts> {
         workload("numbers", b"", numbers),
         workload("nested arrays", b"", |_| nested("[", "]")),
         workload("nested records", book, |_| nested("{\"lane\":", "}")),
-        workload("one record of 2,048 keys", &many, |s| {
-            lines([record(&mixed(s))])
+        workload("records of 256 keys", &many, |s| {
+            lines(mixed(s).chunks(MOST_FIELDS).map(record))
         }),
         workload("small records, 2,048 keys", &many, small),
     ]

@@ -4,6 +4,7 @@ pub const RECORD: u8 = 5;
 const ARRAY: u8 = 6;
 pub const SIZE: usize = 8;
 const MAX_DEPTH: usize = 32;
+pub const MAX_FIELDS: usize = 256;
 
 pub struct Header {
     pub kind: u8,
@@ -28,16 +29,19 @@ struct Open {
     first_field: Option<usize>,
 }
 
-fn key_before(table: &[u8], key: u16, first: usize, i: usize) -> bool {
+/// The number of fields before record i, the first of which is `first`, if none of them has this key.
+fn fields_before(table: &[u8], key: u16, first: usize, i: usize) -> Option<usize> {
+    let mut fields = 0;
     let mut p = first;
     while p < i {
         let earlier = header(table, p);
         if earlier.key == key {
-            return true;
+            return None;
         }
+        fields += 1;
         p += earlier.span;
     }
-    false
+    Some(fields)
 }
 
 pub fn bad_length(n: usize) -> bool {
@@ -67,8 +71,12 @@ fn fault(
     if (key != 0) != first_field.is_some() {
         return Some(5);
     }
-    if first_field.is_some_and(|first| key_before(table, key, first, i)) {
-        return Some(6);
+    if let Some(first) = first_field {
+        match fields_before(table, key, first, i) {
+            None => return Some(6),
+            Some(MAX_FIELDS) => return Some(15),
+            Some(_) => {}
+        }
     }
     (depth > MAX_DEPTH).then_some(7)
 }

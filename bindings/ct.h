@@ -27,6 +27,7 @@ extern "C" {
 #define CT_GRAMMAR 12    /* a byte with which the text cannot go on, or the end of a text that is not finished */
 #define CT_UNLISTED 13   /* a key that the book does not have, or that is spelled with an escape, at its closing quote */
 #define CT_BOOK 14       /* the key book is a bad one */
+#define CT_FIELDS 15     /* the 257th field of one record; in a text, at the closing quote of its key */
 
 /* The equivalences: the class of a record is its kind alone, or its kind with its keys. */
 #define CT_BY_KIND 0
@@ -42,8 +43,9 @@ struct ct_answer {
 /* Judges a value table of `length` bytes.
  *
  * Accepted, the count is the number of messages. Refused, the place is the value record with the fault, counted from 0, or 0
- * for a length. The length comes first, then records from 0 upward: the first with a fault decides, and of its faults the
- * smallest number. The answer depends on the bytes alone; nothing is written and nothing is kept.
+ * for a length. The length comes first, then records from 0 upward: the first with a fault decides, and of its faults the first in
+ * the order CT_KIND, CT_SPAN, CT_KEY, CT_REPEAT, CT_FIELDS, CT_DEPTH. The answer depends on the bytes alone; nothing is written and
+ * nothing is kept.
  *
  * `table` points to `length` bytes that nobody writes during the call. It is not null, even for length 0. */
 struct ct_answer ct_judge_table(const uint8_t *table, size_t length);
@@ -51,9 +53,9 @@ struct ct_answer ct_judge_table(const uint8_t *table, size_t length);
 /* Infers the type of a table's messages under an equivalence, CT_BY_KIND or CT_BY_LABEL, into the arena.
  *
  * Accepted, the count is the number of records of the type, which stands in the front of the arena; the rest of the arena is zero.
- * Refused, the whole arena is zero, and the place is 0 unless the table has a fault (CT_KIND to CT_DEPTH): then it is the value record,
- * as for ct_judge_table. The lengths come first, then the equivalence, the table, and at last the room. The working buffer has the
- * length of the arena and is zero afterwards, in either case. What the two buffers held before makes no difference.
+ * Refused, the whole arena is zero, and the place is 0 unless the table has a fault (CT_KIND to CT_DEPTH, CT_FIELDS): then it is the
+ * value record, as for ct_judge_table. The lengths come first, then the equivalence, the table, and at last the room. The working
+ * buffer has the length of the arena and is zero afterwards, in either case. What the two buffers held before makes no difference.
  *
  * `table` points to bytes that nobody writes during the call. The three buffers don't overlap. None of them is null, even for
  * length 0. */
@@ -67,8 +69,9 @@ struct ct_answer ct_infer_default(const uint8_t *table, size_t table_length, uin
 /* Judges a type of `length` bytes under an equivalence, CT_BY_KIND or CT_BY_LABEL.
  *
  * Accepted, the count is the number of type records, fields included. Refused, the place is 0. The length comes first, then the
- * equivalence, then the records. An empty type is well formed; a type with zeros behind it, as a whole arena has, is not. The
- * answer depends on the bytes and the equivalence alone; nothing is written and nothing is kept.
+ * equivalence, then the records. An empty type is well formed; a type with zeros behind it, as a whole arena has, is not. A record of
+ * a type may have any number of fields. The answer depends on the bytes and the equivalence alone; nothing is written and nothing is
+ * kept.
  *
  * `bytes` points to `length` bytes that nobody writes during the call. It is not null, even for length 0. */
 struct ct_answer ct_judge_type(const uint8_t *bytes, size_t length, uint64_t equivalence);
@@ -93,8 +96,8 @@ struct ct_answer ct_merge(const uint8_t *first, size_t first_length, const uint8
  * Accepted, the count is the number of value records, which stand in the front of the table in the order of the text; the rest of the
  * table is zero. Refused, the whole table is zero, and the place is 0 for CT_LENGTH and CT_BOOK, else a byte of the text, counted
  * from 0, or the text's length. The lengths come first, then the book, then the text from the left: the first fault decides. At one
- * byte CT_GRAMMAR comes before CT_DEPTH and that before CT_ROOM, and CT_UNLISTED before CT_REPEAT. What the table held before makes
- * no difference.
+ * byte CT_GRAMMAR comes before CT_DEPTH and that before CT_ROOM, and CT_UNLISTED before CT_REPEAT and that before CT_FIELDS. What the
+ * table held before makes no difference.
  *
  * `text` and `book` point to bytes that nobody writes during the call. The table overlaps neither. None of the three is null, even for
  * length 0. The call takes 141 KiB of the caller's stack. */

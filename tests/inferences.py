@@ -1,4 +1,5 @@
-"""Document 01's trials of calls 2 and 3, written without the crates: counts the values at each place, writes that map, prints a line.
+"""Trials of calls 2 and 3 by documents 01 and 02, written without the crates: counts the values at each place, writes that map, prints
+a line.
 
 A place is as in merges.py: a tuple of classes and of fields.
 """
@@ -7,8 +8,9 @@ from collections import Counter
 
 from counting_types import FIELD, KIND, KNOWN, LABEL, UNKNOWN
 from merges import LARGEST, rows_of, written
-from tables import ARRAY, BOOLEAN, EMPTY_ARRAY, EVERY, NINE, NULL, NUMBER, ONE_NULL, RECORD, STRING
-from tables import array, bytes_of, judge, messages, nested, null, record, value, wide
+from tables import ARRAY, BOOLEAN, EMPTY_ARRAY, EVERY, FIVE_INSIDE, NINE, NULL, NUMBER, ONE_NULL, RECORD, STRING
+from tables import array, bytes_of, in_arrays, in_fields, judge, many, messages, nested, null, one_field_each, record, value
+from tables import with_fields, with_keys
 
 
 def runs(records, start, end):
@@ -55,11 +57,6 @@ def infer(table, equivalence, arena, work):
     return 0, 0, rows
 
 
-def with_keys(*keys, key=0):
-    """A record with a null at each key."""
-    return record(*(null(k) for k in keys), key=key)
-
-
 def single(kind, key=0):
     return value(kind, key=key)
 
@@ -92,7 +89,7 @@ def faults():
     yield "repeat-after-array", record(array(null(), null(), key=1), null(1))
     yield "depth-before-kind", nested(33, EMPTY_ARRAY) + [(0, 0, 1)]
     yield "fault-before-room", null() + [(0, 0, 1)], 0
-    yield "fault-before-room-wide", wide(1)
+    yield "fault-before-room-records-4095", one_field_each(many(4095, 1, 1)) + [(0, 0, 1)]
 
 
 def unions():
@@ -145,49 +142,36 @@ def rooms():
         yield f"array-of-null-arena-{arena}", array(null()), arena
 
 
-def in_arrays(depth, inner):
-    """Arrays around values at a depth."""
-    for _ in range(depth - 1):
-        inner = array(inner)
-    return inner
-
-
-def in_fields(depth, inner):
-    """Records around a value at a depth."""
-    for _ in range(depth - 1):
-        inner = record([(inner[0][0], 1, inner[0][2]), *inner[1:]])
-    return inner
-
-
 def depths():
     yield "three-at-32", in_arrays(32, null() + single(BOOLEAN) + null())
     yield "in-fields-at-32", in_fields(32, null()) + in_fields(32, number())
     yield "in-fields-at-33", in_fields(33, null())
 
 
-def many(count, first, step):
-    """So many keys, modulo 65,536."""
-    return [(first + k * step) % 65536 for k in range(count)]
+FIELDS_256 = with_fields(255, array(null(), key=256))
 
 
-def one_field_each(keys):
-    return messages(*(with_keys(key) for key in keys))
-
-
-def filling(count):
-    """A record that has so many fields, of which the last is an array with a null."""
-    return record(*(null(key) for key in range(1, count)), array(null(), key=count))
+def fields_of_one_record():
+    yield "fields-256", FIELDS_256
+    yield "fields-256-arena-8224", FIELDS_256, 8224
+    yield "fields-256-arena-8208", FIELDS_256, 8208
+    yield "fields-256-descending", with_keys(*many(256, 256, -1))
+    yield "fields-256-scattered", with_keys(*many(256, 1, 40503))
+    yield "fields-256-and-five-inside", with_fields(253, *FIVE_INSIDE)
+    yield "fields-257-and-five-inside", with_fields(253, *FIVE_INSIDE, null(257))
+    yield "fields-257", with_fields(257)
+    yield "fields-257-before-room", with_fields(257), 16
+    yield "fields-257-and-repeat", with_fields(256, null(1))
+    yield "fields-8191", with_fields(8191)
 
 
 def largest():
     yield "nulls", [ONE_NULL] * 8192
-    yield "fields", filling(2047)
-    yield "fields-arena-65520", filling(2047), 65520
-    yield "fields-too-many", with_keys(*many(2048, 1, 1))
-    yield "fields-8191", with_keys(*many(8191, 1, 1))
-    yield "fields-8191-descending", with_keys(*many(8191, 8191, -1))
-    yield "fields-2047-descending", with_keys(*many(2047, 2047, -1))
-    yield "fields-2047-scattered", with_keys(*many(2047, 1, 40503))
+    yield "records-2047", one_field_each(many(2047, 1, 1)) + array()
+    yield "records-2047-arena-65520", one_field_each(many(2047, 1, 1)) + array(), 65520
+    yield "records-2047-descending", one_field_each(many(2047, 2047, -1))
+    yield "records-2047-scattered", one_field_each(many(2047, 1, 40503))
+    yield "records-2048", one_field_each(many(2048, 1, 1))
     yield "records", one_field_each(many(1365, 1, 1)) + array()
     yield "records-arena-65520", one_field_each(many(1365, 1, 1)) + array(), 65520
     yield "records-descending", one_field_each(many(1365, 1365, -1))
@@ -222,7 +206,7 @@ def unknown():
     yield "empty-arena-0", b"", 0, 0
     yield "all-zero", bytes(8), LARGEST, LARGEST
     yield "one-null-arena-0", bytes_of(null()), 0, 0
-    yield "fields-8191", bytes_of(with_keys(*many(8191, 1, 1))), LARGEST, LARGEST
+    yield "fields-8191", bytes_of(with_fields(8191)), LARGEST, LARGEST
     yield "arena-17", bytes_of(null()), 17, 17
     yield "arena-16-work-0", bytes_of(null()), 16, 0
     yield "table-9", bytes_of(null()) + bytes(1), LARGEST, LARGEST
@@ -230,14 +214,16 @@ def unknown():
 
 def known():
     """Names, tables and lengths, in the order of crates/trials."""
-    for group in document, faults, unions, contents, fields, key_lists, rooms, depths, largest:
+    for group in document, faults, unions, contents, fields, key_lists, rooms, depths, fields_of_one_record, largest:
         yield from tables(group())
     yield from given_lengths()
 
 
 def default():
     yield from tables(document())
-    yield from tables([("lists-13-2-12", with_keys(1, 3) + with_keys(2) + with_keys(2, 1)), ("fields", filling(2047))])
+    yield from tables([("lists-13-2-12", with_keys(1, 3) + with_keys(2) + with_keys(2, 1))])
+    yield from tables([("fields-256", FIELDS_256), ("fields-257", with_fields(257)), ("fields-257-before-room", with_fields(257), 16)])
+    yield from tables([("records-2047", one_field_each(many(2047, 1, 1)) + array())])
     yield "arena-17", bytes_of(null()), 17, 17
     yield "arena-16-work-0", bytes_of(null()), 16, 0
     yield "table-9", bytes_of(null()) + bytes(1), LARGEST, LARGEST

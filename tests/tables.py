@@ -1,7 +1,8 @@
-"""Document 01's trials of call 1, written without the crates: builds each table, judges it by recursive descent, prints a line."""
+"""Trials of call 1 by documents 01 and 02, written without the crates: builds each table, judges it by recursive descent, prints a line."""
 import struct
 
 NULL, BOOLEAN, NUMBER, STRING, RECORD, ARRAY = range(1, 7)
+MOST_FIELDS = 256
 
 
 class Refused(Exception):
@@ -24,11 +25,13 @@ def run(records, place, end, depth, fields):
     seen, count = set(), 0
     while place < end:
         kind, zero, key, span = records[place]
+        # The first that is found decides.
         faults = {
             3: kind not in range(1, 7) or zero != 0,
             4: span == 0 or place + span > end or (kind <= STRING and span > 1),
             5: (key == 0) if fields else (key != 0),
             6: fields and key in seen,
+            15: fields and count == MOST_FIELDS,
             7: depth > 32,
         }
         for number, found in faults.items():
@@ -73,6 +76,20 @@ def nested(depth, inner):
     return [(ARRAY, 0, depth - level) for level in range(depth - 1)] + [inner]
 
 
+def in_arrays(depth, inner):
+    """Arrays around values at a depth."""
+    for _ in range(depth - 1):
+        inner = array(inner)
+    return inner
+
+
+def in_fields(depth, inner):
+    """Records around a value at a depth."""
+    for _ in range(depth - 1):
+        inner = record([(inner[0][0], 1, inner[0][2]), *inner[1:]])
+    return inner
+
+
 def lengths(records, *numbers):
     return [(f"length-{n}", bytes_of(records)[:n]) for n in numbers]
 
@@ -94,9 +111,23 @@ NINE = messages(
 EMPTY_ARRAY, EMPTY_RECORD, ONE_NULL = (ARRAY, 0, 1), (RECORD, 0, 1), (NULL, 0, 1)
 
 
-def wide(last_key):
-    keys = [*range(1, 8191), last_key]
-    return record(*(null(key) for key in keys))
+def many(count, first, step):
+    """So many keys, modulo 65,536."""
+    return [(first + k * step) % 65536 for k in range(count)]
+
+
+def with_keys(*keys, key=0):
+    """A record with a null at each key."""
+    return record(*(null(k) for k in keys), key=key)
+
+
+def with_fields(count, *further):
+    """A record with nulls at so many keys from 1 on, and further fields."""
+    return record(*map(null, many(count, 1, 1)), *further)
+
+
+def one_field_each(keys):
+    return messages(*(with_keys(key) for key in keys))
 
 
 def accepted():
@@ -129,12 +160,49 @@ def depths():
     yield "kind-and-depth", nested(33, (0, 0, 1))
     yield "span-and-depth", nested(33, (ARRAY, 0, 2))
     yield "key-and-depth", nested(33, (ARRAY, 1, 1))
+    yield "field-at-33", in_arrays(32, with_keys(1))
 
 
 def between():
     yield "arrays-32-between", null() + nested(32, EMPTY_ARRAY) + null()
     yield "arrays-33-between", null() + nested(33, EMPTY_ARRAY) + null()
     yield "depth-before-kind", null() + nested(33, EMPTY_ARRAY) + [(0, 0, 1)]
+
+
+# The fields 254 to 256 of a record, which have five inside them.
+FIVE_INSIDE = with_keys(1, 2, key=254), with_keys(1, 2, 3, key=255), null(256)
+
+
+def up_to_256_fields():
+    yield "fields-256", with_fields(256)
+    yield "fields-256-scattered", with_keys(*many(256, 1, 40503))
+    yield "fields-256-and-five-inside", with_fields(253, *FIVE_INSIDE)
+    yield "elements-257-in-field-256", with_fields(255, array(*[null()] * 257, key=256))
+    yield "messages-257", [ONE_NULL] * 257
+    yield "messages-4096-of-one-field", one_field_each([7] * 4096)
+
+
+def field_257():
+    content = array(null(), null(), key=254), with_keys(1, 2, key=255), array(array(), key=256)
+    yield "fields-257", with_fields(257)
+    yield "fields-8191", with_fields(8191)
+    yield "fields-257-behind-content", with_fields(253, *content, null(257))
+    yield "fields-257-before-content", with_fields(256, record(null(), key=257))
+    yield "fields-257-in-fields-at-32", in_fields(31, with_fields(257))
+    yield "fields-257-in-array-behind-256-messages", one_field_each(many(256, 1, 1)) + array(with_fields(257))
+
+
+def field_257_and_more():
+    yield "fields-257-and-kind", with_fields(256, [(7, 257, 1)])
+    yield "fields-257-and-byte-1", with_fields(256, [(NULL, 257, 1, 1)])
+    yield "fields-257-and-span-0", with_fields(256, [(NULL, 257, 0)])
+    yield "fields-257-and-span-past", with_fields(256, [(ARRAY, 257, 2)])
+    yield "fields-257-and-key-0", with_fields(256, null())
+    yield "fields-257-and-repeat-first", with_fields(256, null(1))
+    yield "fields-257-and-repeat-last", with_fields(256, null(256))
+    yield "fields-257-before-repeat", with_fields(257, null(1))
+    yield "fields-257-before-kind", with_fields(257, [(0, 258, 1)])
+    yield "repeat-before-fields-257", with_fields(255, null(1), null(257))
 
 
 def single_faults():
@@ -192,9 +260,10 @@ def trials():
     yield from replaced()
     yield from tables(between())
     yield from tables(depths())
+    yield from tables(up_to_256_fields())
+    yield from tables(field_257())
+    yield from tables(field_257_and_more())
     yield from lengths([ONE_NULL] * 8193, 65535, 65536, 65537, 65544)
-    yield "wide", bytes_of(wide(8191))
-    yield "wide-repeat", bytes_of(wide(1))
 
 
 if __name__ == "__main__":

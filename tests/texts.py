@@ -12,7 +12,7 @@ from collections import Counter
 from itertools import zip_longest
 
 NULL, BOOLEAN, NUMBER, STRING, RECORD, ARRAY = range(1, 7)
-LONGEST, DEEPEST = 65536, 32
+LONGEST, DEEPEST, MOST_FIELDS = 65536, 32, 256
 SPACES = re.compile(r"[ \t\n\r]*")
 # A string that may be cut off, a bracket or sign, a number or literal.
 TOKEN = re.compile(rb'"((?:[^"\\]|\\.)*)("|\\?\Z)|[][{},:]|[^][{},:" \t\n\r]+', re.DOTALL)
@@ -90,6 +90,8 @@ def other_fault(beginning, numbers, room):
                     return 13, token.end() - 1
                 if key in keys:
                     return 6, token.end() - 1
+                if len(keys) == MOST_FIELDS:
+                    return 15, token.end() - 1
                 keys.add(key)
         elif word not in (b",", b":"):
             if len(opened) == DEEPEST:
@@ -200,6 +202,41 @@ LIMITS = [
     (b"", 7, 1, 0),
     (b"", 65544, 1, 0),
 ]
+WIDE_BOOK = book_of(*(b"%03d" % n for n in range(257)))
+
+
+def fields(first, last):
+    """Fields with keys of the wide book, 8 bytes each with the comma."""
+    return b",".join(b'"%03d":0' % n for n in range(first, last + 1))
+
+
+# The 257th key of an object, by the length of the table. It ends at byte 2053 where the object begins the text.
+FULL, ONE_MORE = b"{" + fields(0, 255), b"{" + fields(0, 256) + b"} "
+WIDE = [
+    (FULL + b"} ", 65536, 0, 0),
+    (ONE_MORE, 65536, 15, 2053),
+    (FULL + b',"256"', 65536, 15, 2053),
+    (FULL + b',"256"x', 65536, 15, 2053),
+    (FULL + b',"256', 65536, 12, 2053),
+    (FULL + b",} ", 65536, 12, 2049),
+    (FULL + b',"257":0} ', 65536, 13, 2053),
+    (FULL + b',"25\\u0036":0} ', 65536, 13, 2058),
+    (FULL + b',"000":0} ', 65536, 6, 2053),
+    (FULL + b',"255":0} ', 65536, 6, 2053),
+    (FULL + b',"256":0,"256":0} ', 65536, 15, 2053),
+    (FULL + b"} " + ONE_MORE, 65536, 15, 2050 + 2053),
+    (b'{"000":' + ONE_MORE, 65536, 15, 7 + 2053),
+    (b"[0," + ONE_MORE, 65536, 15, 3 + 2053),
+    (b"[" * 30 + ONE_MORE, 65536, 15, 30 + 2053),
+    (b"[" * 31 + ONE_MORE, 65536, 7, 31 + 7),
+    (b'{"000":' + FULL + b'},"001":' + FULL + b"}} ", 65536, 0, 0),
+    (b'{"000":{"000":0},' + fields(1, 255) + b"} ", 65536, 0, 0),
+    (b'{"000":{"000":0},' + fields(1, 256) + b"} ", 65536, 15, 8 + 2053),
+    (b'{"000":[' + b"0," * 256 + b"0]," + fields(1, 255) + b"} ", 65536, 0, 0),
+    (FULL + b"} ", 8 * 257, 0, 0),
+    (ONE_MORE, 8 * 257, 15, 2053),
+    (ONE_MORE, 8 * 256, 11, 2047),
+]
 BOOKS = [
     (b"", 0),
     (book_of(b"\x01", b"\x7f", b"\x80", b"\xff" * 32), 0),
@@ -226,6 +263,7 @@ def known():
     yield from ((text, BOOK, 64, 0, 0) for text in ACCEPTED)
     yield from ((text, BOOK, 64, *fault) for fault, texts in KEYS.items() for text in texts)
     yield from ((text, BOOK, *rest) for text, *rest in LIMITS)
+    yield from ((text, WIDE_BOOK, *rest) for text, *rest in WIDE)
     yield from ((b"", book, 0, number, 0) for book, number in BOOKS)
     yield from ((b"x", book, 0, number or 12, 0) for book, number in BOOKS)
     yield b"", bytes(32), 7, 1, 0
@@ -250,7 +288,7 @@ def main(program, texts="50000", seed="1"):
             sys.exit(f"{line}expected {expected} {expectation}")
         tally[found[0]] += 1
     print(", ".join(f"{number}: {tally[number]}" for number in sorted(tally)))
-    missing = {0, 1, 6, 7, 11, 12, 13, 14} - set(tally)
+    missing = {0, 1, 6, 7, 11, 12, 13, 14, 15} - set(tally)
     if missing:
         sys.exit(f"these numbers never occurred: {missing}")
     print(f"{sum(tally.values())} texts of seed {seed}: the reader of tests/compare answers as Python's json module has it")

@@ -11,8 +11,8 @@ const MOST: usize = LONGEST / SIZE;
 pub fn keys(random: &mut Random) -> Vec<Vec<u8>> {
     let mut keys = match random.below(1000) {
         0..=2 => many(MOST, random),
-        3..=9 => many(300, random),
-        10..=79 => Vec::new(),
+        3..=29 => many(300, random),
+        30..=79 => Vec::new(),
         80..=199 => vec![key(random)],
         200..=349 => ladder(random),
         350..=449 => twins(random),

@@ -5,7 +5,7 @@ use crate::books;
 use crate::calls::Call;
 use crate::case::Case;
 use crate::json;
-use crate::value::{DEEPEST, LONGEST};
+use crate::value::{DEEPEST, LONGEST, MOST_FIELDS};
 use ct::raw;
 use std::hint::black_box;
 use std::time::{Duration, Instant};
@@ -87,7 +87,9 @@ fn long(case: &mut Case, books: &Books) {
     let deepest = format!("{}{}\n", "[".repeat(DEEPEST), "]".repeat(DEEPEST));
     let fields: Vec<String> = (0..2_045).map(|n| format!("\"k{n:04}\":0")).collect();
     let widest = format!("{{{}}}\n", fields.join(","));
-    let messages = [["", &deepest, ""], ["", &widest, ""]];
+    let fullest = fields.chunks(MOST_FIELDS);
+    let fullest: String = fullest.map(|f| format!("{{{}}}\n", f.join(","))).collect();
+    let messages = [["", &deepest, ""], ["", &widest, ""], ["", &fullest, ""]];
     for text in LONG.into_iter().chain(messages).map(repeated) {
         for book in [&books.small, &books.large, &Vec::new()] {
             read(case, &text, book, LONGEST);

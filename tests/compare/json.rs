@@ -1,8 +1,10 @@
-//! JSON text, read to a value table by recursive descent: what the call of change 1 must answer, by its inputs.
+//! JSON text, read to a value table by recursive descent: what call 6 must answer, by its inputs.
 
 use crate::book::Book;
 use crate::tokens::Tokens;
-use crate::value::{self, is_length, Fault, Value, ARRAY, DEEPEST, LONGEST, RECORD, STRING};
+use crate::value::{
+    self, is_length, Fault, Value, ARRAY, DEEPEST, LONGEST, MOST_FIELDS, RECORD, STRING,
+};
 
 const NULL: u8 = 1;
 const BOOLEAN: u8 = 2;
@@ -151,7 +153,7 @@ impl Reader<'_> {
         Ok(false)
     }
 
-    /// A key of the book that none of the fields before has.
+    /// A key of the book that none of the fields before has, of which there may be one more.
     fn key(&mut self, before: &[Value]) -> Result<u16, Fault> {
         let spelled = self.tokens.string()?;
         let number = match self.book.number(spelled.bytes) {
@@ -160,6 +162,9 @@ impl Reader<'_> {
         };
         if before.iter().any(|field| field.key == number) {
             return Err((6, spelled.end));
+        }
+        if before.len() == MOST_FIELDS {
+            return Err((15, spelled.end));
         }
         Ok(number)
     }

@@ -1,5 +1,5 @@
-//! Compares the library with a separately written implementation of documents 01 and 02, on random cases and on texts that are tried
-//! once each. Every second case has a text beside the other calls.
+//! Compares the library with a separately written implementation of documents 01 and 02, on random cases and on tables and texts that are
+//! tried once each. Every second case has a text beside the other calls.
 //!
 //! Arguments: the number of cases, the seed, and the first case's number (to see one case again).
 
@@ -10,6 +10,7 @@ mod case;
 mod counted;
 mod damage;
 mod extremes;
+mod full_records;
 mod json;
 mod library;
 mod messages;
@@ -49,8 +50,10 @@ fn main() {
     }
     println!("{cases} cases of seed {seed}: no difference");
     let mut once = Tally::default();
-    extremes::compare(&mut Case::new(seed, 0, &mut once));
-    println!("{} texts tried once each: no difference", once.calls());
+    let mut case = Case::new(seed, 0, &mut once);
+    full_records::compare(&mut case);
+    extremes::compare(&mut case);
+    println!("{} calls tried once each: no difference", once.calls());
 }
 
 fn run(case: &mut Case) {

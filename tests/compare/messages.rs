@@ -1,7 +1,7 @@
 //! Random messages, as trees of values.
 
 use crate::random::Random;
-use crate::value::{write, Value, ARRAY, DEEPEST, RECORD, SIZE, STRING};
+use crate::value::{write, Value, ARRAY, DEEPEST, MOST_FIELDS, RECORD, SIZE, STRING};
 
 /// What the messages and types of a case have in common, so that places meet.
 pub struct Shape {
@@ -52,21 +52,56 @@ fn small_keys(random: &mut Random) -> Vec<u16> {
     }
 }
 
-/// Keys for `wide`, and few records beside its message.
+/// Keys for `wide`, and few records beside its messages.
 fn wide_keys(random: &mut Random) -> (Vec<u16>, usize, usize) {
-    let fields = random.pick(&[600, 2_047, 2_047, 2_047, 2_048, 8_191]);
+    let fields = random.pick(&[600, 2_044, 2_047, 2_047, 2_048, 8_160]);
     ((1..=fields).collect(), 4, random.below(4))
 }
 
-/// A record with every key. 2,047 of them give a type of 4,095 records, one less than the longest.
-fn wide(shape: &Shape, random: &mut Random) -> Value {
+/// Every key once, in records with as many fields as one may have, or in one record. By kind 2,047 keys give a type of 4,095 records,
+/// one less than the longest; by label 2,044 keys in eight records give the longest. 8,160 keys in records fill a table.
+fn wide(shape: &Shape, random: &mut Random) -> Vec<Value> {
     let mut keys = shape.keys.clone();
     random.shuffle(&mut keys);
-    let inner = keys.into_iter();
+    let fields = random.pick(&[MOST_FIELDS, MOST_FIELDS, MOST_FIELDS, keys.len()]);
+    let records = keys.chunks(fields);
+    records.map(|keys| with_leaves(0, keys, random)).collect()
+}
+
+/// A record with about as many fields as one may have, inside some values.
+fn full(shape: &Shape, random: &mut Random) -> Value {
+    let depth = random.pick(&[1, 1, 2, 3, DEEPEST - 1, DEEPEST]);
+    let record = full_record(0, depth, shape, random);
+    around(record, depth, shape, random)
+}
+
+/// The last field may have no key or that of another, some fields have content, and one may be such a record again.
+fn full_record(key: u16, depth: usize, shape: &Shape, random: &mut Random) -> Value {
+    let fields = MOST_FIELDS - 1 + random.below(3);
+    let first = random.pick(&[1, 200, 65_000]);
+    let mut keys: Vec<u16> = (first..).take(fields).collect();
+    random.shuffle(&mut keys);
+    if random.one_in(6) {
+        keys[fields - 1] = random.pick(&[0, keys[0]]);
+    }
+    let mut record = with_leaves(key, &keys, random);
+    for _ in 0..random.pick(&[0, 1, 9]) {
+        let at = random.below(fields);
+        record.inner[at] = value(keys[at], depth + 1, shape, &mut 9, random);
+    }
+    if random.one_in(3) {
+        let at = random.below(fields);
+        record.inner[at] = full_record(keys[at], depth + 1, shape, random);
+    }
+    record
+}
+
+fn with_leaves(key: u16, keys: &[u16], random: &mut Random) -> Value {
+    let inner = keys.iter();
     Value {
         kind: RECORD,
-        key: 0,
-        inner: inner.map(|key| leaf(key, random)).collect(),
+        key,
+        inner: inner.map(|key| leaf(*key, random)).collect(),
     }
 }
 
@@ -80,8 +115,12 @@ pub fn messages(shape: &Shape, random: &mut Random) -> Vec<Value> {
         let depth = DEEPEST - 1 + random.below(3);
         messages.push(chain(depth, shape, random));
     }
+    if random.one_in(40) {
+        let count = random.up_to(3);
+        messages.extend((0..count).map(|_| full(shape, random)));
+    }
     if shape.keys.len() > 100 {
-        messages.push(wide(shape, random));
+        messages.extend(wide(shape, random));
     }
     random.shuffle(&mut messages);
     messages
@@ -119,7 +158,11 @@ fn value(key: u16, depth: usize, shape: &Shape, left: &mut usize, random: &mut R
 
 /// A message of this depth, with a value inside a value and now and then another beside it.
 fn chain(depth: usize, shape: &Shape, random: &mut Random) -> Value {
-    let mut value = leaf(0, random);
+    around(leaf(0, random), depth, shape, random)
+}
+
+/// A message in which the value is at this depth.
+fn around(mut value: Value, depth: usize, shape: &Shape, random: &mut Random) -> Value {
     for _ in 1..depth {
         let kind = random.pick(&[RECORD, ARRAY]);
         let mut keys = match kind {

@@ -5,6 +5,7 @@ use std::collections::BTreeSet;
 pub const SIZE: usize = 8;
 pub const LONGEST: usize = 65_536;
 pub const DEEPEST: usize = 32;
+pub const MOST_FIELDS: usize = 256;
 pub const STRING: u8 = 4;
 pub const RECORD: u8 = 5;
 pub const ARRAY: u8 = 6;
@@ -89,16 +90,18 @@ fn values(rows: &[Row], start: usize, mut around: Siblings) -> Result<Vec<Value>
     Ok(values)
 }
 
-/// The smallest number that refuses a record at its place.
+/// The number that refuses a record at its place: the first here whose fault it has.
 fn fault(row: &Row, place: usize, around: &Siblings) -> Option<u64> {
     let room = around.end - place;
     let repeats = |keys: &BTreeSet<u16>| keys.contains(&row.key);
+    let full = |keys: &BTreeSet<u16>| keys.len() == MOST_FIELDS;
     let faults = [
         (3, !(1..=ARRAY).contains(&row.kind) || row.zero != 0),
         (4, row.span == 0 || row.span as usize > room),
         (4, row.kind <= STRING && row.span > 1),
         (5, (row.key != 0) != around.keys.is_some()),
         (6, around.keys.as_ref().is_some_and(repeats)),
+        (15, around.keys.as_ref().is_some_and(full)),
         (7, around.depth > DEEPEST),
     ];
     let found = faults.into_iter().find(|(_, holds)| *holds);

@@ -1,7 +1,7 @@
 //! Writes random messages as JSON text, with white space wherever the grammar has it.
 
 use crate::random::Random;
-use crate::value::{DEEPEST, LONGEST, SIZE};
+use crate::value::{DEEPEST, LONGEST, MOST_FIELDS, SIZE};
 use crate::words;
 
 /// Writes messages. `left` is how many more values to write, or some more; `slips` lets it write keys that a record can't have.
@@ -167,19 +167,24 @@ impl<'a> Writer<'a> {
     /// A value at depth 31, 32 or 33.
     fn near_deepest(&mut self) {
         let deepest = DEEPEST - 1 + self.random.below(3);
-        self.chain(1, deepest);
+        self.chain(1, deepest, Writer::leaf);
     }
 
     /// A value at a depth that is mostly far too great.
     fn tower(&mut self) {
         let deepest = self.random.below(900);
-        self.chain(1, deepest);
+        self.chain(1, deepest, Writer::leaf);
     }
 
-    /// A value inside a value down to this depth.
-    fn chain(&mut self, depth: usize, deepest: usize) {
+    /// A value with nothing inside it.
+    fn leaf(&mut self, _: usize) {
+        self.value(usize::MAX);
+    }
+
+    /// A value inside a value down to this depth, where the last is written.
+    fn chain(&mut self, depth: usize, deepest: usize, last: fn(&mut Self, usize)) {
         if depth >= deepest {
-            return self.value(usize::MAX);
+            return last(self, depth);
         }
         self.values += 1;
         let in_array = self.spelled.is_empty() || self.random.one_in(2);
@@ -189,7 +194,7 @@ impl<'a> Writer<'a> {
             self.byte(b'{');
             self.key(&mut Vec::new());
         }
-        self.chain(depth + 1, deepest);
+        self.chain(depth + 1, deepest, last);
         self.space();
         self.text.push(if in_array { b']' } else { b'}' });
     }
@@ -202,21 +207,48 @@ impl<'a> Writer<'a> {
         self.values += others + 1;
     }
 
-    /// A record with every key, and sometimes one of them again.
+    /// A record with many keys, inside some values.
     fn wide(&mut self) {
+        let depth = self.random.pick(&[1, 1, 2, 3, DEEPEST - 1, DEEPEST]);
+        self.chain(1, depth, Writer::wide_record);
+    }
+
+    /// A record with about as many keys as one may have, or with every key, and sometimes with a wrong one behind them.
+    fn wide_record(&mut self, depth: usize) {
         let mut keys = self.spelled.clone();
         self.random.shuffle(&mut keys);
-        if self.random.one_in(3) {
-            keys.extend(keys.clone().first());
-        }
-        self.values += 1 + keys.len();
+        let near = MOST_FIELDS - 1 + self.random.below(3);
+        keys.truncate(self.random.pick(&[near, near, near, keys.len()]));
+        self.values += 1;
         self.byte(b'{');
-        for (i, key) in keys.into_iter().enumerate() {
+        for (i, key) in keys.iter().enumerate() {
             self.comma(i);
             words::quoted(&mut self.text, key);
             self.byte(b':');
-            self.byte(b'0');
+            self.wide_value(depth + 1);
+        }
+        if self.random.one_in(3) {
+            self.comma(keys.len());
+            self.wrong_key(&keys);
+            self.byte(b':');
+            self.wide_value(depth + 1);
         }
         self.text.push(b'}');
+    }
+
+    /// Mostly a short one, sometimes with content, which now and then is as wide.
+    fn wide_value(&mut self, depth: usize) {
+        match self.random.below(1000) {
+            0 if self.text.len() < LONGEST / 2 => self.wide_record(depth),
+            1..=20 => {
+                self.left = 9;
+                self.value(depth);
+            }
+            _ => {
+                self.values += 1;
+                self.text.push(b'0');
+            }
+        }
+        self.space();
     }
 }

@@ -33,6 +33,8 @@ pub enum Refusal {
     Key { place: usize },
     /// An earlier field of the same record has this key. In a text the place is its closing quote.
     Repeat { place: usize },
+    /// It is the 257th field of one record. In a text the place is the closing quote of its key.
+    Fields { place: usize },
     /// The value has depth 33. In a text the place is its first byte.
     Depth { place: usize },
     /// The first or only type is not well formed.
@@ -54,7 +56,7 @@ pub enum Refusal {
 }
 
 impl Refusal {
-    /// The number of documents 01 and 02, 1 to 14.
+    /// The number of documents 01 and 02, 1 to 15.
     pub fn number(self) -> u64 {
         match self {
             Refusal::Length => 1,
@@ -71,6 +73,7 @@ impl Refusal {
             Refusal::Grammar { .. } => 12,
             Refusal::Unlisted { .. } => 13,
             Refusal::Book => 14,
+            Refusal::Fields { .. } => 15,
         }
     }
 
@@ -81,6 +84,7 @@ impl Refusal {
             | Refusal::Span { place }
             | Refusal::Key { place }
             | Refusal::Repeat { place }
+            | Refusal::Fields { place }
             | Refusal::Depth { place }
             | Refusal::Full { place }
             | Refusal::Grammar { place }
@@ -92,8 +96,8 @@ impl Refusal {
 
 /// Call 1. Gives the number of messages of a value table.
 ///
-/// A table with a fault is refused for its first record with one, and there for the smallest number. An empty table is
-/// accepted.
+/// A table with a fault is refused for its first record with one, and there for the first that it has of `Kind`, `Span`, `Key`,
+/// `Repeat`, `Fields` and `Depth`. An empty table is accepted.
 pub fn judge_table(table: &[u8]) -> Result<usize, Refusal> {
     raw::judge_table(table).result()
 }
@@ -119,7 +123,8 @@ pub fn infer_default(table: &[u8], arena: &mut [u8], work: &mut [u8]) -> Result<
 
 /// Call 4. Gives the number of records of a type that is well formed under the equivalence, fields included.
 ///
-/// Any other type is refused, and so is a whole arena with zeros behind its type. The empty type is well formed.
+/// Any other type is refused, and so is a whole arena with zeros behind its type. The empty type is well formed, and a record
+/// of a type may have any number of fields.
 pub fn judge_type(bytes: &[u8], equivalence: Equivalence) -> Result<usize, Refusal> {
     raw::judge_type(bytes, equivalence as u64).result()
 }

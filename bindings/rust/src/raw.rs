@@ -136,6 +136,7 @@ impl Answer {
             12 => Refusal::Grammar { place },
             13 => Refusal::Unlisted { place },
             14 => Refusal::Book,
+            15 => Refusal::Fields { place },
             number => unreachable!("no call answers {number}"),
         })
     }

@@ -37,6 +37,7 @@ refused-from faults.Kind place e b n = refl
 refused-from faults.Span place e b n = refl
 refused-from faults.Key place e b n = refl
 refused-from faults.Repeat place e b n = refl
+refused-from faults.Fields place e b n = refl
 refused-from faults.Depth place e b n = refl
 
 module _ (f : CountingType) (n : ℕ) where

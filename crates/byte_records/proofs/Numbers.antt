@@ -6,9 +6,14 @@ use native.Mathlib.Nat.{zero-add, suc-add, add-suc, add-comm, mul-zero, mul-suc}
 use native.Mathlib.Omega.{arith}
 use lib.ListN.{length, take, drop, getD, set, replicate, take-append-drop, length-drop}
 use lib.Seq.{drop-drop, length-take-le, take-append-le, drop-append-le, take-at, drop-at, take-set-le, drop-set-add, sets, sets-eq}
-use Rattle.byte_records.specs.Number.{bytesOf, numberOf, numberAt}
+use Rattle.byte_records.specs.Number.{zeros, bytesOf, numberOf, numberAt}
 use Rattle.byte_records.proofs.Number.{length-bytesOf, numberOf-bytesOf}
 use Rattle.byte_records.specs.Inside.Numbers.{numbersOf}
+
+pub getD-zeros : (n i : ℕ) → getD (zeros n) i 0 ≡ 0
+getD-zeros zero i = refl
+getD-zeros (suc n) zero = refl
+getD-zeros (suc n) (suc i) = getD-zeros n i
 
 module _ (width : ℕ) where
   next-at : (i : ℕ) → width * suc i ≡ width + width * i

@@ -6,14 +6,14 @@ use Prim.Native.Nat.{ℕ, suc, _≤_, _<_}
 use native.Mathlib.Omega.{arith}
 use lib.Dec.{eqb, leb}
 use borrow.Author.Tests.{leb-true, leb-false, lt-leb, eqb-true, eqb-false, ne-eqb}
-use Rattle.value_table.specs.Value.{Head, Values, none, value, size, keys, member, Distinct, ValidAt, maxDepth, lastScalar}
+use Rattle.value_table.specs.Value.{Head, Values, none, value, size, count, keys, member, Distinct, ValidAt, maxDepth, maxFields, lastScalar}
 use Rattle.json_theory.specs.Grammar.{quote, isSpace, Container, array, object, headOf, kindOf, closer}
 use Rattle.json_theory.specs.Parts.{Turn, go as goOn, ended, stuck, StringPart, plain, nextInString, NumberPart, nextInNumber, mayEnd, Start, letters, number, string, open′, nothing, start}
 use Rattle.json_theory.specs.Steps.{Stack, base, level, add, State, gap, after, need, first, nextKey, inKey, colon, inString, inNumber, inLiteral, wrong, begin, item, behindComma, shut, stepAfter, stepLiteral, keyTurn, stringTurn, numberTurn, step}
-use Rattle.json_theory.specs.Reader.{depth, written, keysIn, valueFault, keyFault, keyEnds, limitFault, isWrong}
+use Rattle.json_theory.specs.Reader.{depth, written, itemsIn, keysIn, valueFault, listedFault, keyFault, keyEnds, limitFault, isWrong}
 use Rattle.json_theory.proofs.Rx.{false-true}
 use Rattle.json_theory.proofs.Begin.{ScalarKind, scalar-kind}
-use Rattle.json_theory.proofs.Sound.{KeyOk, DistinctIn, Sound, sound-add, sound-drop, written-add, scalar-own, sound-shut, shut-sound}
+use Rattle.json_theory.proofs.Sound.{KeyOk, FieldsIn, Sound, sound-add, sound-drop, written-add, scalar-own, sound-shut, shut-sound}
 
 abbrev pub InObject : Stack → Type 0
 InObject (base ms) = ⊥
@@ -36,14 +36,16 @@ Shaped wrong = Unit {0}
 
 -- what the number of a fault says
 pub key-says : {A : Type 0} (key : ℕ) (around : Stack) (f : ℕ) → keyFault key around ≡ f → (f ≡ 13 → key ≡ 0 → A) →
-    (f ≡ 6 → 1 ≤ key → member key (keysIn around) ≡ true → A) → (f ≡ 0 → 1 ≤ key → member key (keysIn around) ≡ false → A) → A
-unfolding keyFault
-key-says {A} key around f e x y z = go (eqb key 0) (member key (keysIn around)) refl refl (sym e)
+    (f ≡ 6 → 1 ≤ key → member key (keysIn around) ≡ true → A) → (f ≡ 15 → 1 ≤ key → member key (keysIn around) ≡ false → maxFields ≤ itemsIn around → A) →
+    (f ≡ 0 → 1 ≤ key → member key (keysIn around) ≡ false → itemsIn around < maxFields → A) → A
+unfolding keyFault listedFault
+key-says {A} key around f e x y z w = go (eqb key 0) (member key (keysIn around)) (leb maxFields (itemsIn around)) refl refl refl (sym e)
   where
-    go : (a b : Bool) → eqb key 0 ≡ a → member key (keysIn around) ≡ b → f ≡ cond a 13 (cond b 6 0) → A
-    go true b p q e = x e (eqb-true key 0 p)
-    go false true p q e = y e (omega (arith, eqb-false key 0 p)) q
-    go false false p q e = z e (omega (arith, eqb-false key 0 p)) q
+    go : (a b c : Bool) → eqb key 0 ≡ a → member key (keysIn around) ≡ b → leb maxFields (itemsIn around) ≡ c → f ≡ cond a 13 (cond b 6 (cond c 15 0)) → A
+    go true b c p q r e = x e (eqb-true key 0 p)
+    go false true c p q r e = y e (omega (arith, eqb-false key 0 p)) q
+    go false false true p q r e = z e (omega (arith, eqb-false key 0 p)) q (leb-true maxFields (itemsIn around) r)
+    go false false false p q r e = w e (omega (arith, eqb-false key 0 p)) q (leb-false maxFields (itemsIn around) r)
 
 module _ (room : ℕ) where
   abbrev pub Full : Stack → Type 0
@@ -98,17 +100,17 @@ module _ (room : ℕ) where
       let w = written-add (value head key none none) around in
       ((r .0, omega arith), r .1, room-value around (r .2 .0 .shallow) (omega arith))
 
-  distinct-none : (o : Container) → DistinctIn o none
-  unfolding keys Distinct
-  distinct-none array = tt
-  distinct-none object = tt
+  no-fields : (o : Container) → FieldsIn o none
+  unfolding count keys Distinct
+  no-fields array = tt
+  no-fields object = (tt, omega arith)
 
   begin-in : (st : Start) (key : ℕ) (around : Stack) → ScalarKind st → Full around → KeyOk key around → valueFault room around ≡ 0 → Good (begin st key around)
   unfolding begin size written ValidAt
   begin-in (letters kind l ls) key around s h k e = scalar-in (headOf kind) key around (s .0) (s .1) h k e
   begin-in (number part) key around s h k e = scalar-in (headOf 3) key around (omega arith) (omega arith) h k e
   begin-in string key around s h k e = scalar-in (headOf 4) key around (omega arith) (omega arith) h k e
-  begin-in (open′ o) key around s h k e = let v = value-room around e in ((v .0, k, tt, distinct-none o, h .0), omega (arith, v .1))
+  begin-in (open′ o) key around s h k e = let v = value-room around e in ((v .0, k, tt, no-fields o, h .0), omega (arith, v .1))
   begin-in nothing key around s h k e = tt
 
   begin-out : (st : Start) (key : ℕ) (around : Stack) → isWrong (begin st key around) ≡ false → Good (begin st key around) →
@@ -182,12 +184,12 @@ module _ (room : ℕ) where
 
   -- a key that ends
   key-ends : (key : ℕ) (around : Stack) → InObject around → key < 65536 → (KeyOk key around → keyFault key around ≡ 0) × (keyFault key around ≡ 0 → KeyOk key around)
-  unfolding keyFault
+  unfolding keyFault listedFault
   key-ends key (base ms) i l = absurd i
   key-ends key (level array k done outer) i l = absurd i
   key-ends key (level object k done outer) i l = (
-    λ h. rw (ne-eqb key 0 (λ e. omega (arith, h .0)), h .2) refl,
-    λ e. key-says key (level object k done outer) 0 e (λ x y. absurd (omega arith)) (λ x y m. absurd (omega arith)) (λ x y m. (y, l, m)),
+    λ h. rw (ne-eqb key 0 (λ e. omega (arith, h .0)), h .2, lt-leb maxFields (count done) (h .3)) refl,
+    λ e. key-says key (level object k done outer) 0 e (λ x y. absurd (omega arith)) (λ x y m. absurd (omega arith)) (λ x y m n. absurd (omega arith)) (λ x y m n. (y, l, m, n)),
   )
 
   module _ (name : List ℕ → ℕ) (small : (w : List ℕ) → name w < 65536) where

@@ -1,4 +1,4 @@
--- The places of 6, 7, 11 and 13 mean what is said of them.
+-- The places of 6, 7, 11, 13 and 15 mean what is said of them.
 use mathlib.Core.Path.{_≡_, refl, sym, subst}
 use mathlib.Core.Bool.{Bool, true, false, cond}
 use mathlib.Core.Logic.{_⊎_, inl, inr}
@@ -8,21 +8,21 @@ use native.Mathlib.Omega.{arith}
 use lib.Dec.{eqb}
 use lib.ListN.{length}
 use Rattle.byte_records.specs.Number.{Bytes}
-use Rattle.value_table.specs.Value.{Values, none, value, joinValues, Valid, ValidAt, size, maxDepth, recordSize}
+use Rattle.value_table.specs.Value.{Values, none, value, joinValues, Valid, ValidAt, size, maxDepth, maxFields, recordSize}
 use Rattle.json_theory.specs.Grammar.{isSpace, tight, array, object, headOf, kindOf, closer}
 use Rattle.json_theory.specs.Parts.{Turn, go as goOn, ended, stuck, StringPart, nextInString, start}
 use Rattle.json_theory.specs.Steps.{Stack, base, level, add, State, gap, after, need, first, nextKey, inKey, colon, inString, inNumber, inLiteral, wrong, begin, item, shut, step}
 use Rattle.json_theory.specs.Inside.Run.{run}
 use Rattle.json_theory.specs.Book.{keyNumber}
-use Rattle.json_theory.specs.Reader.{depth, written, valueFault, keyFault, keyEnds, limitFault, isWrong, read}
-use Rattle.json_theory.specs.Places.{firstMessage, firstItem, ValueAt, asMessage, asElement, Keyed, endedWith, soFar, InOrder, ValueRefused, KeyRefused, SevenMeans, ElevenMeans, ThirteenMeans, SixMeans}
+use Rattle.json_theory.specs.Reader.{depth, written, itemsIn, valueFault, keyFault, keyEnds, limitFault, isWrong, read}
+use Rattle.json_theory.specs.Places.{firstMessage, firstItem, ValueAt, asMessage, asElement, Keyed, endedWith, soFar, InOrder, ValueRefused, KeyRefused, SevenMeans, ElevenMeans, ThirteenMeans, SixMeans, FifteenMeans}
 use Rattle.json_theory.proofs.ToCome.{join-none}
 use Rattle.json_theory.proofs.Turn.{begin-up}
 use Rattle.json_theory.proofs.Viable.{viable}
 use Rattle.json_theory.proofs.Parts.{StringBack, string-up}
 use Rattle.json_theory.proofs.Whole.{AllBytes}
 use Rattle.json_theory.proofs.Sound.{KeyOk, Sound, sound-shut, size-join}
-use Rattle.json_theory.proofs.Limits.{Shaped, Full, Good, value-says, key-says, fits}
+use Rattle.json_theory.proofs.Limits.{InObject, Shaped, Full, Good, value-says, key-says, fits}
 use Rattle.json_theory.proofs.Readings.{not-twelve}
 use Rattle.json_theory.proofs.Refusals.{FaultOf, FaultFree, refused-at}
 use Rattle.json_theory.proofs.Book.{number-small}
@@ -62,7 +62,7 @@ sound-depth (level o key done outer) h = h .0
 keyed : (key : ℕ) (around : Stack) → KeyOk key around → Keyed key around
 keyed key (base ms) h = h
 keyed key (level array k done outer) h = h
-keyed key (level object k done outer) h = (h .0, h .2)
+keyed key (level object k done outer) h = (h .0, h .2, h .3)
 
 -- where the reader stands behind bytes with no fault
 abbrev Standing : (List ℕ → ℕ) → ℕ → List ℕ → State → List ℕ → Type 0
@@ -84,7 +84,7 @@ past false σ τ g f a e l = (a, e)
 
 module _ (text book : List ℕ) (n f : ℕ) (P : Stack → Type 0) (Q : List ℕ → Stack → Type 0)
     (value-wrong : (around : Stack) → Full (n / recordSize) around → valueFault (n / recordSize) around ≡ f → P around)
-    (key-wrong : (w : List ℕ) (around : Stack) → keyFault (keyNumber book w) around ≡ f → Q w around) where
+    (key-wrong : (w : List ℕ) (around : Stack) → InObject around → Sound around → keyFault (keyNumber book w) around ≡ f → Q w around) where
   abbrev Refused : ℕ → Type 0
   Refused q = ValueRefused text book n q P ⊎ KeyRefused text book n q Q
 
@@ -137,7 +137,7 @@ module _ (text book : List ℕ) (n f : ℕ) (P : Stack → Type 0) (Q : List ℕ
               place = refl;
               stands = key-ends (keyNumber book) text c s small around spelled sh (rw (x .0) at (h .0)) (rw append-nil at (h .1 [] (x .1)));
               in-order = full-order n around g;
-              wrong = key-wrong spelled around e;
+              wrong = key-wrong spelled around sh (g .0) e;
             })
         look stuck x e = absurd (omega arith)
     byte-refused (colon key around) sh g h a e = absurd (omega arith)
@@ -178,7 +178,7 @@ seven-means text book n b h =
     left-only (λ r. r .wrong) (refused-means text book n 7 _ (λ w around. ⊥)
     (λ around g e. value-says (n / recordSize) around 7 e (λ x d. omega (arith, sound-depth around (g .0)))
     (λ x d w. absurd (omega arith)) (λ x d w. absurd (omega arith)))
-    (λ w around e. key-says (keyNumber book w) around 7 e (λ x k. omega arith) (λ x k m. omega arith) (λ x k m. omega arith))
+    (λ w around i g e. key-says (keyNumber book w) around 7 e (λ x k. omega arith) (λ x k m. omega arith) (λ x k m l. omega arith) (λ x k m l. omega arith))
     (omega arith, (λ e. omega arith), λ e. omega arith) b h)
 
 pub eleven-means : ElevenMeans
@@ -186,19 +186,33 @@ eleven-means text book n b h =
     left-only (λ r. r .wrong) (refused-means text book n 11 _ (λ w around. ⊥)
     (λ around g e. value-says (n / recordSize) around 11 e (λ x d. absurd (omega arith))
     (λ x d w. (d, omega (arith, g .1, so-far-size around))) (λ x d w. absurd (omega arith)))
-    (λ w around e. key-says (keyNumber book w) around 11 e (λ x k. omega arith) (λ x k m. omega arith) (λ x k m. omega arith))
+    (λ w around i g e. key-says (keyNumber book w) around 11 e (λ x k. omega arith) (λ x k m. omega arith) (λ x k m l. omega arith) (λ x k m l. omega arith))
     (omega arith, (λ e. omega arith), λ e. omega arith) b h)
 
 pub thirteen-means : ThirteenMeans
 thirteen-means text book n b h =
     right-only (λ r. r .wrong) (refused-means text book n 13 (λ around. ⊥) _
     (λ around g e. value-says (n / recordSize) around 13 e (λ x d. omega arith) (λ x d w. omega arith) (λ x d w. omega arith))
-    (λ w around e. key-says (keyNumber book w) around 13 e (λ x k. k) (λ x k m. absurd (omega arith)) (λ x k m. absurd (omega arith)))
+    (λ w around i g e. key-says (keyNumber book w) around 13 e (λ x k. k) (λ x k m. absurd (omega arith)) (λ x k m l. absurd (omega arith)) (λ x k m l. absurd (omega arith)))
     (omega arith, (λ e. omega arith), λ e. omega arith) b h)
 
 pub six-means : SixMeans
 six-means text book n b h =
     right-only (λ r. r .wrong) (refused-means text book n 6 (λ around. ⊥) _
     (λ around g e. value-says (n / recordSize) around 6 e (λ x d. omega arith) (λ x d w. omega arith) (λ x d w. omega arith))
-    (λ w around e. key-says (keyNumber book w) around 6 e (λ x k. absurd (omega arith)) (λ x k m. (k, m)) (λ x k m. absurd (omega arith)))
+    (λ w around i g e. key-says (keyNumber book w) around 6 e (λ x k. absurd (omega arith)) (λ x k m. (k, m)) (λ x k m l. absurd (omega arith)) (λ x k m l. absurd (omega arith)))
+    (omega arith, (λ e. omega arith), λ e. omega arith) b h)
+
+-- an object that is sound has at most 256 members
+full-object : (around : Stack) → InObject around → Sound around → maxFields ≤ itemsIn around → itemsIn around ≡ maxFields
+full-object (base ms) i h l = absurd i
+full-object (level array key done outer) i h l = absurd i
+full-object (level object key done outer) i h l = omega (arith, h .3 .1)
+
+pub fifteen-means : FifteenMeans
+fifteen-means text book n b h =
+    right-only (λ r. r .wrong) (refused-means text book n 15 (λ around. ⊥) _
+    (λ around g e. value-says (n / recordSize) around 15 e (λ x d. omega arith) (λ x d w. omega arith) (λ x d w. omega arith))
+    (λ w around i g e. key-says (keyNumber book w) around 15 e (λ x k. absurd (omega arith)) (λ x k m. absurd (omega arith))
+    (λ x k m l. (k, m, full-object around i g l)) (λ x k m l. absurd (omega arith)))
     (omega arith, (λ e. omega arith), λ e. omega arith) b h)

@@ -113,7 +113,7 @@ module _ (name : List ℕ → ℕ) (room : ℕ) where
   value-not around h = value-says room around 12 h (λ x d. omega arith) (λ x d w. omega arith) (λ x d w. omega arith)
 
   key-not : (key : ℕ) (around : Stack) → keyFault key around ≡ 12 → ⊥
-  key-not key around h = key-says key around 12 h (λ x k. omega arith) (λ x k m. omega arith) (λ x k m. omega arith)
+  key-not key around h = key-says key around 12 h (λ x k. omega arith) (λ x k m. omega arith) (λ x k m n. omega arith) (λ x k m n. omega arith)
 
   either-not : (b : Bool) (f g : ℕ) → (f ≡ 12 → ⊥) → (g ≡ 12 → ⊥) → cond b f g ≡ 12 → ⊥
   either-not true f g x y h = x h

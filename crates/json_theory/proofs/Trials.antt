@@ -11,9 +11,9 @@ use Rattle.json_theory.specs.Reader as reader
 use Rattle.json_theory.specs.Trials.{trials, TrialsHold}
 
 pub trials-hold : TrialsHold
-unfolding trials map sameBytes badLength table.size table.keys table.member table.joinValues
+unfolding trials map sameBytes badLength table.size table.count table.keys table.member table.joinValues
     books.keyOf books.allZero books.padded books.before books.keysFrom books.goodFrom books.ascending books.badBookLength books.badBook books.placeOf books.keyNumber
     parts.nextInString parts.nextInNumber parts.mayEnd parts.start
     steps.begin steps.item steps.behindComma steps.shut steps.stepAfter steps.stepLiteral steps.keyTurn steps.stringTurn steps.numberTurn steps.step
-    reader.depth reader.written reader.valueFault reader.keyFault reader.keyEnds reader.limitFault reader.readFrom reader.read
+    reader.depth reader.written reader.valueFault reader.listedFault reader.keyFault reader.keyEnds reader.limitFault reader.readFrom reader.read
 trials-hold = refl

@@ -1,4 +1,4 @@
--- Where a text is refused with 6, 7, 11 and 13, in the grammar's terms: which value begins at that byte, or which key ends there, and
+-- Where a text is refused with 6, 7, 11, 13 and 15, in the grammar's terms: which value begins at that byte, or which key ends there, and
 -- what is wrong with it.
 use mathlib.Core.Path.{_≡_}
 use mathlib.Core.Bool.{true, false}
@@ -6,12 +6,12 @@ use mathlib.Core.List.{List, _∷_, _++_}
 use Prim.Native.Nat.{ℕ, _*_, _/_, _≤_, _<_}
 use lib.ListN.{length}
 use Rattle.byte_records.specs.Number.{Bytes}
-use Rattle.value_table.specs.Value.{Head, Values, none, value, joinValues, Valid, size, keys, member, maxDepth, recordSize}
+use Rattle.value_table.specs.Value.{Head, Values, none, value, joinValues, Valid, size, count, keys, member, maxDepth, maxFields, recordSize}
 use Rattle.json_theory.specs.Rx.{Word}
 use Rattle.json_theory.specs.Grammar.{chars, quote, isSpace, Ws, Container, array, object, headOf, kindOf, opener, Value, Item}
 use Rattle.json_theory.specs.Steps.{Stack, base, level, add}
 use Rattle.json_theory.specs.Book.{keyNumber}
-use Rattle.json_theory.specs.Reader.{depth, keysIn, read}
+use Rattle.json_theory.specs.Reader.{depth, itemsIn, keysIn, read}
 
 -- A place in a text is given by the text from there on, with the open arrays and objects around it and the values before it in each.
 module _ (name : List ℕ → ℕ) (text : List ℕ) where
@@ -43,11 +43,11 @@ module _ (name : List ℕ → ℕ) (text : List ℕ) where
 abbrev pub Begins : (List ℕ → ℕ) → ℕ → Type 0
 Begins name c = (s : List ℕ) × (head : Head) × (content : Values) × (m : List ℕ) × Value name (c ∷ s) head content m
 
--- the key that a value may have: 0, or in an object one that is listed and that no member before has
+-- the key that a value may have: 0, or in an object that is not full one that is listed and that no member before has
 abbrev pub Keyed : ℕ → Stack → Type 0
 Keyed key (base ms) = key ≡ 0
 Keyed key (level array k done outer) = key ≡ 0
-Keyed key (level object k done outer) = (1 ≤ key) × (member key (keys done) ≡ false)
+Keyed key (level object k done outer) = (1 ≤ key) × (member key (keys done) ≡ false) × (count done < maxFields)
 
 -- the messages, if the open arrays and objects ended here, with v behind the values of the innermost
 unfoldable pub endedWith : Values → Stack → Values
@@ -108,3 +108,8 @@ ThirteenMeans = Means 13 (λ text book n q. KeyRefused text book n q (λ w aroun
 -- 6: it is listed, and a member before it in its object has it
 abbrev pub SixMeans : Type 0
 SixMeans = Means 6 (λ text book n q. KeyRefused text book n q (λ w around. (1 ≤ keyNumber book w) × (member (keyNumber book w) (keysIn around) ≡ true)))
+
+-- 15: it is listed, no member before it has it, and its object has as many members as it may
+abbrev pub FifteenMeans : Type 0
+FifteenMeans = Means 15 (λ text book n q. KeyRefused text book n q (λ w around.
+    (1 ≤ keyNumber book w) × (member (keyNumber book w) (keysIn around) ≡ false) × (itemsIn around ≡ maxFields)))

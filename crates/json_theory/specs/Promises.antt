@@ -15,7 +15,7 @@ use Rattle.json_theory.specs.Book.{badBook, bookRecords, bookKeys, keyNu
 use Rattle.json_theory.specs.Reader.{fine, read, readOf, badLengths}
 
 -- The text is in the grammar with these messages. They are valid, so that all keys are listed (their numbers are not 0) and differ
--- within a record, and the depth is at most 32. They fit into a table of n bytes.
+-- within a record, which has at most 256, and the depth is at most 32. They fit into a table of n bytes.
 pub record HoldsText (text book : List ℕ) (n : ℕ) (ms : Values) : Type 0 where
   pub lengths : badLengths text book n ≡ false
   pub book-good : badBook book ≡ false

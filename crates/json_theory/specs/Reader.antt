@@ -5,7 +5,7 @@ use Prim.Native.Nat.{ℕ, zero, suc, _+_, _*_, _/_, _-_}
 use lib.Dec.{eqb, leb, ltb}
 use lib.ListN.{length}
 use Rattle.byte_records.specs.Number.{zeros}
-use Rattle.value_table.specs.Value.{Values, none, size, keys, member, encode, maxDepth, maxLength, recordSize}
+use Rattle.value_table.specs.Value.{Values, none, size, count, keys, member, encode, maxDepth, maxFields, maxLength, recordSize}
 use Rattle.value_table.specs.Outcome.{Outcome, accepted, refused}
 use Rattle.value_table.specs.Judged.{badLength}
 use Rattle.json_theory.specs.Grammar.{isSpace, closer, array, object}
@@ -22,7 +22,11 @@ unfoldable pub written : Stack → ℕ
 written (base ms) = size ms
 written (level o key done outer) = written outer + 1 + size done
 
--- the keys so far of the innermost level
+-- the values so far of the innermost level: how many, and their keys
+abbrev pub itemsIn : Stack → ℕ
+itemsIn (base ms) = count ms
+itemsIn (level o key done outer) = count done
+
 abbrev pub keysIn : Stack → List ℕ
 keysIn (base ms) = []
 keysIn (level o key done outer) = keys done
@@ -31,9 +35,13 @@ keysIn (level o key done outer) = keys done
 unfoldable pub valueFault : ℕ → Stack → ℕ
 valueFault room around = cond (leb maxDepth (depth around)) 7 (cond (leb room (written around)) 11 0)
 
--- a key that ends here: 13 when unlisted, 6 when repeated
+-- a listed key that ends here: 6 when repeated, 15 as the 257th of its object
+unfoldable pub listedFault : ℕ → Stack → ℕ
+listedFault key around = cond (member key (keysIn around)) 6 (cond (leb maxFields (itemsIn around)) 15 0)
+
+-- a key that ends here: 13 when unlisted
 unfoldable pub keyFault : ℕ → Stack → ℕ
-keyFault key around = cond (eqb key 0) 13 (cond (member key (keysIn around)) 6 0)
+keyFault key around = cond (eqb key 0) 13 (listedFault key around)
 
 module _ (name : List ℕ → ℕ) (room : ℕ) where
   unfoldable pub keyEnds : Turn StringPart → List ℕ → Stack → ℕ

@@ -1,52 +1,67 @@
 -- A key of a field: repeated or new, by its mark.
-use mathlib.Core.Path.{_≡_, refl, sym, _∙_}
+use mathlib.Core.Path.{_≡_, refl, sym, ap, _∙_}
 use mathlib.Core.Bool.{Bool, true, false}
 use mathlib.Core.List.{List, []}
-use Prim.Native.Nat.{ℕ, _+_, _≤_}
+use Prim.Native.Nat.{ℕ, _+_, _-_, _≤_, _<_}
 use native.Mathlib.Omega.{arith}
 use lib.Dec.{eqb}
 use lib.ListN.{length, getD, set}
-use Rattle.value_table.specs.Value.{Values, none, keys, member}
+use Rattle.value_table.specs.Value.{maxFields, Values, none, count, keys, member}
 use Rattle.json_theory.specs.Grammar.{object, isSpace}
 use Rattle.json_theory.specs.Parts.{plain}
 use Rattle.json_theory.specs.Steps.{Stack, base, level, State, first, nextKey, inKey, colon, item, step}
 use Rattle.json_theory.specs.Book.{bookRecords, keyNumber}
-use Rattle.json_theory.specs.Reader.{depth, written, faultAt, limitFault}
+use Rattle.json_theory.specs.Reader.{depth, written, listedFault, faultAt, limitFault}
 use Rattle.json_items.specs.Inside.Items.{KeyTo}
 use Rattle.text_reader.specs.Inside.Marks.{marksOf, slotOf, Slot, MarksHold}
 use Rattle.text_reader.specs.Inside.Progress.{readsFrom, AwaitsItem, firstItem, field, Ready}
-use Rattle.text_reader.specs.Inside.Items.{KeyRead, MarksRow, BehindColon, FieldKeyIs, KeyPlace}
+use Rattle.text_reader.specs.Inside.Items.{KeyRead, LevelIs, LevelFits, BehindColon, FieldKeyIs, KeyPlace}
+use Rattle.text_reader.specs.declared.Level.{Level}
 use Rattle.text_reader.specs.declared.field.Key.{Key}
 use Rattle.text_reader.specs.declared.field.Key.the-variants.{Found, Wrong}
 use Rattle.json_theory.specs.Inside.Scanning.{byteAt}
 use Rattle.json_theory.proofs.Scanning.{byte-inside}
 use Rattle.json_items.proofs.Leads.{reads-on, reads-fault, reads-end, either-way}
-use borrow.Author.Tests.{ne-eqb}
+use borrow.Author.Tests.{ne-eqb, le-leb, lt-leb}
 use Rattle.text_reader.proofs.MarksHold.{marks-member, marks-key}
 
 module _ {text book : List ℕ} {p k q : ℕ} (t : KeyTo text book p k q) where
-  pub key-slot : {d : ℕ} {seen : List ℕ} → MarksRow (bookRecords book) seen d → Slot (bookRecords book) seen d k
-  key-slot r = record { room = r .room; small = r .small; level-low = r .level-low; some = t .some; listed-key = t .listed }
+  module _ {seen : List ℕ} {lv : Level} (fits : LevelFits (bookRecords book) seen lv) (isObj : lv .object ≡ true) where
+    pub key-slot : Slot (bookRecords book) seen (lv .depth - 1) k
+    key-slot = record { room = fits .room; small = fits .small; level-low = omega (arith, fits .shallow, fits .deep isObj); some = t .some; listed-key = t .listed }
 
-  module _ {seen : List ℕ} {key mark : ℕ} {done : Values} {outer : Stack} (own : written outer + 1 ≡ mark)
-      (m : MarksHold (bookRecords book) seen (level object key done outer) []) (room : ℕ) where
-    -- the mark tells whether the object has the key
-    has : (b : Bool) → b ≡ eqb (getD (marksOf (bookRecords book) seen) (slotOf (bookRecords book) (depth outer) k) 0) mark → member k (keys done) ≡ b
-    has b e = sym (marks-member k m (t .some) (t .listed)) ∙ rw own (sym e)
+    module _ {key : ℕ} {done : Values} {outer : Stack} (l : LevelIs (level object key done outer) lv)
+        (m : MarksHold (bookRecords book) seen (level object key done outer) []) (room : ℕ) where
+      row : lv .depth - 1 ≡ depth outer
+      unfolding depth
+      row = omega (arith, l .depth-is)
 
-    pub key-repeated : true ≡ eqb (getD (marksOf (bookRecords book) seen) (slotOf (bookRecords book) (depth outer) k) 0) mark →
-        readsFrom text book room (inKey plain [] (level object key done outer)) p ≡ faultAt 6 q
-    key-repeated e = t .reads room (level object key done outer) ∙ rw (has true e) refl
+      own : lv .record + 1 ≡ written outer + 1
+      own = ap (λ n. n + 1) (sym (l .record-is))
 
-    pub key-new : {seen′ : List ℕ} → false ≡ eqb (getD (marksOf (bookRecords book) seen) (slotOf (bookRecords book) (depth outer) k) 0) mark →
-        MarksRow (bookRecords book) seen (depth outer) → length seen′ ≡ length seen →
-        marksOf (bookRecords book) seen′ ≡ set (marksOf (bookRecords book) seen) (slotOf (bookRecords book) (depth outer) k) mark →
-        KeyRead text book seen′ room (inKey plain [] (level object key done outer)) p (level object key done outer) k (colon k (level object key done outer)) (q + 1)
-    key-new e r same stored =
-        record {
-          reads = t .reads room (level object key done outer) ∙ rw (has false e) refl;
-          marks = marks-key k m (key-slot r) same (stored ∙ rw (sym own) refl);
-        }
+      -- the mark tells whether the object has the key
+      has : (b : Bool) → b ≡ eqb (getD (marksOf (bookRecords book) seen) (slotOf (bookRecords book) (lv .depth - 1) k) 0) (lv .record + 1) → member k (keys done) ≡ b
+      has b e = sym (marks-member k m (t .some) (t .listed)) ∙ sym (rw (row, own) at e)
+
+      pub key-repeated : true ≡ eqb (getD (marksOf (bookRecords book) seen) (slotOf (bookRecords book) (lv .depth - 1) k) 0) (lv .record + 1) →
+          readsFrom text book room (inKey plain [] (level object key done outer)) p ≡ faultAt 6 q
+      unfolding listedFault
+      key-repeated e = t .reads room (level object key done outer) ∙ rw (has true e) refl
+
+      module _ (new : false ≡ eqb (getD (marksOf (bookRecords book) seen) (slotOf (bookRecords book) (lv .depth - 1) k) 0) (lv .record + 1)) where
+        pub key-many : maxFields ≤ lv .items → readsFrom text book room (inKey plain [] (level object key done outer)) p ≡ faultAt 15 q
+        unfolding listedFault
+        key-many h = t .reads room (level object key done outer) ∙ rw (has false new, le-leb maxFields (count done) (omega (arith, l .items-are))) refl
+
+        pub key-new : {seen′ : List ℕ} → lv .items < maxFields → length seen′ ≡ length seen →
+            marksOf (bookRecords book) seen′ ≡ set (marksOf (bookRecords book) seen) (slotOf (bookRecords book) (lv .depth - 1) k) (lv .record + 1) →
+            KeyRead text book seen′ room (inKey plain [] (level object key done outer)) p (level object key done outer) k (colon k (level object key done outer)) (q + 1)
+        unfolding listedFault
+        key-new h same stored =
+            record {
+              reads = t .reads room (level object key done outer) ∙ rw (has false new, lt-leb maxFields (count done) (omega (arith, l .items-are))) refl;
+              marks = marks-key k m (rw row at key-slot) same (rw (row, own) at stored);
+            }
 
 -- the first byte of a field: its opening quote, or a fault
 module _ (text book : List ℕ) (room p : ℕ) where

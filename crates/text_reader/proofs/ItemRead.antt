@@ -2,13 +2,12 @@
 use mathlib.Core.Path.{_≡_, refl, sym, _∙_}
 use mathlib.Core.Bool.{true, false, true≢false}
 use mathlib.Core.List.{List, []}
-use Prim.Native.Nat.{ℕ, _-_, _≤_}
+use Prim.Native.Nat.{ℕ, _≤_}
 use native.Mathlib.Omega.{arith}
 use Rattle.value_table.specs.Value.{Values, none}
 use Rattle.json_theory.specs.Grammar.{array, object, isSpace}
 use Rattle.json_theory.specs.Steps.{Stack, base, level, State, need}
 use Rattle.json_theory.specs.Book.{bookRecords}
-use Rattle.json_theory.specs.Reader.{depth}
 use Rattle.json_theory.specs.Inside.Scanning.{byteAt}
 use Rattle.text_reader.specs.Inside.Marks.{MarksHold}
 use Rattle.text_reader.specs.Inside.Progress.{AwaitsItem, message, firstItem, element, field, AwaitsValue, messageValue, firstElement, needed, Ready, inObject}
@@ -38,10 +37,6 @@ pub in-object : (around : Stack) → inObject around ≡ true → Object around
 in-object (base ms) e = absurd (true≢false (sym e))
 in-object (level array key done outer) e = absurd (true≢false (sym e))
 in-object (level object key done outer) e = record { key = key; done = done; outer = outer; is = refl }
-
-pub outer-depth : {around : Stack} (b : Object around) {d : ℕ} → depth around ≡ d → depth (b .outer) ≡ d - 1
-unfolding depth
-outer-depth b e = let z = rw (b .is) at e in omega (arith, z)
 
 module _ (text book seen : List ℕ) (room : ℕ) (σ : State) (p : ℕ) (around : Stack) where
   -- an item with no key

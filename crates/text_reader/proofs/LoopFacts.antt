@@ -9,10 +9,10 @@ use lib.ListN.{length, getD, length-append}
 use borrow.Author.Tests.{eqb-true, eq-eqb, ne-eqb}
 use Rattle.json_theory.specs.Inside.Scanning.{byteAt}
 use Rattle.json_theory.proofs.Scanning.{byte-inside}
-use Rattle.value_table.specs.Value.{recordSize, maxLength, maxDepth}
+use Rattle.value_table.specs.Value.{recordSize, maxLength, maxDepth, Values, none, value, size, count}
 use Rattle.json_theory.specs.Grammar.{array, object}
 use Rattle.json_theory.specs.Steps.{Stack, base, level}
-use Rattle.json_theory.specs.Reader.{depth, written}
+use Rattle.json_theory.specs.Reader.{depth, written, itemsIn}
 use Rattle.text_reader.specs.Inside.Laid.{laid, TableHolds}
 use Rattle.text_reader.specs.Inside.Progress.{LevelsHold, StaysOpen, inObject, ownRecord, shuts}
 use Rattle.text_reader.specs.Inside.Marks.{MarksHold}
@@ -20,33 +20,45 @@ use Rattle.text_reader.specs.Inside.Items.{InnermostIs, LevelIs, LevelFi
 use Rattle.text_reader.specs.declared.Level.{Level}
 use Rattle.text_reader.proofs.Laid.{laid-length}
 
-module _ (records : List ℕ) (objects : List Bool) where
-  own-is : (around : Stack) (d : ℕ) → LevelsHold records objects around → depth around ≡ d → cond (eqb d 0) 0 (getD records (d - 1) 0) ≡ ownRecord around
+module _ (records : List ℕ) (objects : List Bool) (before : List ℕ) where
+  own-is : (around : Stack) (d : ℕ) → LevelsHold records objects before around → depth around ≡ d → cond (eqb d 0) 0 (getD records (d - 1) 0) ≡ ownRecord around
   unfolding depth
   own-is (base ms) d h e = rw (eq-eqb d 0 (sym e)) refl
   own-is (level o key done outer) d h e =
       let z : d - 1 ≡ depth outer = omega arith in
       rw (ne-eqb d 0 (λ f. omega arith), z) (h .0)
 
-  object-is : (around : Stack) (d : ℕ) → LevelsHold records objects around → depth around ≡ d → cond (eqb d 0) false (getD objects (d - 1) false) ≡ inObject around
+  object-is : (around : Stack) (d : ℕ) → LevelsHold records objects before around → depth around ≡ d → cond (eqb d 0) false (getD objects (d - 1) false) ≡ inObject around
   unfolding depth
   object-is (base ms) d h e = rw (eq-eqb d 0 (sym e)) refl
   object-is (level o key done outer) d h e =
       let z : d - 1 ≡ depth outer = omega arith in
       rw (ne-eqb d 0 (λ f. omega arith), z) (h .1)
 
-  pub level-is : (around : Stack) (d : ℕ) (lv : Level) → LevelsHold records objects around → depth around ≡ d → InnermostIs records objects d lv → LevelIs around lv
-  level-is around d lv h e i =
+  pub level-is : (around : Stack) (d items : ℕ) (lv : Level) → LevelsHold records objects before around → depth around ≡ d → itemsIn around ≡ items →
+      InnermostIs records objects d items lv → LevelIs around lv
+  level-is around d items lv h e n i =
       record {
         depth-is = e ∙ sym (i .depth-is);
         record-is = sym (i .record-is ∙ own-is around d h e);
         object-is = sym (i .object-is ∙ object-is around d h e);
+        items-are = n ∙ sym (i .items-are);
       }
 
 pub own-low : (around : Stack) → ownRecord around ≤ written around
 unfolding written
 own-low (base ms) = omega arith
 own-low (level o key done outer) = omega arith
+
+count-low : (vs : Values) → count vs ≤ size vs
+unfolding count size
+count-low none = omega arith
+count-low (value head key content next) = omega (arith, count-low next)
+
+pub items-low : (around : Stack) → itemsIn around ≤ written around
+unfolding written
+items-low (base ms) = count-low ms
+items-low (level o key done outer) = omega (arith, count-low done)
 
 pub holds-room : (table : List ℕ) (around : Stack) → TableHolds table around → recordSize * written around ≤ length table
 holds-room table around h = omega (arith, laid-length around, ap length (h .bytes), length-append (laid around) (h .rest))
@@ -87,6 +99,15 @@ pub shut-deep : (around : Stack) (d c : ℕ) → depth around ≡ d → shuts d 
 unfolding depth
 shut-deep (base ms) d c e h = absurd (true≢false (sym h ∙ rw (eq-eqb d 0 (sym e)) refl))
 shut-deep (level o key done outer) d c e h = omega arith
+
+-- the items before a level that is shut are records
+pub before-low : (records : List ℕ) (objects : List Bool) (before : List ℕ) (around : Stack) (d c : ℕ) → depth around ≡ d → shuts d (inObject around) c ≡ true →
+    LevelsHold records objects before around → getD before (d - 1) 0 ≤ written around
+unfolding depth written
+before-low records objects before (base ms) d c e h l = absurd (true≢false (sym h ∙ rw (eq-eqb d 0 (sym e)) refl))
+before-low records objects before (level o key done outer) d c e h l =
+    let z : d - 1 ≡ depth outer = omega arith in
+    rw (z, l .2) (omega (arith, items-low outer))
 
 -- behind the text nothing is shut
 pub shut-inside : (text : List ℕ) (p d : ℕ) (isObj : Bool) → shuts d isObj (byteAt text p) ≡ true → p < length text

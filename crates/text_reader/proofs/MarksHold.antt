@@ -2,25 +2,20 @@
 use mathlib.Core.Path.{_≡_, refl, _∙_, ap}
 use mathlib.Core.Bool.{Bool, true, false}
 use mathlib.Core.List.{List, [], _∷_, append-nil}
-use Prim.Native.Nat.{ℕ, zero, suc, _+_, _*_, _≤_}
+use Prim.Native.Nat.{ℕ, suc, _+_, _*_, _≤_}
 use native.Mathlib.Omega.{arith}
 use lib.Dec.{eqb}
 use lib.ListN.{length, getD, set}
 use lib.Seq.{getD-set-same, getD-set-other}
 use borrow.Author.Tests.{eqb-true, eqb-false}
 use Rattle.byte_records.specs.Number.{zeros}
-use Rattle.byte_records.proofs.Numbers.{length-numbers, numbers-zero}
+use Rattle.byte_records.proofs.Numbers.{getD-zeros, length-numbers, numbers-zero}
 use Rattle.value_table.specs.Value.{maxDepth, Head, Values, none, value, size, keys, member}
 use Rattle.json_theory.specs.Grammar.{Container}
 use Rattle.json_theory.specs.Steps.{Stack, base, level, add}
 use Rattle.json_theory.specs.Reader.{depth, written}
 use Rattle.text_reader.specs.Inside.Marks.{markSize, marksOf, slotOf, Slot, MarksHold}
 use Rattle.text_reader.proofs.Marks.{slot-below, written-add, marked-add, marked-none, marked-open, outer-marked, row-with}
-
-getD-zeros : (n i : ℕ) → getD (zeros n) i 0 ≡ 0
-getD-zeros zero i = refl
-getD-zeros (suc n) zero = refl
-getD-zeros (suc n) (suc i) = getD-zeros n i
 
 pub marks-start : (listed n : ℕ) → markSize * (maxDepth * listed) ≤ n → MarksHold listed (zeros n) (base none) []
 marks-start listed n h =

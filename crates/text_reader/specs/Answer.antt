@@ -4,7 +4,7 @@ use Prim.Native.Nat.{ℕ}
 use Rattle.value_table.specs.Outcome.{Outcome, accepted, refused}
 use Rattle.json_theory.specs.Reader.{Read}
 use Rattle.text_reader.specs.declared.TextFault.{TextFault}
-use Rattle.text_reader.specs.declared.TextFault.the-variants.{Grammar, Unlisted, Repeated, Deep, Full}
+use Rattle.text_reader.specs.declared.TextFault.the-variants.{Grammar, Unlisted, Repeated, Fields, Deep, Full}
 use Rattle.text_reader.specs.declared.call.TextRefusal.{TextRefusal}
 use Rattle.text_reader.specs.declared.call.TextRefusal.the-variants.{Length, Book, Text}
 use Rattle.text_reader.specs.declared.call.TextAnswer.{TextAnswer}
@@ -15,6 +15,7 @@ abbrev pub numberOfTextFault : TextFault → ℕ
 numberOfTextFault Grammar = 12
 numberOfTextFault Unlisted = 13
 numberOfTextFault Repeated = 6
+numberOfTextFault Fields = 15
 numberOfTextFault Deep = 7
 numberOfTextFault Full = 11
 

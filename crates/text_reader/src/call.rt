@@ -121,6 +121,7 @@ fn fault_number(fault: TextFault) -> u64
         TextFault::Grammar => 12,
         TextFault::Unlisted => 13,
         TextFault::Repeated => 6,
+        TextFault::Fields => 15,
         TextFault::Deep => 7,
         TextFault::Full => 11,
     }

@@ -1,4 +1,5 @@
 // The key of a field.
+use crate::Level;
 use crate::TextFault;
 use crate::key_marks::has_mark;
 use crate::key_marks::set_mark;
@@ -9,21 +10,21 @@ use json_tokens::scan::Scan;
 use json_tokens::scan::byte_at;
 use key_book::guesses::HINTS;
 use key_book::validity;
+use value_table::record;
 ghost use mathlib.Core.Path.{_≡_};
-ghost use mathlib.Core.Bool.{false};
+ghost use mathlib.Core.Bool.{true, false};
 ghost use mathlib.Core.List.{[]};
-ghost use Prim.Native.Nat.{ℕ, _+_, _≤_, _<_};
+ghost use Prim.Native.Nat.{ℕ, _≤_};
 ghost use lib.ListN.{length};
 ghost use Rattle.value_table.specs.Value.{maxLength, Values};
 ghost use Rattle.json_theory.specs.Grammar.{object, isSpace};
 ghost use Rattle.json_theory.specs.Parts.{plain};
 ghost use Rattle.json_theory.specs.Steps.{Stack, level as inside, State, inKey};
 ghost use Rattle.json_theory.specs.Book.{badBook, bookRecords};
-ghost use Rattle.json_theory.specs.Reader.{depth as depthOf, written};
 ghost use Rattle.json_theory.specs.Inside.Scanning.{byteAt, PlaceIn};
 ghost use Rattle.text_reader.specs.Inside.Marks.{MarksHold};
 ghost use Rattle.text_reader.specs.Inside.Progress.{AwaitsItem, Ready};
-ghost use Rattle.text_reader.specs.Inside.Items.{NewKeyIs, BehindColon, FieldKeyIs, KeyPlace, MarksRow};
+ghost use Rattle.text_reader.specs.Inside.Items.{LevelIs, LevelFits, NewKeyIs, BehindColon, FieldKeyIs, KeyPlace};
 
 // A key's number and the byte from which the text goes on, or a fault and its byte.
 pub enum Key {
@@ -31,20 +32,19 @@ pub enum Key {
     Wrong(TextFault, usize),
 }
 
-// The key behind its opening quote, in the object at a level: it is marked, unless the object has it.
+// The key behind its opening quote, in the innermost open object: it is marked, unless the object has it or is full.
 fn new_key(
     text: &[u8],
     book: &[u8],
     hints: &[u16; HINTS],
     seen: &mut [u8],
     from: usize,
-    level: usize,
-    mark: usize,
+    level: Level,
 ) -> Key
     requires { ⌜ PlaceIn (now text) from × (length (now book) ≤ maxLength) × (badBook (now book) ≡ false) ⌝ }
-    requires { ⌜ MarksRow (bookRecords (now book)) (now seen) level × (mark < 65536) ⌝ }
+    requires { ⌜ LevelFits (bookRecords (now book)) (now seen) level × (level .object ≡ true) ⌝ }
     ensures { λ r. ⌜ KeyPlace (now (text .entry)) from r ⌝ }
-    ensures { λ r. ⌜ ((room key : ℕ) (done : Values) (outer : Stack) → depthOf outer ≡ level → written outer + 1 ≡ mark →
+    ensures { λ r. ⌜ ((room key : ℕ) (done : Values) (outer : Stack) → LevelIs (inside object key done outer) level →
         MarksHold (bookRecords (now (book .entry))) (now (seen .entry)) (inside object key done outer) [] →
         NewKeyIs (now (text .entry)) (now (book .entry)) (now (seen .exit)) room (inKey plain [] (inside object key done outer)) from (inside object key done outer) r) ⌝ }
 {
@@ -53,10 +53,15 @@ fn new_key(
         Named::Faulty(place) => Key::Wrong(TextFault::Grammar, place),
         Named::Unlisted(quote) => Key::Wrong(TextFault::Unlisted, quote),
         Named::Found(key, quote) => {
-            if has_mark(seen, listed, level, key, mark) {
+            let row = level.depth - 1;
+            let mark = level.record + 1;
+            if has_mark(seen, listed, row, key, mark) {
                 return Key::Wrong(TextFault::Repeated, quote);
             }
-            set_mark(seen, listed, level, key, mark);
+            if record::MAX_FIELDS <= level.items {
+                return Key::Wrong(TextFault::Fields, quote);
+            }
+            set_mark(seen, listed, row, key, mark);
             let behind = quote + 1;
             Key::Found(key, behind)
         }
@@ -74,28 +79,27 @@ fn behind_colon(text: &[u8], key: usize, from: usize) -> Key
     }
 }
 
-// The key of the field that begins at `at`, in the object at a level, up to its value.
+// The key of the field that begins at `at`, in the innermost open object, up to its value.
 pub fn field_key(
     text: &[u8],
     book: &[u8],
     hints: &[u16; HINTS],
     seen: &mut [u8],
     at: usize,
-    level: usize,
-    mark: usize,
+    level: Level,
 ) -> Key
     requires { ⌜ PlaceIn (now text) at × (length (now book) ≤ maxLength) × (badBook (now book) ≡ false) ⌝ }
-    requires { ⌜ MarksRow (bookRecords (now book)) (now seen) level × (mark < 65536) ⌝ }
+    requires { ⌜ LevelFits (bookRecords (now book)) (now seen) level × (level .object ≡ true) ⌝ }
     ensures { λ r. ⌜ KeyPlace (now (text .entry)) at r ⌝ }
     ensures { λ r. ⌜ ((room key : ℕ) (done : Values) (outer : Stack) (σ : State) → AwaitsItem σ (inside object key done outer) →
         isSpace (byteAt (now (text .entry)) at) ≡ false → Ready (now (text .entry)) σ at →
-        depthOf outer ≡ level → written outer + 1 ≡ mark → MarksHold (bookRecords (now (book .entry))) (now (seen .entry)) (inside object key done outer) [] →
+        LevelIs (inside object key done outer) level → MarksHold (bookRecords (now (book .entry))) (now (seen .entry)) (inside object key done outer) [] →
         FieldKeyIs (now (text .entry)) (now (book .entry)) (now (seen .exit)) room σ at (inside object key done outer) r) ⌝ }
 {
     if byte_at(text, at) != 0x22 {
         return Key::Wrong(TextFault::Grammar, at);
     }
-    match new_key(text, book, hints, seen, at + 1, level, mark) {
+    match new_key(text, book, hints, seen, at + 1, level) {
         Key::Wrong(why, place) => Key::Wrong(why, place),
         Key::Found(key, from) => behind_colon(text, key, from),
     }

@@ -37,15 +37,7 @@ fn item_key(
         ItemKeyIs (now (text .entry)) (now (book .entry)) (now (seen .exit)) room σ at around r) ⌝ }
 {
     if level.object {
-        field_key(
-            text,
-            book,
-            hints,
-            seen,
-            at,
-            level.depth - 1,
-            level.record + 1,
-        )
+        field_key(text, book, hints, seen, at, level)
     } else {
         Key::Found(0, at)
     }

@@ -21,10 +21,11 @@ ghost use Rattle.json_theory.specs.Book.{badBook, bookRecords};
 ghost use Rattle.text_reader.specs.Inside.Marks.{MarksHold};
 ghost use Rattle.text_reader.specs.Inside.Items.{InnermostIs, ReadIs};
 
-// The open values: the record of each, whether it is an object, and how many there are.
+// The open values: the record of each, whether it is an object, how many items stand before it, and how many there are.
 struct Open {
     records: [usize; record::MAX_DEPTH],
     objects: [bool; record::MAX_DEPTH],
+    before: [usize; record::MAX_DEPTH],
     depth: usize,
 }
 
@@ -36,35 +37,39 @@ pub enum ReadText {
 
 // No value is open.
 fn none_open() -> Open
-    ensures { λ r. ⌜ (length (r .records) ≡ maxDepth) × (length (r .objects) ≡ maxDepth) × (r .depth ≡ 0) ⌝ }
+    ensures { λ r. ⌜ (length (r .records) ≡ maxDepth) × (length (r .objects) ≡ maxDepth) × (length (r .before) ≡ maxDepth) × (r .depth ≡ 0) ⌝ }
 {
     Open {
         records: [0; record::MAX_DEPTH],
         objects: [false; record::MAX_DEPTH],
+        before: [0; record::MAX_DEPTH],
         depth: 0,
     }
 }
 
-// The innermost of `depth` open values.
+// The innermost of `depth` open values, which has had so many items.
 fn innermost<'a>(
     records: &'a [usize; record::MAX_DEPTH],
     objects: &'a [bool; record::MAX_DEPTH],
     depth: usize,
+    items: usize,
 ) -> Level
     requires { ⌜ depth ≤ maxDepth ⌝ }
-    ensures { λ r. ⌜ InnermostIs (now (records .entry)) (now (objects .entry)) depth r ⌝ }
+    ensures { λ r. ⌜ InnermostIs (now (records .entry)) (now (objects .entry)) depth items r ⌝ }
 {
     if depth == 0 {
         return Level {
             record: 0,
             object: false,
             depth: 0,
+            items: items,
         };
     }
     Level {
         record: records[depth - 1],
         object: objects[depth - 1],
         depth: depth,
+        items: items,
     }
 }
 
@@ -83,19 +88,19 @@ pub fn read_messages(
     let mut open = none_open();
     let mut count = 0;
     let mut at = 0;
-    let mut fresh = true;
+    let mut items = 0;
     loop {
         let depth = open.depth;
-        let level = innermost(&open.records, &open.objects, depth);
+        let level = innermost(&open.records, &open.objects, depth, items);
         let here = space_end(text, at);
         if closes(text, here, level) {
             store_span(table, level.record, count - level.record);
             open.depth = depth - 1;
+            items = open.before[depth - 1] + 1;
             at = here + 1;
-            fresh = false;
             continue;
         }
-        let start = match next_item(text, at, here, depth, fresh) {
+        let start = match next_item(text, at, here, depth, items == 0) {
             Next::Item(start) => start,
             Next::End => return ReadText::Accepted(count),
             Next::Bad(place) => return ReadText::Faulty(TextFault::Grammar, place),
@@ -104,18 +109,17 @@ pub fn read_messages(
             Value::Refused(why, place) => return ReadText::Faulty(why, place),
             Value::Scalar(end) => {
                 at = end;
-                fresh = false;
+                items += 1;
                 count += 1;
-                continue;
             }
             Value::Opened(end, is_object) => {
                 open.records[depth] = count;
                 open.objects[depth] = is_object;
+                open.before[depth] = items;
                 open.depth = depth + 1;
                 at = end;
-                fresh = true;
+                items = 0;
                 count += 1;
-                continue;
             }
         }
     }

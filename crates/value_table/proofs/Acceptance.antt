@@ -31,6 +31,7 @@ module _ (b : List ℕ) (ms : Values) (n : ℕ) where
         ends = omega arith;
         valid = t .valid;
         distinct = λ h. absurd (false≢true h);
+        few = λ h. absurd (false≢true h);
       }
 
   run-table : length b % recordSize ≡ 0 → length b ≤ maxLength → Run b 0 (records b) false [] 1 ms → n ≡ count ms → Table b ms n

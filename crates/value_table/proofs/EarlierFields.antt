@@ -6,8 +6,9 @@ use Prim.Native.Nat.{ℕ, _+_, _≤_, _<_}
 use native.Mathlib.Omega.{arith}
 use borrow.Author.Tests.{eq-eqb, ne-eqb, lt-ltb, le-ltb}
 use lib.Dec.{ltb}
+use lib.ListN.{length}
 use Rattle.value_table.specs.Value.{keyAt, spanAt, member}
-use Rattle.value_table.specs.Judged.{repeated}
+use Rattle.value_table.specs.Judged.{repeated, tooMany}
 use Rattle.byte_records.specs.Inside.Chain.{Chain}
 use Rattle.value_table.specs.Inside.EarlierFields.{FieldsBefore, field, other, EarlierFields}
 use Rattle.byte_records.proofs.Chain.{Sibling, chain-le, chain-sibling, chain-done}
@@ -48,6 +49,11 @@ module _ {b : List ℕ} {i first : ℕ} where
   pub first-field : {f : Bool} {ks : List ℕ} → FieldsBefore b i first f ks → ltb 0 first ≡ f
   first-field (field l h) = lt-ltb 0 first l
   first-field (other e) = le-ltb 0 first (omega arith)
+
+  pub many-same : {before : ℕ} {f : Bool} {ks : List ℕ} → FieldsBefore b i first f ks → (f ≡ true → length ks ≡ before) → tooMany (ltb 0 first) before ≡ tooMany f (length ks)
+  unfolding tooMany
+  many-same (field l h) n = rw (lt-ltb 0 first l, n refl) refl
+  many-same (other e) n = rw (le-ltb 0 first (omega arith)) refl
 
   pub unrepeated : {f : Bool} {ks : List ℕ} → first ≡ 0 → FieldsBefore b i first f ks → false ≡ repeated b i f ks
   unfolding repeated

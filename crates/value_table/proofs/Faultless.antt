@@ -1,4 +1,4 @@
--- Refusals 3 to 7 of one record: its fault is 0 exactly when it breaks no rule.
+-- Refusals 3 to 7 and 15 of one record: its fault is 0 exactly when it breaks no rule.
 use mathlib.Core.Path.{_≡_, refl}
 use mathlib.Core.Bool.{Bool, true, false, cond, not}
 use mathlib.Core.List.{List}
@@ -6,9 +6,9 @@ use Prim.Native.Nat.{ℕ, suc, _+_, _≤_, _<_}
 use native.Mathlib.Omega.{arith}
 use lib.Dec.{eqb, leb, ltb}
 use lib.ListN.{length}
-use borrow.Author.Tests.{ltb-false, leb-true, eqb-true, eqb-false, not-false, le-ltb, le-leb, eq-eqb, ne-eqb}
-use Rattle.value_table.specs.Value.{records, kindAt, zeroAt, keyAt, spanAt, member, KeyFits, lastScalar, arrayKind, maxDepth}
-use Rattle.value_table.specs.Judged.{Open, endOf, inRecord, seen, badKind, badSpan, badKey, repeated, tooDeep, fault}
+use borrow.Author.Tests.{ltb-false, leb-true, leb-false, eqb-true, eqb-false, not-false, le-ltb, le-leb, lt-leb, eq-eqb, ne-eqb}
+use Rattle.value_table.specs.Value.{records, kindAt, zeroAt, keyAt, spanAt, member, KeyFits, lastScalar, arrayKind, maxDepth, maxFields}
+use Rattle.value_table.specs.Judged.{Open, endOf, inRecord, seen, badKind, badSpan, badKey, repeated, tooMany, tooDeep, fault}
 use Rattle.value_table.specs.Inside.RecordBytes.{PlainScalar}
 use Rattle.byte_records.proofs.Tests.{or-parts, and-parts, and-false}
 
@@ -22,6 +22,7 @@ pub record Faultless (b : List ℕ) (i end : ℕ) (field : Bool) (before : List 
   pub scalar : kindAt b i ≤ lastScalar → spanAt b i ≤ 1
   pub keyed : KeyFits field (keyAt b i)
   pub fresh : field ≡ true → member (keyAt b i) before ≡ false
+  pub few : field ≡ true → length before < maxFields
   pub shallow : depth ≤ maxDepth
 
 -- the same inside the open values around record i
@@ -53,13 +54,14 @@ key-passes false key h = rw (eq-eqb key 0 h) refl
 
 module _ (b : List ℕ) (i end : ℕ) (field : Bool) (before : List ℕ) (depth : ℕ) where
   pub faultless : keyAt b i < 65536 → fault b i end field before depth ≡ 0 → Faultless b i end field before depth
-  unfolding fault badKind badSpan badKey repeated tooDeep
+  unfolding fault badKind badSpan badKey repeated tooMany tooDeep
   faultless below e =
       let kind = passed (badKind b i) 2 _ e in
       let span = passed (badSpan b i end) 3 _ (kind .1) in
       let key = passed (badKey b i field) 4 _ (span .1) in
       let again = passed (repeated b i field before) 5 _ (key .1) in
-      let deep = passed (tooDeep depth) 6 0 (again .1) in
+      let many = passed (tooMany field (length before)) 14 _ (again .1) in
+      let deep = passed (tooDeep depth) 6 0 (many .1) in
       let kinds = or-parts _ _ (kind .0) in
       let range = and-parts _ _ (not-false _ (kinds .0)) in
       let spans = or-parts _ _ (span .0) in
@@ -73,11 +75,12 @@ module _ (b : List ℕ) (i end : ℕ) (field : Bool) (before : List ℕ) (depth 
         scalar = λ h. ltb-false 1 (spanAt b i) (rw (le-leb (kindAt b i) lastScalar h) at (spans .1));
         keyed = key-fits field (keyAt b i) below (key .0);
         fresh = λ h. rw h at (again .0);
+        few = λ h. leb-false maxFields (length before) (rw h at (many .0));
         shallow = ltb-false maxDepth depth (deep .0);
       }
 
   pub faultless-zero : Faultless b i end field before depth → fault b i end field before depth ≡ 0
-  unfolding fault badKind badSpan badKey repeated tooDeep
+  unfolding fault badKind badSpan badKey repeated tooMany tooDeep
   faultless-zero f =
       rw (
         le-leb 1 (kindAt b i) (f .kind-low),
@@ -88,6 +91,7 @@ module _ (b : List ℕ) (i end : ℕ) (field : Bool) (before : List ℕ) (depth 
         and-false (leb (kindAt b i) lastScalar) (ltb 1 (spanAt b i)) (λ h. le-ltb 1 (spanAt b i) (f .scalar (leb-true (kindAt b i) lastScalar h))),
         key-passes field (keyAt b i) (f .keyed),
         and-false field (member (keyAt b i) before) (f .fresh),
+        and-false field (leb maxFields (length before)) (λ h. lt-leb maxFields (length before) (f .few h)),
         le-ltb maxDepth depth (f .shallow),
       )
       refl

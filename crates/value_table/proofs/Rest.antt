@@ -46,7 +46,7 @@ module _ (b : List ℕ) (c m : ℕ) where
   unfolding count Distinct
   rest-done around h =
       let table : (c ≡ m) ↔ Rest b (records b) [] c m = (
-        λ e. (none, run-none b (records b) (records b) _ _ _ refl (λ t. tt), omega arith),
+        λ e. (none, run-none b (records b) (records b) _ _ _ refl (λ t. (tt, omega arith)), omega arith),
         λ r. omega (arith, r .2, ap count (size-zero (r .0) (omega (arith, r .1 .ends)))),
       ) in
       Iff·trans table (rw (close-all (records b) around h) at (rest-close (records b) around h))

@@ -10,7 +10,7 @@ use lib.Seq.{drop-drop, drop-at}
 use borrow.Author.Tests.{eq-eqb, eqb-true}
 use Rattle.byte_records.specs.Number.{Bytes}
 use Rattle.byte_records.specs.Inside.Fits.{Fits}
-use Rattle.value_table.specs.Value.{recordSize, recordKind, maxLength, valueFormat, headAt, recordNumbers, kindAt, keyAt, spanAt, header, Values, none, value, size, keys, encode, Distinct, ValidAt}
+use Rattle.value_table.specs.Value.{recordSize, recordKind, maxLength, valueFormat, headAt, recordNumbers, kindAt, keyAt, spanAt, header, Values, none, value, size, count, keys, encode, Distinct, ValidAt, maxFields}
 use Rattle.value_table.proofs.Header.{header-written}
 use Rattle.value_table.specs.Inside.TableLayout.{Fields}
 use Rattle.value_table.proofs.TableLayout.{length-encode, header-read, value-fits}
@@ -23,6 +23,7 @@ pub record Run (b : List ℕ) (i end : ℕ) (field : Bool) (before : List ℕ) (
   pub ends : i + size vs ≡ end
   pub valid : ValidAt field depth vs
   pub distinct : field ≡ true → Distinct (before ++ keys vs)
+  pub few : field ≡ true → length before + count vs ≤ maxFields
 
 pub size-zero : (vs : Values) → size vs ≡ 0 → vs ≡ none
 unfolding size
@@ -30,10 +31,10 @@ size-zero none e = refl
 size-zero (value k y c s) e = absurd (omega arith)
 
 pub run-none : (b : List ℕ) (i end : ℕ) (field : Bool) (before : List ℕ) (depth : ℕ) →
-    i ≡ end → (field ≡ true → Distinct before) → Run b i end field before depth none
-unfolding encode size keys ValidAt
+    i ≡ end → (field ≡ true → Distinct before × (length before ≤ maxFields)) → Run b i end field before depth none
+unfolding encode size count keys ValidAt
 run-none b i end field before depth e d =
-    record { bytes = rw e refl; ends = omega arith; valid = tt; distinct = λ h. rw append-nil (d h) }
+    record { bytes = rw e refl; ends = omega arith; valid = tt; distinct = λ h. rw append-nil (d h .0); few = λ h. omega (arith, d h .1) }
 
 -- a run that is not empty: its first value is read at record i, and the records behind hold the content and then the other values
 pub record First (b : List ℕ) (i end : ℕ) (field : Bool) (before after : List ℕ) (depth : ℕ) (vs : Values) : Type 0 where
@@ -46,10 +47,13 @@ pub record First (b : List ℕ) (i end : ℕ) (field : Bool) (before after : Lis
 
 -- `after` is `before` with the key of record i, which matters in a record only
 module _ (b : List ℕ) (i end : ℕ) (field : Bool) (before after : List ℕ) (depth : ℕ) (grown : field ≡ true → after ≡ before ++ (keyAt b i ∷ [])) where
+  one-more : field ≡ true → length after ≡ length before + 1
+  one-more h = rw (grown h, length-append) refl
+
   pub run-value : (c s : Values) → Bytes b → recordSize * (i + 1) ≤ length b → Faultless b i end field before depth →
       Run b (i + 1) (i + spanAt b i) (eqb (kindAt b i) recordKind) [] (suc depth) c →
       Run b (i + spanAt b i) end field after depth s → Run b i end field before depth (value (headAt b i) (keyAt b i) c s)
-  unfolding encode size keys ValidAt
+  unfolding encode size count keys ValidAt
   run-value c s bytes fits f content next =
       let e : 1 + size c ≡ spanAt b i = omega (arith, content .ends) in
       record {
@@ -62,16 +66,18 @@ module _ (b : List ℕ) (i end : ℕ) (field : Bool) (before after : List ℕ) (
             scalar = λ h. size-zero c (omega (arith, content .ends, f .scalar h));
             keyed = f .keyed;
             distinct = λ h. content .distinct (eq-eqb (kindAt b i) recordKind h);
+            few = λ h. omega (arith, content .few (eq-eqb (kindAt b i) recordKind h));
             shallow = f .shallow;
           },
           content .valid,
           next .valid,
         );
         distinct = λ h. rw (grown h, append-assoc) at (next .distinct h);
+        few = λ h. omega (arith, next .few h, one-more h);
       }
 
   pub run-first : (vs : Values) → length b ≤ maxLength → i < end → Run b i end field before depth vs → First b i end field before after depth vs
-  unfolding encode size keys ValidAt
+  unfolding encode size count keys ValidAt
   run-first none short some r = absurd (omega (arith, r .ends))
   run-first (value head key c s) short some r =
       let last : List ℕ = encode s ++ drop (recordSize * end) b in
@@ -98,6 +104,7 @@ module _ (b : List ℕ) (i end : ℕ) (field : Bool) (before after : List ℕ) (
               scalar = λ h. omega (arith, f .span-is, ap size (proper .scalar h));
               keyed = proper .keyed;
               fresh = λ h. distinct-new (keyAt b i) before (keys s) (own .distinct h);
+              few = λ h. omega (arith, own .few h);
               shallow = proper .shallow;
             };
         in-content =
@@ -106,6 +113,7 @@ module _ (b : List ℕ) (i end : ℕ) (field : Bool) (before after : List ℕ) (
               ends = omega (arith, f .span-is);
               valid = own .valid .1;
               distinct = λ h. proper .distinct (eqb-true (kindAt b i) recordKind h);
+              few = λ h. omega (arith, proper .few (eqb-true (kindAt b i) recordKind h));
             };
         in-next =
             record {
@@ -113,5 +121,6 @@ module _ (b : List ℕ) (i end : ℕ) (field : Bool) (before after : List ℕ) (
               ends = omega (arith, f .span-is, r .ends);
               valid = own .valid .2;
               distinct = λ h. rw (grown h, append-assoc) (own .distinct h);
+              few = λ h. omega (arith, own .few h, one-more h);
             };
       }

@@ -1,11 +1,11 @@
--- Call 1 of document 01, with refusals 1 and 3 to 7: a table is judged from record 0 upward, the first record with a fault
--- decides, and at one record the smallest number.
+-- Call 1 of document 01, with refusals 1 and 3 to 7, and 15 of document 02: a table is judged from record 0 upward, the first
+-- record with a fault decides, and at one record the first of 3, 4, 5, 6, 15 and 7.
 use mathlib.Core.Bool.{Bool, true, false, cond, not, _&&_, _||_}
 use mathlib.Core.List.{List, [], _∷_, _++_}
 use Prim.Native.Nat.{ℕ, zero, suc, _+_, _%_}
 use lib.ListN.{length}
 use lib.Dec.{eqb, leb, ltb}
-use Rattle.value_table.specs.Value.{recordSize, maxLength, maxDepth, recordKind, arrayKind, lastScalar, records, headAt, kindAt, zeroAt, keyAt, spanAt, member, Values, none, value}
+use Rattle.value_table.specs.Value.{recordSize, maxLength, maxDepth, maxFields, recordKind, arrayKind, lastScalar, records, headAt, kindAt, zeroAt, keyAt, spanAt, member, Values, none, value}
 use Rattle.value_table.specs.Outcome.{Outcome, accepted, refused}
 
 -- A value whose content is being passed: its kind, the record after its last, and the keys of its fields or elements so far.
@@ -48,19 +48,24 @@ badKey b i field = cond field (eqb (keyAt b i) 0) (not (eqb (keyAt b i) 0))
 unfoldable pub repeated : List ℕ → ℕ → Bool → List ℕ → Bool
 repeated b i field before = field && member (keyAt b i) before
 
+-- 15: the 257th field of a record
+unfoldable pub tooMany : Bool → ℕ → Bool
+tooMany field before = field && leb maxFields before
+
 -- 7: depth 33
 unfoldable pub tooDeep : ℕ → Bool
 tooDeep depth = ltb maxDepth depth
 
--- the smallest number whose condition holds of record i, or 0
+-- the first of these whose condition holds of record i, or 0
 unfoldable pub fault : List ℕ → ℕ → ℕ → Bool → List ℕ → ℕ → ℕ
 fault b i end field before depth =
     cond (badKind b i) 3
     (cond (badSpan b i end) 4
     (cond (badKey b i field) 5
     (cond (repeated b i field before) 6
+    (cond (tooMany field (length before)) 15
     (cond (tooDeep depth) 7
-    0))))
+    0)))))
 
 -- the same inside the open values around record i
 unfoldable pub faultIn : List ℕ → ℕ → List Open → ℕ

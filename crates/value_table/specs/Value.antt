@@ -11,7 +11,7 @@ use Rattle.byte_records.specs.Format.{Format, widthOf, fieldAt, recordBytes}
 abbrev pub valueFormat : Format
 valueFormat = 1 ∷ 1 ∷ 2 ∷ 4 ∷ []
 
--- bytes of a value record, the most bytes of a table, and the largest depth
+-- bytes of a value record, the most bytes of a table, the largest depth, and the most fields of a record (change 2 of document 02)
 abbrev pub recordSize : ℕ
 recordSize = widthOf valueFormat
 
@@ -20,6 +20,9 @@ maxLength = 65536
 
 abbrev pub maxDepth : ℕ
 maxDepth = 32
+
+abbrev pub maxFields : ℕ
+maxFields = 256
 
 -- the two kinds that have content, and the last of the scalar kinds, which have none
 abbrev pub recordKind : ℕ
@@ -109,6 +112,7 @@ pub record Proper (field : Bool) (depth : ℕ) (head : Head) (key : ℕ) (conten
   pub scalar : head .kind ≤ lastScalar → content ≡ none
   pub keyed : KeyFits field key
   pub distinct : head .kind ≡ recordKind → Distinct (keys content)
+  pub few : head .kind ≡ recordKind → count content ≤ maxFields
   pub shallow : depth ≤ maxDepth
 
 unfoldable pub ValidAt : Bool → ℕ → Values → Type 0

@@ -14,7 +14,7 @@ ghost use Prim.Native.Nat.{ℕ, _+_, _*_, _%_, _≤_, _<_};
 ghost use lib.ListN.{length};
 ghost use Rattle.value_table.specs.Value.{recordSize, maxLength, keyAt, spanAt, member};
 ghost use Rattle.value_table.specs.Inside.EarlierFields.{numberOfFinding, EarlierFields, FieldsBefore, Parent, FaultIs, keyBuckets, Latest};
-ghost use Rattle.value_table.specs.Judged.{badKind, badSpan, badKey, repeated};
+ghost use Rattle.value_table.specs.Judged.{badKind, badSpan, badKey, repeated, tooMany};
 ghost use Rattle.byte_records.specs.Inside.Chain.{Chain};
 ghost use Rattle.value_table.specs.Inside.RecordBytes.{PlainScalar};
 
@@ -123,19 +123,31 @@ fn repeats(table: &[u8], i: usize, first: usize, latest: &[usize; KEY_BUCKETS]) 
     key_before(table, i, first)
 }
 
-// The fault of record i, whose parent ends at `end` and, if it is a record, has its first field at `first`, else 0.
-// `latest` has the latest record so far of each bucket.
+// Whether a field is one too many, behind `before` others of its record.
+fn too_many(field: bool, before: usize) -> bool
+    ensures { λ r. ⌜ r ≡ tooMany field before ⌝ }
+{
+    if field {
+        record::MAX_FIELDS <= before
+    } else {
+        false
+    }
+}
+
+// The fault of record i, whose parent ends at `end`, holds `before` values before it and, if it is a record, has its first field at
+// `first`, else 0. `latest` has the latest record so far of each bucket.
 pub fn fault_at(
     table: &[u8],
     i: usize,
     end: usize,
     first: usize,
+    before: usize,
     depth: usize,
     latest: &[usize; KEY_BUCKETS],
 ) -> Finding
     requires { ⌜ (recordSize * i + recordSize ≤ length (now table)) × (length (now table) ≤ maxLength) × (i < end) × Parent (now table) i first
         × Latest (now table) i (now latest) ⌝ }
-    ensures { λ r. ⌜ FaultIs (now (table .entry)) i end first depth (numberOfFinding r) ⌝ }
+    ensures { λ r. ⌜ FaultIs (now (table .entry)) i end first before depth (numberOfFinding r) ⌝ }
 {
     if !plain_scalar(table, i) {
         if bad_kind(table, i) {
@@ -145,11 +157,15 @@ pub fn fault_at(
             return Finding::Found(Fault::Span);
         }
     }
-    if bad_key(table, i, 0 < first) {
+    let field = 0 < first;
+    if bad_key(table, i, field) {
         return Finding::Found(Fault::Key);
     }
     if repeats(table, i, first, latest) {
         return Finding::Found(Fault::Repeat);
+    }
+    if too_many(field, before) {
+        return Finding::Found(Fault::Fields);
     }
     if record::MAX_DEPTH < depth {
         return Finding::Found(Fault::Depth);

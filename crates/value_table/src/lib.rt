@@ -14,6 +14,7 @@ pub enum Fault {
     Span,
     Key,
     Repeat,
+    Fields,
     Depth,
 }
 
@@ -42,7 +43,7 @@ pub fn judge(table: &[u8]) -> Judged
     walk::walk_table(table)
 }
 
-// The refusal number of document 01.
+// The refusal number of documents 01 and 02.
 pub fn fault_number(fault: Fault) -> u64
     ensures { λ r. ⌜ r ≡ numberOfFault fault ⌝ }
 {
@@ -51,6 +52,7 @@ pub fn fault_number(fault: Fault) -> u64
         Fault::Span => 4,
         Fault::Key => 5,
         Fault::Repeat => 6,
+        Fault::Fields => 15,
         Fault::Depth => 7,
     }
 }

@@ -14,13 +14,17 @@ ghost use lib.ListN.{length};
 ghost use Rattle.value_table.specs.Value.{recordSize, maxLength, maxDepth, records, kindAt};
 ghost use Rattle.value_table.specs.Outcome.{outcomeOf};
 ghost use Rattle.value_table.specs.Judged.{walk};
-ghost use Rattle.value_table.specs.Inside.EarlierFields.{innermostOf, firstOf, messagesAt};
+ghost use Rattle.value_table.specs.Inside.EarlierFields.{innermostOf, firstOf};
+
+// The levels at which values stand around a record: that of the messages, and one in each open value.
+const LEVELS: usize = record::MAX_DEPTH + 1;
 
 // The open values around the next record: the end of each, the first field of each that is a record (else 0), and how many
-// there are.
+// there are; and how many values each level has had.
 struct Walk {
     ends: [usize; record::MAX_DEPTH],
     fields: [usize; record::MAX_DEPTH],
+    counts: [usize; LEVELS],
     depth: usize,
 }
 
@@ -48,13 +52,6 @@ fn first_of(table: &[u8], i: usize) -> usize
     }
 }
 
-// How many messages begin at a record inside `depth` open values.
-fn messages_at(depth: usize) -> usize
-    ensures { λ r. ⌜ r ≡ messagesAt depth ⌝ }
-{
-    if depth == 0 { 1 } else { 0 }
-}
-
 // Judges the records of a table of an allowed length.
 pub fn walk_table(table: &[u8]) -> Judged
     requires { ⌜ (length (now table) % recordSize ≡ 0) × (length (now table) ≤ maxLength) ⌝ }
@@ -64,10 +61,10 @@ pub fn walk_table(table: &[u8]) -> Judged
     let mut walk = Walk {
         ends: [0; record::MAX_DEPTH],
         fields: [0; record::MAX_DEPTH],
+        counts: [0; LEVELS],
         depth: 0,
     };
     let mut latest = [0; faults::KEY_BUCKETS];
-    let mut messages = 0;
     let mut i = 0;
     while i < n {
         let depth = walk.depth;
@@ -77,11 +74,12 @@ pub fn walk_table(table: &[u8]) -> Judged
             continue;
         }
         let first = innermost(&walk.fields, depth, 0);
-        if let Finding::Found(fault) = fault_at(table, i, end, first, depth + 1, &latest) {
+        let before = walk.counts[depth];
+        if let Finding::Found(fault) = fault_at(table, i, end, first, before, depth + 1, &latest) {
             return Judged::Faulty(fault, i);
         }
         latest[bucket_of(table, i)] = i;
-        messages += messages_at(depth);
+        walk.counts[depth] = before + 1;
         let span = span_at(table, i);
         if span == 1 {
             i += 1;
@@ -89,8 +87,9 @@ pub fn walk_table(table: &[u8]) -> Judged
         }
         walk.ends[depth] = i + span;
         walk.fields[depth] = first_of(table, i);
+        walk.counts[depth + 1] = 0;
         walk.depth = depth + 1;
         i += 1;
     }
-    Judged::Accepted(messages)
+    Judged::Accepted(walk.counts[0])
 }

@@ -36,7 +36,7 @@ module _ (e : Equivalence) where
   valid-unkeyed asFields depth none h = tt
   valid-unkeyed asFields depth (value head key content next) h =
       let p = h .0 in (
-        record { kind-low = p .kind-low; kind-high = p .kind-high; scalar = p .scalar; keyed = refl; distinct = p .distinct; shallow = p .shallow },
+        record { kind-low = p .kind-low; kind-high = p .kind-high; scalar = p .scalar; keyed = refl; distinct = p .distinct; few = p .few; shallow = p .shallow },
         h .1,
         valid-unkeyed asFields depth next (h .2),
       )

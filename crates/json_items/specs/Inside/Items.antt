@@ -1,15 +1,15 @@
 -- Keys and scalars as a reading meets them.
 use mathlib.Core.Path.{_≡_}
-use mathlib.Core.Bool.{false, cond}
+use mathlib.Core.Bool.{false}
 use mathlib.Core.List.{List, []}
 use Prim.Native.Nat.{ℕ, _+_, _≤_, _<_}
 use lib.ListN.{length, drop}
-use Rattle.value_table.specs.Value.{Head, none, value, member}
+use Rattle.value_table.specs.Value.{Head, none, value}
 use Rattle.json_theory.specs.Grammar.{headOf, isSpace}
 use Rattle.json_theory.specs.Parts.{Start, letters, number, string, open′, nothing, plain}
 use Rattle.json_theory.specs.Steps.{Stack, add, State, after, need, inKey, colon, begin}
 use Rattle.json_theory.specs.Book.{bookRecords, keyNumber}
-use Rattle.json_theory.specs.Reader.{keysIn, Reading, faultAt, faultOr, readFrom}
+use Rattle.json_theory.specs.Reader.{listedFault, Reading, faultAt, faultOr, readFrom}
 use Rattle.json_theory.specs.Inside.Scanning.{byteAt, Leads, Breaks}
 use Rattle.json_tokens.specs.declared.scan.Scan.{Scan}
 use Rattle.json_tokens.specs.declared.scan.Scan.the-variants.{To, Bad}
@@ -47,7 +47,7 @@ ScalarIs text p nothing key around r = Unit {0}
 abbrev pub keyReading : List ℕ → List ℕ → ℕ → Stack → ℕ → Reading
 keyReading text book room around p = readFrom (keyNumber book) room (inKey plain [] around) p (drop p text)
 
--- a listed key up to its closing quote at q: a fault only where the record has it
+-- a listed key up to its closing quote at q: a fault only where its object has it, or is full
 pub record KeyTo (text book : List ℕ) (p k q : ℕ) : Type 0 where
   pub some : 1 ≤ k
   pub listed : k ≤ bookRecords book
@@ -55,7 +55,7 @@ pub record KeyTo (text book : List ℕ) (p k q : ℕ) : Type 0 where
   pub upto : q < length text
   pub reads : (room : ℕ) (around : Stack) →
       keyReading text book room around p
-      ≡ faultOr (cond (member k (keysIn around)) 6 0) q (readFrom (keyNumber book) room (colon k around) (q + 1) (drop (q + 1) text))
+      ≡ faultOr (listedFault k around) q (readFrom (keyNumber book) room (colon k around) (q + 1) (drop (q + 1) text))
 
 abbrev pub NamedIs : List ℕ → List ℕ → ℕ → Named → Type 0
 NamedIs text book p (Found k q) = KeyTo text book p k q

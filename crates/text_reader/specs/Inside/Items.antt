@@ -10,7 +10,7 @@ use Rattle.json_theory.specs.Grammar.{isSpace, Container, headOf}
 use Rattle.json_theory.specs.Parts.{Start, open′}
 use Rattle.json_theory.specs.Steps.{Stack, base, level, add, State, gap, after, first, need, colon, begin}
 use Rattle.json_theory.specs.Book.{bookRecords}
-use Rattle.json_theory.specs.Reader.{depth, written, fine, faultAt, readFrom}
+use Rattle.json_theory.specs.Reader.{depth, written, itemsIn, fine, faultAt, readFrom}
 use Rattle.json_theory.specs.Inside.Scanning.{byteAt, Leads, Breaks}
 use Rattle.text_reader.specs.Answer.{numberOfTextFault, outcomeOfText}
 use Rattle.text_reader.specs.declared.call.TextAnswer.{TextAnswer}
@@ -73,22 +73,18 @@ abbrev pub FieldKeyIs : (text book seen : List ℕ) → ℕ → State → ℕ �
 FieldKeyIs text book seen room σ p around (Found k q) = KeyRead text book seen room σ p around k (need k around) q × (isSpace (byteAt text q) ≡ false)
 FieldKeyIs text book seen room σ p around (Wrong why q) = RefusedBy text book room σ p why q
 
--- the marks of a level have their place
-pub record MarksRow (listed : ℕ) (seen : List ℕ) (d : ℕ) : Type 0 where
-  pub room : markSize * (maxDepth * listed) ≤ length seen
-  pub small : length seen ≤ 2 * maxLength
-  pub level-low : d < maxDepth
-
--- the innermost of d open values
-pub record InnermostIs (records : List ℕ) (objects : List Bool) (d : ℕ) (lv : Level) : Type 0 where
+-- the innermost of d open values, with so many items
+pub record InnermostIs (records : List ℕ) (objects : List Bool) (d items : ℕ) (lv : Level) : Type 0 where
   pub depth-is : lv .depth ≡ d
   pub record-is : lv .record ≡ cond (eqb d 0) 0 (getD records (d - 1) 0)
   pub object-is : lv .object ≡ cond (eqb d 0) false (getD objects (d - 1) false)
+  pub items-are : lv .items ≡ items
 
 pub record LevelIs (around : Stack) (lv : Level) : Type 0 where
   pub depth-is : depth around ≡ lv .depth
   pub record-is : ownRecord around ≡ lv .record
   pub object-is : inObject around ≡ lv .object
+  pub items-are : itemsIn around ≡ lv .items
 
 -- its keys have their marks, and their mark is a number of two bytes
 pub record LevelFits (listed : ℕ) (seen : List ℕ) (lv : Level) : Type 0 where
@@ -159,16 +155,17 @@ ItemIs text book table seen room σ p around (Refused why q) = RefusedBy text bo
 
 -- How far the text is read, between two items: the state, the open values, their records and marks, and that reading on from here is
 -- reading the whole text.
-pub record ReadUpTo (text book table seen : List ℕ) (room : ℕ) (records : List ℕ) (objects : List Bool) (p count d : ℕ) (fresh : Bool) : Type 0 where
+pub record ReadUpTo (text book table seen : List ℕ) (room : ℕ) (records : List ℕ) (objects : List Bool) (before : List ℕ) (p count d items : ℕ) : Type 0 where
   pub state : State
   pub around : Stack
-  pub between : Between fresh state around
+  pub between : Between (eqb items 0) state around
   pub reads : readsFrom text book room state p ≡ readsFrom text book room (gap none) 0
   pub place : p ≤ length text
   pub deep : depth around ≡ d
   pub shallow : d ≤ maxDepth
   pub counted : written around ≡ count
-  pub levels : LevelsHold records objects around
+  pub inner : itemsIn around ≡ items
+  pub levels : LevelsHold records objects before around
   pub holds : TableHolds table around
   pub marks : MarksHold (bookRecords book) seen around []
 

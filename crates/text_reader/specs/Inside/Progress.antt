@@ -10,7 +10,7 @@ use Rattle.json_theory.specs.Grammar.{Container, array, object, kindOf, closer,
 use Rattle.json_theory.specs.Parts.{Start, letters, number, string, open′, nothing}
 use Rattle.json_theory.specs.Steps.{Stack, base, level, State, gap, after, need, first, nextKey, inKey, colon, inString, inNumber, inLiteral, wrong}
 use Rattle.json_theory.specs.Book.{keyNumber}
-use Rattle.json_theory.specs.Reader.{depth, written, Reading, readFrom}
+use Rattle.json_theory.specs.Reader.{depth, written, itemsIn, Reading, readFrom}
 use Rattle.json_theory.specs.Inside.Scanning.{byteAt, Leads}
 
 -- the reading of a text from state σ at byte p on, with the book's numbers
@@ -21,11 +21,12 @@ abbrev pub isObject : Container → Bool
 isObject array = false
 isObject object = true
 
--- the record of each open value, and whether it is an object, by depth
-abbrev pub LevelsHold : List ℕ → List Bool → Stack → Type 0
-LevelsHold records objects (base ms) = Unit {0}
-LevelsHold records objects (level o key done outer) =
-    (getD records (depth outer) 0 ≡ written outer) × (getD objects (depth outer) false ≡ isObject o) × LevelsHold records objects outer
+-- the record of each open value, whether it is an object, and how many items stand before it, by depth
+abbrev pub LevelsHold : List ℕ → List Bool → List ℕ → Stack → Type 0
+LevelsHold records objects before (base ms) = Unit {0}
+LevelsHold records objects before (level o key done outer) =
+    (getD records (depth outer) 0 ≡ written outer) × (getD objects (depth outer) false ≡ isObject o) × (getD before (depth outer) 0 ≡ itemsIn outer)
+    × LevelsHold records objects before outer
 
 -- the state between two items of the innermost level: at the start, right behind a bracket, or behind a value
 pub data Between : Bool → State → Stack → Type 0 where

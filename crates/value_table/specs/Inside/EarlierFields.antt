@@ -35,9 +35,10 @@ pub record Latest (b : List ℕ) (i : ℕ) (latest : List ℕ) : Type 0 where
   pub buckets : length latest ≡ keyBuckets
   pub upto : (q : ℕ) → q < i → q ≤ getD latest (keyAt b q % keyBuckets) 0
 
--- x is the fault of record i at this depth, whose parent ends at `end`
-abbrev pub FaultIs : List ℕ → ℕ → ℕ → ℕ → ℕ → ℕ → Type 0
-FaultIs b i end first depth x = (isField : Bool) (ks : List ℕ) → FieldsBefore b i first isField ks → x ≡ fault b i end isField ks depth
+-- x is the fault of record i at this depth, whose parent ends at `end` and, if it is a record, has had `before` fields
+abbrev pub FaultIs : List ℕ → ℕ → ℕ → ℕ → ℕ → ℕ → ℕ → Type 0
+FaultIs b i end first before depth x =
+    (isField : Bool) (ks : List ℕ) → FieldsBefore b i first isField ks → (isField ≡ true → length ks ≡ before) → x ≡ fault b i end isField ks depth
 
 -- what the innermost of some levels holds, or what stands outside them
 abbrev pub innermostOf : List ℕ → ℕ → ℕ → ℕ
@@ -47,11 +48,6 @@ innermostOf levels (suc depth) outside = getD levels depth 0
 -- the first field of a value of this kind at record i, or 0 where it is no record
 abbrev pub firstOf : ℕ → ℕ → ℕ
 firstOf kind i = cond (eqb kind recordKind) (i + 1) 0
-
--- a record inside no open value begins a message
-abbrev pub messagesAt : ℕ → ℕ
-messagesAt zero = 1
-messagesAt (suc depth) = 0
 
 -- what a look at one record finds, 0 for nothing
 abbrev pub numberOfFinding : Finding → ℕ

@@ -13,7 +13,7 @@ returns : tie.Need-returns
 returns c =
     let s = c .before .before .before .before .before in (
       tt,
-      λ room key done outer σ a sp st d own m.
+      λ room key done outer σ a sp st l m.
           no-quote (s .args .text .now) (s .args .book .now) room (s .args .at) key done outer σ a sp st (λ e. c .if1 .taken (c .before .byte-at .ensures ∙ e)),
     )
 
@@ -40,11 +40,11 @@ returns-2 c =
     let n = c .before .before .before .before .before in
     let s = n .before .before .before .before .before .before .before in (
       tt,
-      λ room key done outer σ a sp st d own m.
+      λ room key done outer σ a sp st l m.
           quote-opens (s .args .text .now) (s .args .book .now) room (s .args .at) key done outer σ a
           (sym (n .before .before .before .byte-at .ensures) ∙ n .before .before .if1 .left)
           ∙ subst (NewKeyIs (s .args .text .now) (s .args .book .now) (n .new-key .last .1 .1 .1 .0) room _ (s .args .at + 1) _) (c .before .why .given .1)
-          (n .new-key .ensures .1 room key done outer d own m),
+          (n .new-key .ensures .1 room key done outer l m),
     )
 
 returns-3 : tie.Need-returns-3
@@ -53,11 +53,11 @@ returns-3 c =
     let s = n .before .before .before .before .before .before .before in
     let k = subst (KeyPlace (s .args .text .now) (s .args .at + 1)) (c .before .before .key .given .1) (n .new-key .ensures .0) in (
       colon-place (s .args .text .now) _ (s .args .at) _ (k .0) (c .behind-colon .result) (c .behind-colon .ensures),
-      λ room key done outer σ a sp st d own m.
+      λ room key done outer σ a sp st l m.
           let opens = quote-opens (s .args .text .now) (s .args .book .now) room (s .args .at) key done outer σ a
           (sym (n .before .before .before .byte-at .ensures) ∙ n .before .before .if1 .left) in
           let read = subst (NewKeyIs (s .args .text .now) (s .args .book .now) (n .new-key .last .1 .1 .1 .0) room _ (s .args .at + 1) _) (c .before .before .key .given .1)
-          (n .new-key .ensures .1 room key done outer d own m) in
+          (n .new-key .ensures .1 room key done outer l m) in
           key-colon (s .args .text .now) (s .args .book .now) (n .new-key .last .1 .1 .1 .0) room (s .args .at) σ _ _ _ (c .behind-colon .result)
           (record { reads = opens ∙ read .reads; marks = read .marks }) (c .behind-colon .ensures _),
     )

@@ -11,17 +11,17 @@ use Rattle.text_reader.specs.Inside.Progress.{inObject, shuts, ItemAt}
 use Rattle.text_reader.specs.Inside.Items.{ReadUpTo, LevelIs, NextIs, ItemIs, ValuePlace}
 use Rattle.text_reader.specs.declared.value.Value.the-variants.{Opened}
 use Rattle.text_reader.proofs.ReadUpTo.{upto-start, upto-shut, upto-scalar, upto-open, all-read}
-use Rattle.text_reader.proofs.LoopFacts.{level-is, level-shuts, level-fits, own-low, holds-room, own-inside, stays-open, shut-deep, shut-inside}
+use Rattle.text_reader.proofs.LoopFacts.{level-is, level-shuts, level-fits, own-low, items-low, before-low, holds-room, own-inside, stays-open, shut-deep, shut-inside}
 use Rattle.text_reader.proofs.reader.read_messages.Statement.{statement}
 use Rattle.text_reader.proofs.reader.read_messages.Tie as tie
 
 abbrev Inv : tie.InvT-loop
-Inv text book hints table₀ seen₀ open₀ count₀ at₀ fresh₀ table seen «open» count at fresh =
-    ReadUpTo text book table seen (length table₀ / recordSize) («open» .records) («open» .objects) at count («open» .depth) fresh
-    × (length («open» .records) ≡ maxDepth) × (length («open» .objects) ≡ maxDepth) × (length table ≡ length table₀) × (length seen ≡ length seen₀)
+Inv text book hints table₀ seen₀ open₀ count₀ at₀ items₀ table seen «open» count at items =
+    ReadUpTo text book table seen (length table₀ / recordSize) («open» .records) («open» .objects) («open» .before) at count («open» .depth) items
+    × (length («open» .records) ≡ maxDepth) × (length («open» .objects) ≡ maxDepth) × (length («open» .before) ≡ maxDepth) × (length table ≡ length table₀) × (length seen ≡ length seen₀)
 
 abbrev μ : tie.MeasureT-loop
-μ text book hints table₀ seen₀ open₀ count₀ at₀ fresh₀ table seen «open» count at fresh = length text - at
+μ text book hints table₀ seen₀ open₀ count₀ at₀ items₀ table seen «open» count at items = length text - at
 
 -- the ways back: to the function's start, to the head of the loop, to what the loop's calls gave
 abbrev start : tie.At-loop Inv μ → tie.Start Inv μ
@@ -52,7 +52,7 @@ loop-holds : tie.Need-loop-holds Inv μ
 loop-holds c =
     let s = c .before .before .before .before .before in
     let o = c .none-open .ensures in
-    (rw (o .2) (upto-start _ _ _ _ _ _ _ (s .pre .1 .1)), o .0, o .1, refl, refl)
+    (rw (o .3) (upto-start _ _ _ _ _ _ _ _ (s .pre .1 .1)), o .0, o .1, o .2, refl, refl)
 
 innermost-requires : tie.Need-innermost-requires Inv μ
 innermost-requires c κs = c .before .before .before .loop .inv .0 .shallow
@@ -62,7 +62,7 @@ space-end-requires c κs = (head c .loop .inv .0 .place, start (head c) .pre .0 
 
 -- the innermost level
 inner : (o : tie.After-innermost Inv μ) → LevelIs (head o .loop .inv .0 .around) (o .innermost .result)
-inner o = let u = head o .loop .inv .0 in level-is _ _ (u .around) _ _ (u .levels) (u .deep) (o .innermost .ensures)
+inner o = let u = head o .loop .inv .0 in level-is _ _ _ (u .around) _ _ _ (u .levels) (u .deep) (u .inner) (o .innermost .ensures)
 
 -- it is shut at this byte
 shut : (c : tie.Then1 Inv μ) → let e = c .before .before in let l = head (e .before) in
@@ -84,29 +84,40 @@ store-span-requires c κs =
 abbrev shut-of : tie.After-slice-known3 Inv μ → tie.Then1 Inv μ
 shut-of c = c .before .before .before .before .before
 
-sub-open : tie.Need-sub-open Inv μ
-sub-open c = let u = head (shut-of c .before .before .before) .loop .inv .0 in shut-deep (u .around) _ _ (u .deep) (shut (shut-of c))
+-- it has a level
+deep : (c : tie.After-slice-known3 Inv μ) → 1 ≤ head (shut-of c .before .before .before) .loop .«open» .depth
+deep c = let u = head (shut-of c .before .before .before) .loop .inv .0 in shut-deep (u .around) _ _ (u .deep) (shut (shut-of c))
+
+element-copy-out-items : tie.Need-element-copy-out-items Inv μ
+element-copy-out-items c = omega (arith, deep c, head (shut-of c .before .before .before) .loop .inv .0 .shallow)
+
+add-items : tie.Need-add-items Inv μ
+add-items c =
+    let l = head (shut-of (c .before) .before .before .before) in
+    let u = l .loop .inv .0 in
+    omega (arith, before-low _ _ _ (u .around) _ _ (u .deep) (shut (shut-of (c .before))) (u .levels), holds-room _ (u .around) (u .holds), l .loop .inv .4, start l .pre .1 .0)
 
 add-at : tie.Need-add-at Inv μ
-add-at c = let e = shut-of c .before .before in omega (arith, e .space-end .ensures .running .upto, start (head (e .before)) .pre .0 .0)
+add-at c = let e = shut-of (c .before) .before .before in omega (arith, e .space-end .ensures .running .upto, start (head (e .before)) .pre .0 .0)
 
 loop-less : tie.Need-loop-less Inv μ
 loop-less c =
-    let e = shut-of c .before .before in
+    let e = shut-of (c .before) .before .before in
     let l = head (e .before) in
-    let n = shut-inside (start l .args .text .now) (e .space-end .result) (l .loop .«open» .depth) (inObject (l .loop .inv .0 .around)) (shut (shut-of c)) in
+    let n = shut-inside (start l .args .text .now) (e .space-end .result) (l .loop .«open» .depth) (inObject (l .loop .inv .0 .around)) (shut (shut-of (c .before))) in
     omega (arith, e .space-end .ensures .running .from, n)
 
 loop-again : tie.Need-loop-again Inv μ
 loop-again c =
-    let e = shut-of c .before .before in
+    let e = shut-of (c .before) .before .before in
     let v = head (e .before) .loop .inv in
-    let stored = c .before .before .store-span in (
-      upto-shut _ _ _ _ _ _ _ _ _ _ _ _ _ (e .space-end .ensures) (v .0 .shallow) (stored .ensures) (v .0) (sym (inner (e .before) .record-is)) (shut (shut-of c)),
+    let stored = c .before .before .before .store-span in (
+      upto-shut _ _ _ _ _ _ _ _ _ _ _ _ _ _ (e .space-end .ensures) (v .0 .shallow) (stored .ensures) (v .0) (sym (inner (e .before) .record-is)) (shut (shut-of (c .before))),
       v .1,
       v .2,
-      stored .kept .0 ∙ v .3,
-      v .4,
+      v .3,
+      stored .kept .0 ∙ v .4,
+      v .5,
     )
 
 next-item-requires : tie.Need-next-item-requires Inv μ
@@ -141,8 +152,8 @@ item-at-requires c κs =
     let v = turn t .loop .inv in
     let u = v .0 in
     let p = start (turn t) .pre in
-    let low : length (turn t .loop .table) ≤ maxLength = omega (arith, v .3, p .1 .0) in
-    let fits = level-fits (inner (level-of (t .before .before))) (u .marks) (omega (arith, v .4, p .1 .2)) (omega (arith, u .deep, u .shallow)) (u .holds) low in
+    let low : length (turn t .loop .table) ≤ maxLength = omega (arith, v .4, p .1 .0) in
+    let fits = level-fits (inner (level-of (t .before .before))) (u .marks) (omega (arith, v .5, p .1 .2)) (omega (arith, u .deep, u .shallow)) (u .holds) low in
     (((there t .upto, p .0 .0), p .0 .1, p .0 .2, fits), (low, omega (arith, holds-room _ (u .around) (u .holds), u .counted)))
 
 -- what the item is, with the ghost state of the loop
@@ -154,25 +165,30 @@ item m =
     let i = there t in
     let v = turn t .loop .inv in
     let u = v .0 in
-    rw (← v .3) (m .item-at .ensures .1 (i .state) (u .around) (i .awaits) (i .byte) (i .ready) (inner (level-of (t .before .before))) (u .counted) (u .holds) (u .marks))
+    rw (← v .4) (m .item-at .ensures .1 (i .state) (u .around) (i .awaits) (i .byte) (i .ready) (inner (level-of (t .before .before))) (u .counted) (u .holds) (u .marks))
 
 -- the lengths of the table and of the marks stay
 kept : (m : tie.After-item-at Inv μ) → let s = start (turn (start-of m)) in
     (length (m .item-at .last .1 .1 .1 .0) ≡ length (s .args .table .now)) × (length (m .item-at .last .1 .1 .1 .1 .0) ≡ length (s .args .seen .now))
-kept m = let v = turn (start-of m) .loop .inv in (m .item-at .kept .1 .1 .1 .0 ∙ v .3, m .item-at .kept .1 .1 .1 .1 .0 ∙ v .4)
+kept m = let v = turn (start-of m) .loop .inv in (m .item-at .kept .1 .1 .1 .0 ∙ v .4, m .item-at .kept .1 .1 .1 .1 .0 ∙ v .5)
 
 -- one more record has a number
 more : (m : tie.After-item-at Inv μ) → turn (start-of m) .loop .count < 65536
 more m =
     let l = turn (start-of m) in
     let u = l .loop .inv .0 in
-    omega (arith, holds-room _ (u .around) (u .holds), u .counted, l .loop .inv .3, start l .pre .1 .0)
+    omega (arith, holds-room _ (u .around) (u .holds), u .counted, l .loop .inv .4, start l .pre .1 .0)
 
 returns-3 : tie.Need-returns-3 Inv μ
 returns-3 c =
     let m = refused-item c in
     let t = start-of m in
     sym (turn t .loop .inv .0 .reads) ∙ there t .leads _ _ ∙ subst (ItemIs _ _ _ _ _ _ _ _) (c .before .why .given .1) (item m)
+
+add-items-2 : tie.Need-add-items-2 Inv μ
+add-items-2 c =
+    let u = turn (start-of (scalar-item c)) .loop .inv .0 in
+    omega (arith, more (scalar-item c), items-low (u .around), u .inner, u .counted)
 
 loop-less-2 : tie.Need-loop-less-2 Inv μ
 loop-less-2 c =
@@ -185,7 +201,7 @@ loop-again-2 c =
     let t = start-of m in
     let v = turn t .loop .inv in
     let p = subst (ValuePlace _ _) (c .before .end .given .1) (m .item-at .ensures .0) in
-    (upto-scalar (v .0) (there t) (subst (ItemIs _ _ _ _ _ _ _ _) (c .before .end .given .1) (item m)) (p .1), v .1, v .2, kept m .0, kept m .1)
+    (upto-scalar (v .0) (there t) (subst (ItemIs _ _ _ _ _ _ _ _) (c .before .end .given .1) (item m)) (p .1), v .1, v .2, v .3, kept m .0, kept m .1)
 
 -- the value that opens
 opens : (c : tie.After-known-told5 Inv μ) → let m = open-item c in let t = start-of m in let l = turn t in let s = start l in
@@ -203,6 +219,9 @@ element-write-open c = let k = level-left c in search needs
 element-write-open-2 : tie.Need-element-write-open-2 Inv μ
 element-write-open-2 c = let k = level-left c in search needs
 
+element-write-open-3 : tie.Need-element-write-open-3 Inv μ
+element-write-open-3 c = let k = level-left c in search needs
+
 loop-less-3 : tie.Need-loop-less-3 Inv μ
 loop-less-3 c =
     let m = open-item c in
@@ -215,9 +234,10 @@ loop-again-3 c =
     let l = turn t in
     let v = l .loop .inv in
     let p = subst (ValuePlace _ _) (c .before .end2 .given .1) (m .item-at .ensures .0) in (
-      upto-open (v .0) (there t) (opens c) (p .1) (v .1) (v .2),
+      upto-open (v .0) (there t) (opens c) (p .1) (v .1) (v .2) (v .3),
       length-set (l .loop .«open» .records) (l .loop .«open» .depth) (l .loop .count) ∙ v .1,
       length-set (l .loop .«open» .objects) (l .loop .«open» .depth) (c .before .end2 .given .0 .1 .0) ∙ v .2,
+      length-set (l .loop .«open» .before) (l .loop .«open» .depth) (l .loop .items) ∙ v .3,
       kept m .0,
       kept m .1,
     )
@@ -226,11 +246,11 @@ pub read-messages-spec : {M : Type 1} → statement M
 read-messages-spec =
     tie.close
     (tie.spec Inv μ (λ c κs. search needs) loop-holds innermost-requires space-end-requires (λ c κs. search needs)
-    sub-store-span store-span-requires sub-open add-at loop-less loop-again next-item-requires (λ c. search needs)
+    sub-store-span store-span-requires deep deep (λ c. omega (arith, deep c)) element-copy-out-items add-items add-at loop-less loop-again next-item-requires (λ c. search needs)
     (λ c. search needs) (λ c. search needs) (λ c. search needs) returns
     (λ c. search needs) (λ c. search needs) (λ c. search needs) returns-2
     item-at-requires
     (λ c. search needs) (λ c. kept (refused-item c) .0) (λ c. kept (refused-item c) .1) returns-3
-    (λ c. search needs) (λ c. omega (arith, more (scalar-item c))) loop-less-2 loop-again-2
-    (λ c. search needs) (λ c. omega (arith, level-left c)) element-write-open element-write-open-2 (λ c. omega (arith, level-left c))
+    (λ c. search needs) add-items-2 (λ c. omega (arith, more (scalar-item c))) loop-less-2 loop-again-2
+    (λ c. search needs) (λ c. omega (arith, level-left c)) element-write-open element-write-open-2 (λ c. omega (arith, level-left c)) element-write-open-3 (λ c. omega (arith, level-left c))
     (λ c. omega (arith, more (open-item c))) loop-less-3 loop-again-3)
