@@ -1,4 +1,4 @@
-// The faults of one value record, 3 to 7.
+// The faults of one value record, 3 to 7 and 15.
 use crate::Fault;
 use crate::record;
 use crate::record::key_at;
