@@ -8,7 +8,7 @@ use native.Mathlib.Omega.{arith}
 use lib.Dec.{ltb}
 use lib.ListN.{length, length-append}
 use borrow.Author.Tests.{le-ltb, lt-ltb}
-use Rattle.merging.specs.declared.level.Level.{Level}
+use Rattle.type_arena.specs.declared.level.Level.{Level}
 use Rattle.counting_theory.specs.Payload.{Payload, join}
 use Rattle.counting_theory.specs.Trie.{node, size, reduceStep, reduceNode, reduce, total, largestBelow, largestTotal}
 use Rattle.counting_theory.specs.Label.{Equivalence, compareLabel, Counting, CountingType}
@@ -16,14 +16,15 @@ use Rattle.counting_theory.specs.Encoding.{typeSize, typeKind, typeKey, typePay
 use Rattle.counting_theory.specs.WellFormed.{maxTotal}
 use Rattle.type_arena.specs.Inside.Arena.{byFlag, labelAt, headerOf}
 use Rattle.type_arena.specs.Inside.Addend.{front, body, rest, Coded}
-use Rattle.merging.specs.Inside.Merging.{Part, exceeds, exceedsBelow, both, mergedBytes, joinedBytes}
+use Rattle.type_arena.specs.Inside.Runs.{TypeRun}
+use Rattle.merging.specs.Inside.Merging.{exceeds, exceedsBelow, both, mergedBytes, joinedBytes}
 use Rattle.counting_theory.proofs.Label.{label-order, kind-eq, counting-laws}
 use Rattle.counting_theory.proofs.WellFormed.Limit.{limit-totals, over-limit}
 use Rattle.counting_theory.proofs.Trie.Sizes.{reduce-nil, size-reduce, total-reduce}
 use Rattle.counting_theory.proofs.Encoding.Header.{length-encode}
 use Rattle.type_arena.proofs.RecordBytes.{length-header}
 use Rattle.type_arena.proofs.FirstAddend.{coded-type, coded-length, type-empty}
-use Rattle.merging.proofs.TypeMerge.Part.{Head}
+use Rattle.type_arena.proofs.Runs.{Head}
 
 max-over : (m p q : ℕ) → ltb m (max p q) ≡ (ltb m p || ltb m q)
 max-over m p q = go (decLt m p)
@@ -68,6 +69,10 @@ pub same-kinds : (e : Equivalence) (x y : List ℕ) → eq ≡ order e x y → t
 unfolding labelAt
 same-kinds e x y h = kind-eq (label-order .compare-eq (sym h))
 
+light-body : {level : Level} {w : List ℕ} → Head level w → exceeds (typeOf (At level) (body w)) ≡ false
+unfolding exceeds
+light-body h = rw (h .in-body .limit) refl
+
 module _ {level : Level} {x y : List ℕ} where
   -- the first addend of w as it is
   kept : {w x′ y′ : List ℕ} → Head level w →
@@ -77,7 +82,7 @@ module _ {level : Level} {x y : List ℕ} where
       let c : CountingType = typeOf (At level) (body w) in
       let s : Step (At level) x y (headerOf (typeKind w 0) (typeKey w 0) (1 + size c) (typePayload w 0) ++ encode c) x′ y′ (exceeds c) =
       step (At level) x y w x′ y′ (typePayload w 0) c z in
-      rw (h .light, h .first .is-body, ← h .first .is-front) at s
+      rw (light-body h, h .first .is-body, ← h .first .is-front) at s
 
   module _ (h : Head level x) (g : Head level y) where
     pub step-less : lt ≡ order (At level) x y → Step (At level) x y (front x) (rest x) y false
@@ -99,7 +104,7 @@ pub record Alone (x : List ℕ) (f : CountingType) : Type 0 where
   pub light : exceeds f ≡ false
   pub light-below : exceedsBelow f ≡ false
 
-module _ {level : Level} (x : List ℕ) (p : Part level x) where
+module _ {level : Level} (x : List ℕ) (p : TypeRun level x) where
   alone : {f : CountingType} → f ≡ typeOf (At level) x → Alone x f
   unfolding exceeds exceedsBelow largestTotal
   alone z =
