@@ -1,0 +1,1 @@
+-- The laws behind removal; a folder for each function's proof.

@@ -1,0 +1,3 @@
+-- What removal answers, and what its contracts cite beside the theory.
+pub mod Difference
+pub mod Removed

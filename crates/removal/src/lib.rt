@@ -1,0 +1,1 @@
+// Takes a part out of a whole type, in one pass over both.
