@@ -1,1 +1,3 @@
 -- The laws behind removal; a folder for each function's proof.
+pub mod Difference
+pub mod Remains
