@@ -1,3 +1,5 @@
 -- The laws behind removal; a folder for each function's proof.
+pub mod Difference
+pub mod Remains
 pub mod SameBytes
 pub mod CountLimit
