@@ -1,5 +1,7 @@
 -- The laws behind removal; a folder for each function's proof.
 pub mod Difference
 pub mod Remains
+pub mod Taken
 pub mod SameBytes
 pub mod CountLimit
+pub mod OnBytes

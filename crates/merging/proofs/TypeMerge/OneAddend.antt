@@ -12,7 +12,7 @@ use Rattle.type_arena.specs.declared.level.Level.{Level}
 use Rattle.counting_theory.specs.Payload.{Payload, join}
 use Rattle.counting_theory.specs.Trie.{node, size, reduceStep, reduceNode, reduce, total, largestBelow, largestTotal}
 use Rattle.counting_theory.specs.Label.{Equivalence, compareLabel, Counting, CountingType}
-use Rattle.counting_theory.specs.Encoding.{typeSize, typeKind, typeKey, typePayload, header, encode, typeOf}
+use Rattle.counting_theory.specs.Encoding.{typeSize, typeKind, typeKey, typePayload, encode, typeOf}
 use Rattle.counting_theory.specs.WellFormed.{maxTotal}
 use Rattle.type_arena.specs.Inside.Arena.{byFlag, labelAt, headerOf}
 use Rattle.type_arena.specs.Inside.Addend.{front, body, rest, Coded}
@@ -23,7 +23,7 @@ use Rattle.counting_theory.proofs.WellFormed.Limit.{limit-totals, over-limit}
 use Rattle.counting_theory.proofs.Trie.Sizes.{reduce-nil, size-reduce, total-reduce}
 use Rattle.counting_theory.proofs.Encoding.Header.{length-encode}
 use Rattle.type_arena.proofs.RecordBytes.{length-header}
-use Rattle.type_arena.proofs.FirstAddend.{coded-type, coded-length, type-empty}
+use Rattle.type_arena.proofs.FirstAddend.{header-first, coded-type, coded-length, type-empty}
 use Rattle.type_arena.proofs.Runs.{Head}
 
 max-over : (m p q : ℕ) → ltb m (max p q) ≡ (ltb m p || ltb m q)
@@ -38,10 +38,6 @@ max-over m p q = go (decLt m p)
     go (no h) = rw (le-ltb m p (omega arith)) (later (decLt m q) (omega arith))
 
 module _ (e : Equivalence) where
-  header-of : (x : List ℕ) (span : ℕ) (a : Payload) → header (labelAt e x 0) span a ≡ headerOf (typeKind x 0) (typeKey x 0) span a
-  unfolding labelAt header
-  header-of x span a = refl
-
   -- one step of the merge: z is stored, x′ and y′ are left, and p says whether z exceeds a limit
   pub record Step (x y z x′ y′ : List ℕ) (p : Bool) : Type 0 where
     pub is-bytes : mergedBytes e x y ≡ z ++ mergedBytes e x′ y′
@@ -53,7 +49,7 @@ module _ (e : Equivalence) where
   unfolding mergedBytes encode exceeds exceedsBelow largestBelow largestTotal
   step x y w x′ y′ count c h =
       record {
-        is-bytes = rw (h, header-of w (1 + size c) count) (sym (append-assoc (headerOf (typeKind w 0) (typeKey w 0) (1 + size c) count) (encode c) (encode (both e x′ y′))));
+        is-bytes = rw (h, header-first e w (1 + size c) count) (sym (append-assoc (headerOf (typeKind w 0) (typeKey w 0) (1 + size c) count) (encode c) (encode (both e x′ y′))));
         is-over = rw (h, over-limit c) (max-over maxTotal (max (total Counting c) (largestBelow Counting c)) (largestBelow Counting (both e x′ y′)));
       }
 

@@ -1,0 +1,4 @@
+-- Removal on bytes.
+pub mod Placing
+pub mod Steps
+pub mod OneAddend
