@@ -1,3 +1,4 @@
 -- The laws behind removal; a folder for each function's proof.
 pub mod Difference
 pub mod Remains
+pub mod Taken
