@@ -2,3 +2,5 @@
 pub mod Difference
 pub mod Remains
 pub mod Taken
+pub mod LabelFields
+pub mod RemovedTypes
