@@ -4,3 +4,5 @@ pub mod Remains
 pub mod Taken
 pub mod LabelFields
 pub mod RemovedTypes
+pub mod Merges
+pub mod Exact
