@@ -6,3 +6,4 @@ pub mod LabelFields
 pub mod RemovedTypes
 pub mod Merges
 pub mod Exact
+pub mod Trials
