@@ -1,4 +1,4 @@
--- The difference of two tries, by the steps in which it comes about: it undoes the merge, and where it gives something, the merge undoes it.
+-- The difference of two tries, by the steps in which it comes about: it undoes the merge, and leaves nothing only of equals.
 use mathlib.Core.Path.{_≡_, refl, sym, _∙_, ap}
 use mathlib.Core.Option.{Option, none, some}
 use Prim.Native.Nat.{Ordering, Ordering·lt as lt, Ordering·eq as eq, Ordering·gt as gt}

@@ -2,6 +2,11 @@
 pub mod Difference
 pub mod Remains
 pub mod Taken
+pub mod LabelFields
+pub mod RemovedTypes
+pub mod Merges
+pub mod Exact
+pub mod Trials
 pub mod SameBytes
 pub mod CountLimit
 pub mod OnBytes
