@@ -2,3 +2,5 @@
 pub mod Placing
 pub mod Steps
 pub mod OneAddend
+pub mod RemovalLoop
+pub mod Stored

@@ -34,7 +34,7 @@ use Rattle.removal.proofs.Taken.{taken-laws}
 use Rattle.removal.proofs.CountLimit.{limit-left, run-limit}
 use Rattle.removal.proofs.OnBytes.Steps.{At}
 
-abbrev counts : ℕ → Payload
+abbrev pub counts : ℕ → Payload
 counts n = record { count = n }
 
 -- what is left of a payload, by the counts

@@ -35,6 +35,24 @@ followed-tests true true true false w x y = refl
 followed-tests true true true true false x y = refl
 followed-tests true true true true true x y = refl
 
+pub unless-none : {A : Type 0} (t : Bool) → unless {A = A} t none ≡ none
+unfolding unless
+unless-none true = refl
+unless-none false = refl
+
+pub unless-set : {A : Type 0} (o : Option A) → unless true o ≡ none
+unfolding unless
+unless-set o = refl
+
+pub placed-none : (out : List ℕ) (k : ℕ) → placed out k none ≡ none
+unfolding placed
+placed-none out k = refl
+
+pub placed-some : (out : List ℕ) (k : ℕ) (t : Bool) (z : List ℕ) → unless t (some (sets out k z, k + length z)) ≡ placed out k (unless t (some z))
+unfolding unless placed
+placed-some out k true z = refl
+placed-some out k false z = refl
+
 same-parts : {a b : List ℕ} {m n : ℕ} → _≡_ {A = Option (List ℕ × ℕ)} (some (a, m)) (some (b, n)) → (a ≡ b) × (m ≡ n)
 same-parts {a} {b} {m} {n} h = let e : _≡_ {A = List ℕ × ℕ} (a, m) (b, n) = cc in (ap (λ s. s .0) e, ap (λ s. s .1) e)
 
