@@ -1,8 +1,8 @@
 -- The first addend or field of a run of a well-formed type: its count, what stands inside it and what follows are within the limits.
-use mathlib.Core.Path.{_≡_, refl, ap}
+use mathlib.Core.Path.{_≡_, refl, sym, ap}
 use mathlib.Core.Bool.{Bool, true, false, cond, not, _&&_}
 use mathlib.Core.List.{List}
-use Prim.Native.Nat.{ℕ, _+_, _*_, _-_, _≤_, _<_}
+use Prim.Native.Nat.{ℕ, _+_, _*_, _-_, _≤_, _<_, Ordering, Ordering·eq as eq}
 use native.Mathlib.Nat.{zero-add, le-refl}
 use native.Mathlib.Omega.{arith}
 use lib.Dec.{eqb}
@@ -11,18 +11,30 @@ use borrow.Author.Tests.{eq-eqb}
 use Rattle.value_table.specs.Value.{maxLength, maxDepth, recordKind}
 use Rattle.type_arena.specs.declared.level.Level.{Level}
 use Rattle.counting_theory.specs.Trie.{nil, node, total, largestBelow, largestTotal}
-use Rattle.counting_theory.specs.Label.{Equivalence, Label, fieldKind, Counting, CountingType}
+use Rattle.counting_theory.specs.Label.{Equivalence, Label, fieldKind, compareLabel, Counting, CountingType}
 use Rattle.counting_theory.specs.Encoding.{typePayload, typeKind, typeOf, Tagged}
 use Rattle.counting_theory.specs.WellFormed.{maxTotal, withinLimit, depthInside, Shallow, IsType}
 use Rattle.type_arena.specs.Inside.Arena.{byFlag, labelAt}
 use Rattle.type_arena.specs.Inside.Addend.{body, rest, Coded, Union}
 use Rattle.type_arena.specs.Inside.Runs.{depthOf, TypeRun, insideOf}
-use Rattle.counting_theory.proofs.Label.{kind-eq}
+use Rattle.counting_theory.proofs.Label.{kind-eq, label-order}
 use Rattle.counting_theory.proofs.Tagged.Parts.{holdsFields}
 use Rattle.counting_theory.proofs.WellFormed.Nodes.{KeyOrDepth, depthUnder, shallow-parts}
 use Rattle.counting_theory.proofs.Encoding.Header.{length-encode}
 use Rattle.counting_theory.proofs.WellFormed.Limit.{limit-totals, totals-limit}
 use Rattle.type_arena.proofs.FirstAddend.{Addend, addend, coded-type, type-coded}
+
+-- the equivalence that a level is by
+abbrev pub At : Level → Equivalence
+At level = byFlag (level .label)
+
+-- how the first labels compare
+abbrev pub order : Equivalence → List ℕ → List ℕ → Ordering
+order e x y = compareLabel (labelAt e x 0) (labelAt e y 0)
+
+pub same-kinds : (e : Equivalence) (x y : List ℕ) → eq ≡ order e x y → typeKind x 0 ≡ typeKind y 0
+unfolding labelAt
+same-kinds e x y h = kind-eq (label-order .compare-eq (sym h))
 
 -- an addend has a level left
 level-left : (field : Bool) (left : ℕ) (l : Label) → KeyOrDepth field (maxDepth + 1 - (left + cond field 1 0)) l → cond field 0 1 ≤ left

@@ -23,8 +23,8 @@ use Rattle.type_arena.proofs.PayloadBytes.{header-same}
 use Rattle.byte_records.proofs.Sets.{sets-append, sets-last}
 use Rattle.type_arena.proofs.RecordBytes.{length-header}
 use Rattle.type_arena.proofs.FirstAddend.{body-rest, front-rest}
-use Rattle.type_arena.proofs.Runs.{Head}
-use Rattle.merging.proofs.TypeMerge.OneAddend.{Step, At, order, step-less, step-more, step-same, second-out, first-out, length-merged, length-joined, merged-le, union-over}
+use Rattle.type_arena.proofs.Runs.{At, order, Head}
+use Rattle.merging.proofs.TypeMerge.OneAddend.{Step, step-less, step-more, step-same, second-out, first-out, length-merged, length-joined, merged-le, union-over}
 
 -- what is left to do: x and y are still to be merged into out from byte k on, as against a and b at the start
 pub record State (level : Level) (a b out₀ : List ℕ) (k₀ : ℕ) (over₀ : Bool) (x y out : List ℕ) (k : ℕ) (over : Bool) : Type 0 where

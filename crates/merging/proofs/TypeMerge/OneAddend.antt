@@ -2,7 +2,7 @@
 use mathlib.Core.Path.{_≡_, refl, sym, ap, _∙_}
 use mathlib.Core.Bool.{Bool, false, _||_}
 use mathlib.Core.List.{List, [], _++_, append-assoc}
-use Prim.Native.Nat.{ℕ, _+_, _*_, _≤_, _<_, max, Ordering, Ordering·lt as lt, Ordering·eq as eq, Ordering·gt as gt}
+use Prim.Native.Nat.{ℕ, _+_, _*_, _≤_, _<_, max, Ordering·lt as lt, Ordering·eq as eq, Ordering·gt as gt}
 use native.Mathlib.Decide.{decLt}
 use native.Mathlib.Omega.{arith}
 use lib.Dec.{ltb}
@@ -11,20 +11,20 @@ use borrow.Author.Tests.{le-ltb, lt-ltb}
 use Rattle.type_arena.specs.declared.level.Level.{Level}
 use Rattle.counting_theory.specs.Payload.{Payload, join}
 use Rattle.counting_theory.specs.Trie.{node, size, reduceStep, reduceNode, reduce, total, largestBelow, largestTotal}
-use Rattle.counting_theory.specs.Label.{Equivalence, compareLabel, Counting, CountingType}
+use Rattle.counting_theory.specs.Label.{Equivalence, Counting, CountingType}
 use Rattle.counting_theory.specs.Encoding.{typeSize, typeKind, typeKey, typePayload, encode, typeOf}
 use Rattle.counting_theory.specs.WellFormed.{maxTotal}
-use Rattle.type_arena.specs.Inside.Arena.{byFlag, labelAt, headerOf}
+use Rattle.type_arena.specs.Inside.Arena.{labelAt, headerOf}
 use Rattle.type_arena.specs.Inside.Addend.{front, body, rest, Coded}
 use Rattle.type_arena.specs.Inside.Runs.{TypeRun}
 use Rattle.merging.specs.Inside.Merging.{exceeds, exceedsBelow, both, mergedBytes, joinedBytes}
-use Rattle.counting_theory.proofs.Label.{label-order, kind-eq, counting-laws}
+use Rattle.counting_theory.proofs.Label.{counting-laws}
 use Rattle.counting_theory.proofs.WellFormed.Limit.{limit-totals, over-limit}
 use Rattle.counting_theory.proofs.Trie.Sizes.{reduce-nil, size-reduce, total-reduce}
 use Rattle.counting_theory.proofs.Encoding.Header.{length-encode}
 use Rattle.type_arena.proofs.RecordBytes.{length-header}
 use Rattle.type_arena.proofs.FirstAddend.{header-first, coded-type, coded-length, type-empty}
-use Rattle.type_arena.proofs.Runs.{Head}
+use Rattle.type_arena.proofs.Runs.{At, order, Head}
 
 max-over : (m p q : ℕ) → ltb m (max p q) ≡ (ltb m p || ltb m q)
 max-over m p q = go (decLt m p)
@@ -52,18 +52,6 @@ module _ (e : Equivalence) where
         is-bytes = rw (h, header-first e w (1 + size c) count) (sym (append-assoc (headerOf (typeKind w 0) (typeKey w 0) (1 + size c) count) (encode c) (encode (both e x′ y′))));
         is-over = rw (h, over-limit c) (max-over maxTotal (max (total Counting c) (largestBelow Counting c)) (largestBelow Counting (both e x′ y′)));
       }
-
--- the equivalence that a level is byFlag
-abbrev pub At : Level → Equivalence
-At level = byFlag (level .label)
-
--- how the first labels compare
-abbrev pub order : Equivalence → List ℕ → List ℕ → Ordering
-order e x y = compareLabel (labelAt e x 0) (labelAt e y 0)
-
-pub same-kinds : (e : Equivalence) (x y : List ℕ) → eq ≡ order e x y → typeKind x 0 ≡ typeKind y 0
-unfolding labelAt
-same-kinds e x y h = kind-eq (label-order .compare-eq (sym h))
 
 light-body : {level : Level} {w : List ℕ} → Head level w → exceeds (typeOf (At level) (body w)) ≡ false
 unfolding exceeds

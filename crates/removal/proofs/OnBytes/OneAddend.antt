@@ -27,12 +27,11 @@ use Rattle.counting_theory.proofs.Tagged.Parts.{Shape}
 use Rattle.counting_theory.proofs.Encoding.Header.{payload-count, length-encode}
 use Rattle.counting_theory.proofs.Trie.Canonical.{some-none}
 use Rattle.type_arena.proofs.FirstAddend.{header-first, coded-length}
-use Rattle.type_arena.proofs.Runs.{Head}
+use Rattle.type_arena.proofs.Runs.{At, Head}
 use Rattle.removal.proofs.Difference.{steps, difference-self, removal-nil}
 use Rattle.removal.proofs.Remains.{size-removal}
 use Rattle.removal.proofs.Taken.{taken-laws}
 use Rattle.removal.proofs.CountLimit.{limit-left, run-limit}
-use Rattle.removal.proofs.OnBytes.Steps.{At}
 
 abbrev pub counts : ℕ → Payload
 counts n = record { count = n }

@@ -3,7 +3,7 @@ use mathlib.Core.Path.{_≡_, refl, sym, ap, _∙_}
 use mathlib.Core.Bool.{Bool, true, false, cond, not, _&&_, _||_}
 use mathlib.Core.List.{List, [], _∷_, _++_, append-assoc, append-nil}
 use mathlib.Core.Option.{Option, none, some}
-use Prim.Native.Nat.{ℕ, _+_, _≤_, _<_, Ordering, Ordering·lt as lt, Ordering·eq as eq, Ordering·gt as gt}
+use Prim.Native.Nat.{ℕ, _+_, _≤_, _<_, Ordering·lt as lt, Ordering·eq as eq, Ordering·gt as gt}
 use native.Mathlib.Omega.{arith}
 use lib.Dec.{eqb, leb, ltb}
 use lib.ListN.{length}
@@ -12,11 +12,11 @@ use borrow.Author.Tests.{le-leb, lt-leb, le-ltb, lt-ltb}
 use Rattle.value_table.specs.Value.{recordKind}
 use Rattle.counting_theory.specs.Payload.{Payload}
 use Rattle.counting_theory.specs.Trie.{nil, node, size}
-use Rattle.counting_theory.specs.Label.{Equivalence, byKind, Label, compareLabel, Counting, CountingType}
+use Rattle.counting_theory.specs.Label.{Equivalence, byKind, Label, Counting, CountingType}
 use Rattle.counting_theory.specs.Encoding.{typePayload, header, encode, typeOf}
 use Rattle.counting_theory.specs.WellFormed.{fieldsOf, fieldCounts}
 use Rattle.type_arena.specs.declared.level.Level.{Level}
-use Rattle.type_arena.specs.Inside.Arena.{byFlag, labelAt}
+use Rattle.type_arena.specs.Inside.Arena.{labelAt}
 use Rattle.type_arena.specs.Inside.Addend.{front, body, rest}
 use Rattle.removal.specs.Difference.{Taken, short, gone, left, kept, emptied, takenNode, differenceStep, differenceNode, difference}
 use Rattle.removal.specs.Removed.{taken}
@@ -24,12 +24,8 @@ use Rattle.removal.specs.Inside.Removing.{WholeRun, keepsCounts, bytesLe
 use Rattle.counting_theory.proofs.WellFormed.Tests.{implies}
 use Rattle.counting_theory.proofs.WellFormed.Nodes.{fieldCounts-parts}
 use Rattle.type_arena.proofs.FirstAddend.{header-first, coded-type, type-empty}
-use Rattle.type_arena.proofs.Runs.{Head}
+use Rattle.type_arena.proofs.Runs.{At, order, Head}
 use Rattle.removal.proofs.OnBytes.Placing.{followed-empty, followed-none, followed-tests}
-
--- the equivalence that a level is by
-abbrev pub At : Level → Equivalence
-At level = byFlag (level .label)
 
 encode-node : (l : Label) (a : Payload) (c s : CountingType) → encode (node l a c s) ≡ encode (node l a c nil) ++ encode s
 unfolding encode
@@ -58,9 +54,6 @@ node-bytes limit (left a) l (some c) (some s) = kept-bytes limit l a c s
 -- one step: p is what is left of the first addend, and x′ and y′ follow
 abbrev pub Step : Equivalence → ℕ → List ℕ → List ℕ → Option (List ℕ) → List ℕ → List ℕ → Type 0
 Step e limit x y p x′ y′ = runLeft e limit x y ≡ followed p (runLeft e limit x′ y′)
-
-abbrev pub order : Equivalence → List ℕ → List ℕ → Ordering
-order e x y = compareLabel (labelAt e x 0) (labelAt e y 0)
 
 -- a count that is not above the limit
 within-limit : (limit n : ℕ) (z : List ℕ) → cond ((leb n limit && true) && true) (some z) none ≡ unless (ltb limit n) (some z)

@@ -5,7 +5,7 @@ use mathlib.Core.List.{List, [], _++_}
 use mathlib.Core.Logic.{_↔_}
 use mathlib.Core.Option.{Option, none, some}
 use Prim.Native.Nat.{ℕ, _+_, _-_, _/_, _≤_, _<_}
-use native.Mathlib.Nat.{add-zero}
+use native.Mathlib.Nat.{le-refl}
 use native.Mathlib.Omega.{arith}
 use lib.Dec.{eqb}
 use lib.ListN.{length, length-append}
@@ -19,26 +19,27 @@ use Rattle.counting_theory.specs.WellFormed.{maxTotal, fieldsOf}
 use Rattle.type_arena.specs.declared.level.Level.{Level}
 use Rattle.type_arena.specs.Inside.Arena.{headerOf}
 use Rattle.type_arena.specs.Inside.Addend.{front, body}
+use Rattle.type_arena.specs.Inside.Runs.{insideOf}
 use Rattle.type_arena.proofs.FirstAddend.{body-rest, front-rest}
 use Rattle.type_arena.proofs.RecordBytes.{length-header}
-use Rattle.type_arena.proofs.Runs.{Head}
+use Rattle.type_arena.proofs.Runs.{At, Head}
 use Rattle.byte_records.proofs.Sets.{sets-last}
 use Rattle.removal.specs.declared.Remainder.the-variants.{Bytes, NotPart}
 use Rattle.removal.specs.Inside.Removing.{WholeRun, runLeft, addendLeft, placed, unless, RemovedSoFar, AddendRemoved, remainderAt}
 use Rattle.removal.proofs.CountLimit.{run-limit}
 use Rattle.removal.proofs.OnBytes.Placing.{unless-none, unless-set, placed-none, placed-some, Found, found, lost}
-use Rattle.removal.proofs.OnBytes.Steps.{At, part-out}
+use Rattle.removal.proofs.OnBytes.Steps.{part-out}
 use Rattle.removal.proofs.OnBytes.OneAddend.{counts, headed, same-left, other-left, inside-left, left-short}
 
-module _ {level : Level} (limit : ℕ) {x y : List ℕ} (h : Head level x) where
+module _ {level : Level} (limit : ℕ) {x : List ℕ} (y : List ℕ) (h : Head level x) where
   pub addend-lost : (out out′ : List ℕ) (at : ℕ) → addendLeft (At level) limit x y ≡ none → AddendRemoved (At level) limit x y out at out′ at true
-  addend-lost out out′ at z = record { room = omega arith; left = unless-set _ ∙ sym (ap (placed out at) z ∙ placed-none out at) }
+  addend-lost out out′ at z = record { from = le-refl at; room = omega arith; left = unless-set _ ∙ sym (ap (placed out at) z ∙ placed-none out at) }
 
   -- bytes that are left and stored
   stored-some : {out out′ : List ℕ} {at k : ℕ} (z : List ℕ) → addendLeft (At level) limit x y ≡ some z → out′ ≡ sets out at z → k ≡ at + length z →
       length z ≤ length (front x) → AddendRemoved (At level) limit x y out at out′ k false
   unfolding unless
-  stored-some {out} {at = at} z a b c d = rw (b, c) (record { room = omega arith; left = rw a (placed-some out at false z) })
+  stored-some {out} {at = at} z a b c d = rw (b, c) (record { from = omega arith; room = omega arith; left = rw a (placed-some out at false z) })
 
   -- equal counts: nothing is left of equal bytes
   pub addend-gone : (out : List ℕ) (at : ℕ) (r : Bool) {u v : List ℕ} → Head level y → typeCount x 0 ≡ typeCount y 0 → u ≡ body x → v ≡ body y → (r ≡ true) ↔ (u ≡ v) →
@@ -60,23 +61,32 @@ module _ {level : Level} (limit : ℕ) {x y : List ℕ} (h : Head level x) where
       stored-some (H ++ b) s (c ∙ rw (stored, a, k, span, d) (sets-last H b out at)) (omega (arith, length-append H b, sixteen))
       (omega (arith, length-append H b, sixteen, body-rest (h .first), front-rest (h .first)))
 
-  pub addend-kept : (out out₁ out₂ : List ℕ) (at left m n kind key : ℕ) {u v : List ℕ} → typeCount y 0 < typeCount x 0 → left ≡ typeCount x 0 - typeCount y 0 → left ≤ limit →
-      m ≡ cond (not (level .field) && eqb (typeKind x 0) recordKind) left maxTotal → u ≡ body x → v ≡ body y →
-      remainderAt (Bytes n) out₁ (at + typeSize) ≡ placed out (at + typeSize) (runLeft (At level) m u v) → kind ≡ typeKind x 0 → key ≡ typeKey x 0 →
-      out₂ ≡ sets out₁ at (headerOf kind key (n / typeSize + 1) (counts left)) → AddendRemoved (At level) limit x y out at out₂ (at + typeSize + n) false
-  unfolding remainderAt
-  addend-kept out out₁ out₂ at left m n kind key i j k z p q w a b c =
-      let f = found out out₁ (at + typeSize) (at + typeSize + n) (runLeft (At level) m (body x) (body y)) (rw (p, q) at w) in
-      under-header left (f .bytes) (inside-left limit y h left m i j k z ∙ ap (headed (typeKind x 0) (typeKey x 0) left) (f .is))
-      (left-short m (body y) (h .first .in-body) (f .is)) (f .stored) (omega (arith, f .ends)) a b c
+  -- what the run inside has answered, for the count that is left
+  module _ (left m : ℕ) {inner : Level} {u v : List ℕ} (i : typeCount y 0 < typeCount x 0) (j : left ≡ typeCount x 0 - typeCount y 0) (k : left ≤ limit)
+      (l : inner ≡ insideOf level (typeKind x 0)) (z : m ≡ cond (inner .field) left maxTotal) (p : u ≡ body x) (q : v ≡ body y) where
+    by-inside : addendLeft (At level) limit x y ≡ headed (typeKind x 0) (typeKey x 0) left (runLeft (At inner) m u v)
+    by-inside = rw (p, q, l) (inside-left limit y h left m i j k (z ∙ ap (λ o. cond (o .field) left maxTotal) l))
 
-  pub addend-not-part : (out out₁ : List ℕ) (at left m : ℕ) {u v : List ℕ} → typeCount y 0 < typeCount x 0 → left ≡ typeCount x 0 - typeCount y 0 → left ≤ limit →
-      m ≡ cond (not (level .field) && eqb (typeKind x 0) recordKind) left maxTotal → u ≡ body x → v ≡ body y →
-      remainderAt NotPart out₁ (at + typeSize) ≡ placed out (at + typeSize) (runLeft (At level) m u v) → AddendRemoved (At level) limit x y out at out₁ at true
-  unfolding remainderAt headed
-  addend-not-part out out₁ at left m {u} {v} i j k z p q w =
-      let inside : runLeft (At level) m (body x) (body y) ≡ none = rw (p, q) at (lost out (at + typeSize) (runLeft (At level) m u v) w) in
-      addend-lost out out₁ at (inside-left limit y h left m i j k z ∙ ap (headed (typeKind x 0) (typeKey x 0) left) inside)
+    pub inside-fits : (out out₁ : List ℕ) (at n : ℕ) → remainderAt (Bytes n) out₁ at ≡ placed out at (runLeft (At inner) m u v) → n ≤ length (body x)
+    unfolding remainderAt
+    inside-fits out out₁ at n w =
+        let f = found out out₁ at (at + n) (runLeft (At level) m (body x) (body y)) (rw (p, q, l) at w) in
+        omega (arith, f .ends, left-short m (body y) (h .first .in-body) (f .is))
+
+    pub addend-kept : (out out₁ out₂ : List ℕ) (at n kind key : ℕ) → remainderAt (Bytes n) out₁ (at + typeSize) ≡ placed out (at + typeSize) (runLeft (At inner) m u v) →
+        kind ≡ typeKind x 0 → key ≡ typeKey x 0 → out₂ ≡ sets out₁ at (headerOf kind key (n / typeSize + 1) (counts left)) →
+        AddendRemoved (At level) limit x y out at out₂ (at + typeSize + n) false
+    unfolding remainderAt
+    addend-kept out out₁ out₂ at n kind key w a b c =
+        let f = found out out₁ (at + typeSize) (at + typeSize + n) (runLeft (At inner) m u v) w in
+        under-header left (f .bytes) (by-inside ∙ ap (headed (typeKind x 0) (typeKey x 0) left) (f .is))
+        (omega (arith, f .ends, inside-fits out out₁ (at + typeSize) n w)) (f .stored) (omega (arith, f .ends)) a b c
+
+    pub addend-not-part : (out out₁ : List ℕ) (at : ℕ) → remainderAt NotPart out₁ (at + typeSize) ≡ placed out (at + typeSize) (runLeft (At inner) m u v) →
+        AddendRemoved (At level) limit x y out at out₁ at true
+    unfolding remainderAt headed
+    addend-not-part out out₁ at w =
+        addend-lost out out₁ at (by-inside ∙ ap (headed (typeKind x 0) (typeKey x 0) left) (lost out (at + typeSize) (runLeft (At inner) m u v) w))
 
 -- a run, once its tail is known
 module _ {level : Level} {limit : ℕ} {a b out₀ t out : List ℕ} {k₀ k : ℕ} where

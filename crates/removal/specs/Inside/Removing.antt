@@ -69,11 +69,13 @@ unless false o = o
 -- what is left of a by b is stored from byte k₀ on, but for what is left of the tail t of a, which comes next
 pub record RemovedSoFar (level : Level) (limit : ℕ) (a b out₀ : List ℕ) (k₀ : ℕ) (lacks₀ : Bool) (t out : List ℕ) (k : ℕ) (lacks : Bool) : Type 0 where
   pub tail : WholeRun level limit t
+  pub from : k₀ ≤ k
   pub room : k + length t ≤ k₀ + length a
   pub left : placed out k (unless lacks (runLeft (byFlag (level .label)) limit t [])) ≡ placed out₀ k₀ (unless lacks₀ (runLeft (byFlag (level .label)) limit a b))
 
 -- what is left of the first addend of x by that of y is stored from byte k₀ on
 pub record AddendRemoved (e : Equivalence) (limit : ℕ) (x y out₀ : List ℕ) (k₀ : ℕ) (out : List ℕ) (k : ℕ) (lacks : Bool) : Type 0 where
+  pub from : k₀ ≤ k
   pub room : k ≤ k₀ + length (front x)
   pub left : unless lacks (some (out, k)) ≡ placed out₀ k₀ (addendLeft e limit x y)
 
