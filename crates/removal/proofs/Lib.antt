@@ -10,3 +10,4 @@ pub mod Trials
 pub mod SameBytes
 pub mod CountLimit
 pub mod OnBytes
+pub mod WholeTypes

@@ -7,7 +7,7 @@ use Prim.Native.Nat.{ℕ, _+_}
 use native.Mathlib.Omega.{arith}
 use lib.ListN.{length, length-append}
 use lib.Seq.{sets}
-use Rattle.removal.specs.declared.Remainder.the-variants.{Bytes, NotPart}
+use Rattle.removal.specs.declared.pass.Remainder.the-variants.{Bytes, NotPart}
 use Rattle.removal.specs.Inside.Removing.{followed, placed, unless, remainderAt}
 use Rattle.byte_records.proofs.Sets.{sets-append}
 use Rattle.counting_theory.proofs.Trie.Canonical.{some-none}

@@ -24,7 +24,7 @@ use Rattle.type_arena.proofs.FirstAddend.{body-rest, front-rest}
 use Rattle.type_arena.proofs.RecordBytes.{length-header}
 use Rattle.type_arena.proofs.Runs.{At, Head}
 use Rattle.byte_records.proofs.Sets.{sets-last}
-use Rattle.removal.specs.declared.Remainder.the-variants.{Bytes, NotPart}
+use Rattle.removal.specs.declared.pass.Remainder.the-variants.{Bytes, NotPart}
 use Rattle.removal.specs.Inside.Removing.{WholeRun, runLeft, addendLeft, placed, unless, RemovedSoFar, AddendRemoved, remainderAt}
 use Rattle.removal.proofs.CountLimit.{run-limit}
 use Rattle.removal.proofs.OnBytes.Placing.{unless-none, unless-set, placed-none, placed-some, Found, found, lost}

@@ -14,8 +14,8 @@ use Rattle.type_arena.specs.declared.level.Level.{Level}
 use Rattle.type_arena.specs.Inside.Arena.{byFlag, labelAt}
 use Rattle.type_arena.specs.Inside.Addend.{front, body, Coded}
 use Rattle.type_arena.specs.Inside.Runs.{TypeRun}
-use Rattle.removal.specs.declared.Remainder.{Remainder}
-use Rattle.removal.specs.declared.Remainder.the-variants.{Bytes, NotPart}
+use Rattle.removal.specs.declared.pass.Remainder.{Remainder}
+use Rattle.removal.specs.declared.pass.Remainder.the-variants.{Bytes, NotPart}
 use Rattle.removal.specs.Difference.{takenNode, difference}
 use Rattle.removal.specs.Removed.{taken}
 

@@ -6,19 +6,19 @@ use borrow.Fn.Kinds.{In}
 use borrow.Fn.PlainCycle.{Measures, is, falls, and}
 use Rattle.type_arena.proofs.Runs.{rank}
 use Rattle.removal.proofs.OnBytes.RemovalLoop.{State}
-use Rattle.removal.proofs.remove_addend.Reads as remove-addend
-use Rattle.removal.proofs.remove_addend.Kinds as remove-addend-kinds
-use Rattle.removal.proofs.+remove_addend+remove_run+remove_union.Lts-remove_addend as remove-addend-lts
-use Rattle.removal.proofs.remove_run.Reads as remove-run
-use Rattle.removal.proofs.remove_run.Kinds as remove-run-kinds
-use Rattle.removal.proofs.+remove_addend+remove_run+remove_union.Lts-remove_run as remove-run-lts
-use Rattle.removal.proofs.remove_union.Reads as remove-union
-use Rattle.removal.proofs.remove_union.Kinds as remove-union-kinds
-use Rattle.removal.proofs.+remove_addend+remove_run+remove_union.Lts-remove_union as remove-union-lts
+use Rattle.removal.proofs.pass.remove_addend.Reads as remove-addend
+use Rattle.removal.proofs.pass.remove_addend.Kinds as remove-addend-kinds
+use Rattle.removal.proofs.pass.+remove_addend+remove_run+remove_union.Lts-remove_addend as remove-addend-lts
+use Rattle.removal.proofs.pass.remove_run.Reads as remove-run
+use Rattle.removal.proofs.pass.remove_run.Kinds as remove-run-kinds
+use Rattle.removal.proofs.pass.+remove_addend+remove_run+remove_union.Lts-remove_run as remove-run-lts
+use Rattle.removal.proofs.pass.remove_union.Reads as remove-union
+use Rattle.removal.proofs.pass.remove_union.Kinds as remove-union-kinds
+use Rattle.removal.proofs.pass.+remove_addend+remove_run+remove_union.Lts-remove_union as remove-union-lts
 use Rattle.byte_records.proofs.store.put_bytes.Reads as put-bytes-reads
-use Rattle.removal.proofs.limit_inside.Reads as limit-inside-reads
-use Rattle.removal.proofs.passes.Reads as passes-reads
-use Rattle.removal.proofs.same_bytes.Reads as same-bytes-reads
+use Rattle.removal.proofs.pass.limit_inside.Reads as limit-inside-reads
+use Rattle.removal.proofs.pass.passes.Reads as passes-reads
+use Rattle.removal.proofs.pass.same_bytes.Reads as same-bytes-reads
 use Rattle.type_arena.proofs.addend.body_of.Reads as body-of-reads
 use Rattle.type_arena.proofs.addend.keep.Reads as keep-reads
 use Rattle.type_arena.proofs.addend.rest_of.Reads as rest-of-reads

@@ -7,8 +7,8 @@ use Rattle.counting_theory.specs.Label.{Equivalence}
 use Rattle.type_arena.specs.Inside.Addend.{Coded}
 use Rattle.type_arena.proofs.FirstAddend.{headed}
 use Rattle.removal.proofs.CountLimit.{Seeking, seeking-start, seeking-first, seeking-next, seeking-found, seeking-done}
-use Rattle.removal.proofs.passes.Statement.{statement}
-use Rattle.removal.proofs.passes.Tie as tie
+use Rattle.removal.proofs.pass.passes.Statement.{statement}
+use Rattle.removal.proofs.pass.passes.Tie as tie
 
 abbrev Inv-loop : tie.InvT-loop
 Inv-loop a limit x₀ x = (e : Equivalence) (field : Bool) → Coded e field a → Seeking e field limit a x

@@ -11,9 +11,9 @@ use Rattle.type_arena.proofs.Runs.{Head, head, rank-inside}
 use Rattle.removal.proofs.OnBytes.OneAddend.{short-left, over-left}
 use Rattle.removal.proofs.OnBytes.RemovalLoop.{whole-inside}
 use Rattle.removal.proofs.OnBytes.Stored.{addend-lost, addend-gone, inside-fits, addend-kept, addend-not-part}
-use Rattle.removal.proofs.remove_addend.Reads as remove-addend
-use Rattle.removal.proofs.+remove_addend+remove_run+remove_union.Lts-remove_addend as remove-addend-lts
-use Rattle.removal.proofs.+remove_addend+remove_run+remove_union.Proof.Claims.{addend-at, addend-calls}
+use Rattle.removal.proofs.pass.remove_addend.Reads as remove-addend
+use Rattle.removal.proofs.pass.+remove_addend+remove_run+remove_union.Lts-remove_addend as remove-addend-lts
+use Rattle.removal.proofs.pass.+remove_addend+remove_run+remove_union.Proof.Claims.{addend-at, addend-calls}
 
 module _ (t : ℕ) where
   -- what is known of the two first addends

@@ -10,9 +10,9 @@ use Rattle.type_arena.specs.Inside.LabelOrder.{orderingOf}
 use Rattle.type_arena.proofs.FirstAddend.{headed}
 use Rattle.type_arena.proofs.Runs.{Head, head, same-kinds}
 use Rattle.removal.proofs.OnBytes.RemovalLoop.{start, turn-less, turn-more, turn-same, part-done, whole-done, lacks-before, lacks-now}
-use Rattle.removal.proofs.remove_run.Reads as remove-run
-use Rattle.removal.proofs.+remove_addend+remove_run+remove_union.Lts-remove_run as remove-run-lts
-use Rattle.removal.proofs.+remove_addend+remove_run+remove_union.Proof.Claims.{run-at, Inv-loop, μ-loop, run-calls}
+use Rattle.removal.proofs.pass.remove_run.Reads as remove-run
+use Rattle.removal.proofs.pass.+remove_addend+remove_run+remove_union.Lts-remove_run as remove-run-lts
+use Rattle.removal.proofs.pass.+remove_addend+remove_run+remove_union.Proof.Claims.{run-at, Inv-loop, μ-loop, run-calls}
 
 module _ (t : ℕ) where
   -- what is known of the two first addends in a turn

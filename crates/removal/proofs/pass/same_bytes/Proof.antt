@@ -6,8 +6,8 @@ use lib.ListN.{length}
 use borrow.Author.Needs.{needs}
 use Rattle.byte_records.specs.Number.{numberAt}
 use Rattle.removal.proofs.SameBytes.{Agree, agree-start, word-in, agree-next, agree-done}
-use Rattle.removal.proofs.same_bytes.Statement.{statement}
-use Rattle.removal.proofs.same_bytes.Tie as tie
+use Rattle.removal.proofs.pass.same_bytes.Statement.{statement}
+use Rattle.removal.proofs.pass.same_bytes.Tie as tie
 
 abbrev Inv-loop : tie.InvT-loop
 Inv-loop a b i₀ i = Agree a b i

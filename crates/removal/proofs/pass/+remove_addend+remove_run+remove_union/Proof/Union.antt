@@ -6,12 +6,11 @@ use native.Mathlib.Omega.{arith}
 use borrow.Author.Needs.{needs}
 use borrow.Author.Tests.{not-false}
 use Rattle.removal.proofs.OnBytes.Stored.{run-lost, run-passes, run-stored, tail-limit}
-use Rattle.removal.proofs.remove_union.Reads as remove-union
-use Rattle.removal.proofs.+remove_addend+remove_run+remove_union.Lts-remove_union as remove-union-lts
-use Rattle.removal.proofs.+remove_addend+remove_run+remove_union.Proof.Claims.{union-at, union-calls}
+use Rattle.removal.proofs.pass.remove_union.Reads as remove-union
+use Rattle.removal.proofs.pass.+remove_addend+remove_run+remove_union.Lts-remove_union as remove-union-lts
+use Rattle.removal.proofs.pass.+remove_addend+remove_run+remove_union.Proof.Claims.{union-at, union-calls}
 
 module _ (t : ℕ) where
-
   pub remove-run-requires : remove-union-lts.Need-remove-run-requires (union-calls t) (union-at t) remove-union.Post
   remove-run-requires c κs = (omega (arith, c .before .before .before .before .before .before .pre .0), c .before .before .before .before .before .before .pre .1)
 

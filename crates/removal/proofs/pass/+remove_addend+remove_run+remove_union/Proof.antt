@@ -3,18 +3,18 @@ pub mod Claims
 pub mod Addend
 pub mod Run
 pub mod Union
-use Rattle.removal.proofs.remove_addend.Reads as remove-addend
-use Rattle.removal.proofs.+remove_addend+remove_run+remove_union.Lts-remove_addend as remove-addend-lts
-use Rattle.removal.proofs.remove_run.Reads as remove-run
-use Rattle.removal.proofs.+remove_addend+remove_run+remove_union.Lts-remove_run as remove-run-lts
-use Rattle.removal.proofs.remove_union.Reads as remove-union
-use Rattle.removal.proofs.+remove_addend+remove_run+remove_union.Lts-remove_union as remove-union-lts
-use Rattle.removal.proofs.+remove_addend+remove_run+remove_union.{statement}
-use Rattle.removal.proofs.+remove_addend+remove_run+remove_union.Tie.{close}
-use Rattle.removal.proofs.+remove_addend+remove_run+remove_union.Proof.Claims.{μ-addend, μ-run, μ-union, addend-at, run-at, union-at, Inv-loop, μ-loop, addend-calls, run-calls, union-calls}
-use Rattle.removal.proofs.+remove_addend+remove_run+remove_union.Proof.Addend as addend
-use Rattle.removal.proofs.+remove_addend+remove_run+remove_union.Proof.Run as run
-use Rattle.removal.proofs.+remove_addend+remove_run+remove_union.Proof.Union as union
+use Rattle.removal.proofs.pass.remove_addend.Reads as remove-addend
+use Rattle.removal.proofs.pass.+remove_addend+remove_run+remove_union.Lts-remove_addend as remove-addend-lts
+use Rattle.removal.proofs.pass.remove_run.Reads as remove-run
+use Rattle.removal.proofs.pass.+remove_addend+remove_run+remove_union.Lts-remove_run as remove-run-lts
+use Rattle.removal.proofs.pass.remove_union.Reads as remove-union
+use Rattle.removal.proofs.pass.+remove_addend+remove_run+remove_union.Lts-remove_union as remove-union-lts
+use Rattle.removal.proofs.pass.+remove_addend+remove_run+remove_union.{statement}
+use Rattle.removal.proofs.pass.+remove_addend+remove_run+remove_union.Tie.{close}
+use Rattle.removal.proofs.pass.+remove_addend+remove_run+remove_union.Proof.Claims.{μ-addend, μ-run, μ-union, addend-at, run-at, union-at, Inv-loop, μ-loop, addend-calls, run-calls, union-calls}
+use Rattle.removal.proofs.pass.+remove_addend+remove_run+remove_union.Proof.Addend as addend
+use Rattle.removal.proofs.pass.+remove_addend+remove_run+remove_union.Proof.Run as run
+use Rattle.removal.proofs.pass.+remove_addend+remove_run+remove_union.Proof.Union as union
 
 pub +remove-addend+remove-run+remove-union-spec : {M : Type 1} → statement M
 +remove-addend+remove-run+remove-union-spec =
