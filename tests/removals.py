@@ -1,5 +1,5 @@
-"""Trials of call 7 by document 02, written without the crates: subtracts the maps of merges.py from places to counts, and takes what is left
-only if it is well formed and, merged with the part, gives the whole.
+"""Trials of call 7 by document 02, written without the crates: subtracts the maps of merges.py from places to counts, and takes what is
+left only if it is well formed and, merged with the part, gives the whole.
 """
 from collections import Counter
 
@@ -17,7 +17,7 @@ NO_WEIGHTS = record(field(2, array()))
 
 
 def rest_of(whole, part, equivalence):
-    """The rows of the type that gives the whole when it is merged with the part, or None. Counts add at each place, so no other rows can."""
+    """The rows of the type that merged with the part gives the whole, or None. Counts add at each place, so no other rows can."""
     counts = Counter(dict(places(rows_in(whole), equivalence)))
     counts.subtract(dict(places(rows_in(part), equivalence)))
     rows = rows_of(+counts)
@@ -148,8 +148,8 @@ def values():
     yield "array-in-only-field-left", record(field(1, array(number(5)))), record(field(1, array(number(3))))
 
 
-# Under kind a field's difference may come up to that of its record, and no further. The part may have the field, only keys behind it, only keys
-# before it, or no field.
+# Under kind a field's difference may come up to that of its record, and no further. The part may have the field, only keys behind it, only
+# keys before it, or no field.
 BESIDE_RECORDS = {
     "field-lessened-to-record": (counted(3, {1: 3}), counted(2, {1: 2})),
     "field-lessened-above-record": (counted(3, {1: 3}), counted(2, {1: 1})),

@@ -6,11 +6,15 @@ use crate::types;
 use crate::value::ARRAY;
 use std::ops::Bound::{Included, Unbounded};
 
+/// How often a change is sought that leaves a type well formed.
+const TRIES: usize = 9;
+
 /// A well-formed type with places of a well-formed one, none counted higher there.
 pub fn lessened(whole: &Profile, equivalence: Equivalence, random: &mut Random) -> Profile {
     let mut lesser = Lesser {
         whole,
         equivalence,
+        leaves_none: random.one_in(2),
         part: Profile::new(),
         random,
     };
@@ -24,32 +28,44 @@ pub fn lessened(whole: &Profile, equivalence: Equivalence, random: &mut Random) 
 struct Lesser<'a> {
     whole: &'a Profile,
     equivalence: Equivalence,
+    /// Whether it takes all that is inside an addend of which it takes all.
+    leaves_none: bool,
     part: Profile,
     random: &'a mut Random,
 }
 
 impl Lesser<'_> {
-    /// The places of the whole that are one step further than this one.
-    fn next(&self, around: &[Step]) -> Vec<(Place, u64)> {
+    /// The places of the whole from this one on that begin with it.
+    fn inside(&self, around: &[Step]) -> Vec<(Place, u64)> {
         let from = self.whole.range::<[Step], _>((Included(around), Unbounded));
         from.take_while(|(place, _)| place.starts_with(around))
-            .filter(|(place, _)| place.len() == around.len() + 1)
             .map(|(place, count)| (place.clone(), *count))
             .collect()
     }
 
-    /// A number within these bounds, mostly one of them.
+    /// Those that are one step further.
+    fn next(&self, around: &[Step]) -> Vec<(Place, u64)> {
+        let mut next = self.inside(around);
+        next.retain(|(place, _)| place.len() == around.len() + 1);
+        next
+    }
+
+    /// A number within these bounds, mostly at or near one of them.
     fn between(&mut self, least: u64, most: u64) -> u64 {
-        match self.random.below(8) {
-            0..=2 => least,
-            3..=5 => most,
-            6 => most.saturating_sub(1).max(least),
+        match self.random.below(4) {
+            0 => least,
+            1 => most,
+            2 => most.saturating_sub(1).max(least),
             _ => least + self.random.up_to(most - least + 1) - 1,
         }
     }
 
     fn addend(&mut self, mut place: Place, count: u64) {
         if count == 0 {
+            return;
+        }
+        if self.leaves_none && count == self.whole[&place] {
+            self.part.extend(self.inside(&place));
             return;
         }
         self.part.insert(place.clone(), count);
@@ -89,7 +105,10 @@ impl Lesser<'_> {
 
 /// A well-formed type with a count one higher or lower than another, or without something in it; the same if none was found.
 pub fn nudged(profile: &Profile, equivalence: Equivalence, random: &mut Random) -> Profile {
-    for _ in 0..if profile.is_empty() { 0 } else { 9 } {
+    if profile.is_empty() {
+        return profile.clone();
+    }
+    for _ in 0..TRIES {
         let bytes = types::write(&nudge(profile, random));
         if let Some(found) = types::read(&bytes, equivalence) {
             return found;

@@ -40,14 +40,17 @@ type Types = BTreeMap<Vec<u8>, Profile>;
 pub fn compare(case: &mut Case) {
     for small in SMALL {
         for equivalence in EQUIVALENCES {
-            let types = small.types(equivalence);
-            for (part, profile) in &types {
-                let rests = rests(case, profile, &types);
-                for whole in types.keys() {
-                    let rest = rests.get(whole).copied();
-                    remove(case, [whole, part], equivalence, rest);
-                }
-            }
+            every_pair(case, &small.types(equivalence), equivalence);
+        }
+    }
+}
+
+fn every_pair(case: &mut Case, types: &Types, equivalence: Equivalence) {
+    for (part, profile) in types {
+        let rests = rests(case, profile, types);
+        for whole in types.keys() {
+            let rest = rests.get(whole).copied();
+            remove(case, [whole, part], equivalence, rest);
         }
     }
 }
