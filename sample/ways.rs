@@ -203,7 +203,7 @@ fn compare(log: &[u8], fixed: Fixed) -> bool {
     };
     println!("{verdict}");
     let rest = fixed.without_shift(log);
-    print_line("without the first 100 messages", "", &rest);
+    print_line(&format!("without the first {SHIFT} messages"), "", &rest);
     println!();
     same || refused
 }
