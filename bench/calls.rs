@@ -4,6 +4,7 @@
 
 mod arena;
 mod comparing;
+mod front;
 mod growth;
 mod inferences;
 mod judges;
