@@ -45,16 +45,12 @@ static TYPES: Pair = Pair {
 };
 
 fn workload(pair: &'static Pair, name: &str, equivalence: u64, first: Vec<u8>) -> Workload {
-    let second = Vec::new();
-    Workload {
-        pair,
-        name: name.to_string(),
-        inputs: Inputs {
-            first,
-            second,
-            equivalence,
-        },
-    }
+    let inputs = Inputs {
+        first,
+        second: Vec::new(),
+        equivalence,
+    };
+    Workload::accepted(pair, name, inputs)
 }
 
 /// Workloads with tables of n records or a few less.
