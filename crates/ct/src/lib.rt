@@ -75,12 +75,7 @@ pub extern "C" fn ct_read_text(text: &[u8], book: &[u8], table: &mut [u8]) -> An
 
 // Call 7: takes a part out of a whole type under an equivalence, into the arena.
 #[no_mangle]
-pub extern "C" fn ct_remove(
-    whole: &[u8],
-    part: &[u8],
-    equivalence: u64,
-    arena: &mut [u8],
-) -> Answer
+pub extern "C" fn ct_remove(whole: &[u8], part: &[u8], equivalence: u64, arena: &mut [u8]) -> Answer
     ensures { λ r. ⌜ answerLeft r (now (arena .exit)) []
         ≡ leaves (removed (now (whole .entry)) (now (part .entry)) equivalence (length (now (arena .entry)))) (now (arena .entry)) [] ⌝ }
 {

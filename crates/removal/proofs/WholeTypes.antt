@@ -5,7 +5,7 @@ use mathlib.Core.List.{List}
 use mathlib.Core.Option.{Option, none, some}
 use Prim.Native.Nat.{ℕ, _+_, _/_, _≤_, _<_}
 use native.Mathlib.Omega.{arith}
-use lib.Dec.{eqb, leb}
+use lib.Dec.{eqb}
 use lib.ListN.{length}
 use lib.Seq.{sets}
 use borrow.Author.Tests.{eqb-true, le-leb}
@@ -14,7 +14,7 @@ use Rattle.counting_theory.specs.Trie.{nil, node}
 use Rattle.counting_theory.specs.Label.{Equivalence, byKind, byLabel, Counting, CountingType}
 use Rattle.counting_theory.specs.Encoding.{typeSize, encode, typeOf}
 use Rattle.counting_theory.specs.WellFormed.{maxTotal, fieldsOf, fieldCounts, wellFormed, badTypeLength, IsType}
-use Rattle.counting_theory.specs.Answers.{equivalenceOf, Written, turnedDown}
+use Rattle.counting_theory.specs.Answers.{equivalenceOf, turnedDown}
 use Rattle.answers.specs.declared.Answered.the-variants.{Accepted, Refused}
 use Rattle.answers.specs.declared.Refusal.the-variants.{NotPart, Room}
 use Rattle.answers.specs.Inside.Front.{WrittenInFront}

@@ -18,14 +18,12 @@ ghost use mathlib.Core.Path.{_≡_};
 ghost use mathlib.Core.Bool.{Bool, true, not, cond};
 ghost use mathlib.Core.Logic.{_↔_};
 ghost use Prim.Native.Nat.{_+_, _%_, _^_, _<_};
-ghost use lib.Dec.{ltb};
 ghost use lib.ListN.{length};
 ghost use Rattle.counting_theory.specs.Label.{Equivalence, byKind};
-ghost use Rattle.counting_theory.specs.Encoding.{typeSize, typeKind, typeOf};
-ghost use Rattle.counting_theory.specs.Inside.TypeBytes.{typeCount};
+ghost use Rattle.counting_theory.specs.Encoding.{typeKind, typeOf};
 ghost use Rattle.counting_theory.specs.WellFormed.{maxTotal, fieldsOf};
 ghost use Rattle.type_arena.specs.Inside.Arena.{byFlag};
-ghost use Rattle.type_arena.specs.Inside.Addend.{Headed, Coded, Kept};
+ghost use Rattle.type_arena.specs.Inside.Addend.{Coded};
 ghost use Rattle.type_arena.specs.Inside.Runs.{TypeRun};
 ghost use Rattle.removal.specs.Inside.Removing.{Run, WholeRun, runLeft, placed, RemovedSoFar, AddendRemoved, remainderAt};
 

@@ -13,7 +13,7 @@ use Rattle.type_arena.specs.declared.level.Level.{Level}
 use Rattle.counting_theory.specs.Trie.{nil, node, total, largestBelow, largestTotal}
 use Rattle.counting_theory.specs.Label.{Equivalence, Label, fieldKind, compareLabel, Counting, CountingType}
 use Rattle.counting_theory.specs.Encoding.{typePayload, typeKind, typeOf, Tagged}
-use Rattle.counting_theory.specs.WellFormed.{maxTotal, withinLimit, depthInside, Shallow, IsType}
+use Rattle.counting_theory.specs.WellFormed.{maxTotal, depthInside, Shallow, IsType}
 use Rattle.type_arena.specs.Inside.Arena.{byFlag, labelAt}
 use Rattle.type_arena.specs.Inside.Addend.{body, rest, Coded, Union}
 use Rattle.type_arena.specs.Inside.Runs.{depthOf, TypeRun, insideOf}

@@ -5,7 +5,7 @@ use mathlib.Core.List.{List, [], _++_, append-nil}
 use mathlib.Core.Option.{Option, none, some}
 use Prim.Native.Nat.{ℕ, _+_, _-_, _/_, _≤_, _<_}
 use native.Mathlib.Omega.{arith}
-use lib.Dec.{eqb, leb}
+use lib.Dec.{eqb}
 use lib.ListN.{length}
 use borrow.Author.Tests.{eqb-true, le-leb, lt-leb}
 use Rattle.value_table.specs.Value.{recordKind}
@@ -14,7 +14,7 @@ use Rattle.counting_theory.specs.Trie.{nil, node, size}
 use Rattle.counting_theory.specs.Label.{Equivalence, byKind, Label, Counting, CountingType}
 use Rattle.counting_theory.specs.Encoding.{typeSize, typeKind, typeKey, typePayload, encode, typeOf}
 use Rattle.counting_theory.specs.Inside.TypeBytes.{typeCount}
-use Rattle.counting_theory.specs.WellFormed.{maxTotal, withinLimit, fieldsOf, fieldCounts}
+use Rattle.counting_theory.specs.WellFormed.{maxTotal, fieldsOf, fieldCounts}
 use Rattle.type_arena.specs.declared.level.Level.{Level}
 use Rattle.type_arena.specs.Inside.Arena.{labelAt, headerOf}
 use Rattle.type_arena.specs.Inside.Addend.{body, Coded}

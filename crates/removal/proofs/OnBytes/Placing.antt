@@ -1,14 +1,13 @@
 -- What may be left, stored from a byte on: laws of followed, unless and placed.
-use mathlib.Core.Path.{_≡_, refl, sym, ap, _∙_}
+use mathlib.Core.Path.{_≡_, refl, sym, ap}
 use mathlib.Core.Bool.{Bool, true, false, cond, _&&_, _||_}
-use mathlib.Core.List.{List, [], _++_, append-assoc}
+use mathlib.Core.List.{List, [], _++_}
 use mathlib.Core.Option.{Option, none, some}
 use Prim.Native.Nat.{ℕ, _+_}
 use native.Mathlib.Omega.{arith}
 use lib.ListN.{length, length-append}
 use lib.Seq.{sets}
-use Rattle.removal.specs.declared.pass.Remainder.the-variants.{Bytes, NotPart}
-use Rattle.removal.specs.Inside.Removing.{followed, placed, unless, remainderAt}
+use Rattle.removal.specs.Inside.Removing.{followed, placed, unless}
 use Rattle.byte_records.proofs.Sets.{sets-append}
 use Rattle.counting_theory.proofs.Trie.Canonical.{some-none}
 

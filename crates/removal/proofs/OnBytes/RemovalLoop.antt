@@ -1,29 +1,28 @@
 -- The loop of removal: what holds at its head, a turn of each kind, and what is stored once it is left.
 use mathlib.Core.Path.{_≡_, refl, sym, ap, _∙_}
 use mathlib.Core.Bool.{Bool, true, false, cond, not, _&&_, _||_, or-true}
-use mathlib.Core.List.{List, [], _∷_, _++_}
-use mathlib.Core.Logic.{_↔_}
+use mathlib.Core.List.{List, [], _∷_}
 use mathlib.Core.Option.{Option, none, some}
-use Prim.Native.Nat.{ℕ, _+_, _-_, _/_, _≤_, _<_, Ordering·lt as lt, Ordering·eq as eq, Ordering·gt as gt}
+use Prim.Native.Nat.{ℕ, _+_, _≤_, Ordering·lt as lt, Ordering·eq as eq, Ordering·gt as gt}
 use native.Mathlib.Nat.{le-refl}
 use native.Mathlib.Omega.{arith}
 use lib.Dec.{eqb, ltb}
 use lib.ListN.{length}
 use lib.Seq.{sets, length-sets}
 use Rattle.value_table.specs.Value.{recordKind}
-use Rattle.counting_theory.specs.Label.{Equivalence, byKind}
-use Rattle.counting_theory.specs.Encoding.{typePayload, typeSize, typeKind, typeKey, typeOf}
+use Rattle.counting_theory.specs.Label.{byKind}
+use Rattle.counting_theory.specs.Encoding.{typePayload, typeKind, typeOf}
 use Rattle.counting_theory.specs.Inside.TypeBytes.{typeCount}
-use Rattle.counting_theory.specs.WellFormed.{maxTotal, fieldsOf, fieldCounts}
+use Rattle.counting_theory.specs.WellFormed.{maxTotal, fieldCounts}
 use Rattle.counting_theory.proofs.WellFormed.Nodes.{fieldCounts-parts}
 use Rattle.counting_theory.proofs.Encoding.Header.{payload-count}
 use Rattle.type_arena.specs.declared.level.Level.{Level}
-use Rattle.type_arena.specs.Inside.Arena.{labelAt, headerOf}
+use Rattle.type_arena.specs.Inside.Arena.{labelAt}
 use Rattle.type_arena.specs.Inside.Addend.{front, body, rest, Kept}
 use Rattle.type_arena.specs.Inside.Runs.{TypeRun, insideOf}
-use Rattle.type_arena.proofs.FirstAddend.{body-rest, front-rest}
+use Rattle.type_arena.proofs.FirstAddend.{front-rest}
 use Rattle.type_arena.proofs.Runs.{At, order, Head}
-use Rattle.removal.specs.Inside.Removing.{WholeRun, runLeft, addendLeft, followed, placed, unless, RemovedSoFar, AddendRemoved}
+use Rattle.removal.specs.Inside.Removing.{WholeRun, runLeft, addendLeft, placed, unless, RemovedSoFar, AddendRemoved}
 use Rattle.removal.proofs.OnBytes.Placing.{unless-none, unless-set, placed-none, placed-some, placed-next}
 use Rattle.removal.proofs.OnBytes.Steps.{Step, step-less, step-more, step-same, whole-out}
 

@@ -1,12 +1,11 @@
 -- What is left of a run on its bytes, one addend at a time.
 use mathlib.Core.Path.{_≡_, refl, sym, ap, _∙_}
 use mathlib.Core.Bool.{Bool, true, false, cond, not, _&&_, _||_}
-use mathlib.Core.List.{List, [], _∷_, _++_, append-assoc, append-nil}
+use mathlib.Core.List.{List, [], _++_, append-assoc, append-nil}
 use mathlib.Core.Option.{Option, none, some}
-use Prim.Native.Nat.{ℕ, _+_, _≤_, _<_, Ordering·lt as lt, Ordering·eq as eq, Ordering·gt as gt}
+use Prim.Native.Nat.{ℕ, _+_, _<_, Ordering·lt as lt, Ordering·eq as eq, Ordering·gt as gt}
 use native.Mathlib.Omega.{arith}
 use lib.Dec.{eqb, leb, ltb}
-use lib.ListN.{length}
 use native.Mathlib.Decide.{decLt}
 use borrow.Author.Tests.{le-leb, lt-leb, le-ltb, lt-ltb}
 use Rattle.value_table.specs.Value.{recordKind}
@@ -20,7 +19,7 @@ use Rattle.type_arena.specs.Inside.Arena.{labelAt}
 use Rattle.type_arena.specs.Inside.Addend.{front, body, rest}
 use Rattle.removal.specs.Difference.{Taken, short, gone, left, kept, emptied, takenNode, differenceStep, differenceNode, difference}
 use Rattle.removal.specs.Removed.{taken}
-use Rattle.removal.specs.Inside.Removing.{WholeRun, keepsCounts, bytesLeft, runLeft, addendLeft, followed, unless}
+use Rattle.removal.specs.Inside.Removing.{WholeRun, bytesLeft, runLeft, addendLeft, followed, unless}
 use Rattle.counting_theory.proofs.WellFormed.Tests.{implies}
 use Rattle.counting_theory.proofs.WellFormed.Nodes.{fieldCounts-parts}
 use Rattle.type_arena.proofs.FirstAddend.{header-first, coded-type, type-empty}

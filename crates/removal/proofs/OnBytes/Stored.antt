@@ -1,18 +1,16 @@
 -- What is stored of a first addend and of a run, from what their parts have stored.
 use mathlib.Core.Path.{_≡_, refl, sym, ap, _∙_}
-use mathlib.Core.Bool.{Bool, true, false, cond, not, _&&_}
+use mathlib.Core.Bool.{Bool, true, false, cond, not}
 use mathlib.Core.List.{List, [], _++_}
 use mathlib.Core.Logic.{_↔_}
-use mathlib.Core.Option.{Option, none, some}
+use mathlib.Core.Option.{none, some}
 use Prim.Native.Nat.{ℕ, _+_, _-_, _/_, _≤_, _<_}
 use native.Mathlib.Nat.{le-refl}
 use native.Mathlib.Omega.{arith}
-use lib.Dec.{eqb}
 use lib.ListN.{length, length-append}
 use lib.Seq.{sets}
-use borrow.Author.Tests.{not-true, not-false}
-use Rattle.value_table.specs.Value.{recordKind}
-use Rattle.counting_theory.specs.Label.{Equivalence, byKind}
+use borrow.Author.Tests.{not-true}
+use Rattle.counting_theory.specs.Label.{byKind}
 use Rattle.counting_theory.specs.Encoding.{typeSize, typeKind, typeKey, typeOf}
 use Rattle.counting_theory.specs.Inside.TypeBytes.{typeCount}
 use Rattle.counting_theory.specs.WellFormed.{maxTotal, fieldsOf}
@@ -25,9 +23,9 @@ use Rattle.type_arena.proofs.RecordBytes.{length-header}
 use Rattle.type_arena.proofs.Runs.{At, Head}
 use Rattle.byte_records.proofs.Sets.{sets-last}
 use Rattle.removal.specs.declared.pass.Remainder.the-variants.{Bytes, NotPart}
-use Rattle.removal.specs.Inside.Removing.{WholeRun, runLeft, addendLeft, placed, unless, RemovedSoFar, AddendRemoved, remainderAt}
+use Rattle.removal.specs.Inside.Removing.{runLeft, addendLeft, placed, unless, RemovedSoFar, AddendRemoved, remainderAt}
 use Rattle.removal.proofs.CountLimit.{run-limit}
-use Rattle.removal.proofs.OnBytes.Placing.{unless-none, unless-set, placed-none, placed-some, Found, found, lost}
+use Rattle.removal.proofs.OnBytes.Placing.{unless-set, placed-none, placed-some, found, lost}
 use Rattle.removal.proofs.OnBytes.Steps.{part-out}
 use Rattle.removal.proofs.OnBytes.OneAddend.{counts, headed, same-left, other-left, inside-left, left-short}
 

@@ -1,11 +1,10 @@
 -- `same_bytes` meets its contract. The loop's invariant: the first i bytes agree.
 use mathlib.Core.Path.{refl, sym, ap, _∙_}
 use Prim.Native.Nat.{_-_}
-use native.Mathlib.Omega.{arith}
 use lib.ListN.{length}
 use borrow.Author.Needs.{needs}
 use Rattle.byte_records.specs.Number.{numberAt}
-use Rattle.removal.proofs.SameBytes.{Agree, agree-start, word-in, agree-next, agree-done}
+use Rattle.removal.proofs.SameBytes.{Agree, agree-start, agree-next, agree-done}
 use Rattle.removal.proofs.pass.same_bytes.Statement.{statement}
 use Rattle.removal.proofs.pass.same_bytes.Tie as tie
 

@@ -44,8 +44,10 @@ module _ (t : ℕ) where
 
   pub returns : remove-addend-lts.Need-returns (addend-calls t) (addend-at t) remove-addend.Post
   returns c =
-      let s = c .before .before .before .before .before .before .before .before .before in
-      addend-gone _ _ (x-head s) _ _ (c .same-bytes .result) (y-head s) (sym (c .before .before .before .before .before .count-at .ensures) ∙ c .before .before .before .if1 .taken ∙ c .before .before .before .before .count-at2 .ensures) (c .before .before .body-of .ensures) (c .before .body-of2 .ensures) (c .same-bytes .ensures)
+      let f = c .before .before .before in
+      let s = f .before .before .before .before .before .before in
+      let equal = sym (f .before .before .count-at .ensures) ∙ f .if1 .taken ∙ f .before .count-at2 .ensures in
+      addend-gone _ _ (x-head s) _ _ (c .same-bytes .result) (y-head s) equal (c .before .before .body-of .ensures) (c .before .body-of2 .ensures) (c .same-bytes .ensures)
 
   pub returns-2 : remove-addend-lts.Need-returns-2 (addend-calls t) (addend-at t) remove-addend.Post
   returns-2 c =
@@ -81,14 +83,19 @@ module _ (t : ℕ) where
 
   pub remove-union-requires : remove-addend-lts.Need-remove-union-requires (addend-calls t) (addend-at t) remove-addend.Post
   remove-union-requires c κs =
-      let s = c .before .before .before .before .before .before .before .before .before .before .before .before .before .before .before in
+      let i = c .before .before .before .before .before in
+      let s = i .before .before .before .before .before .before .before .before .before .before in
       let h = x-head s in
       let g = y-head s in
-      let l = c .before .before .before .before .before .inside .ensures ∙ ap (insideOf (s .args .level)) (c .before .before .before .before .before .before .kind-at .ensures) in
+      let l = i .inside .ensures ∙ ap (insideOf (s .args .level)) (i .before .kind-at .ensures) in
       let u = c .before .before .before .before .body-of3 .ensures in
       let v = c .before .before .before .body-of4 .ensures in (
         rw l (omega (arith, rank-inside h, s .pre .0)),
-        (rw (c .limit-inside .ensures, l, u) (whole-inside h (s .pre .1 .0 .0) _), rw (l, v, s .pre .1 .1 .0 .2) (g .in-body), omega (arith, ap length u, body-rest (h .first), s .pre .1 .1 .1)),
+        (
+          rw (c .limit-inside .ensures, l, u) (whole-inside h (s .pre .1 .0 .0) _),
+          rw (l, v, s .pre .1 .1 .0 .2) (g .in-body),
+          omega (arith, ap length u, body-rest (h .first), s .pre .1 .1 .1),
+        ),
       )
 
   pub enum-told : remove-addend-lts.Need-enum-told (addend-calls t) (addend-at t) remove-addend.Post
@@ -107,30 +114,43 @@ module _ (t : ℕ) where
 
   pub put-record-requires : remove-addend-lts.Need-put-record-requires (addend-calls t) (addend-at t) remove-addend.Post
   put-record-requires c κs =
-      let h = x-head (c .before .before .before .before .before .before .before .before .before .before .before .before .before .before .before .before .before .before .before .before .before .before .before) .first in
-      omega (arith, c .before .before .before .before .before .before .before .before .before .before .before .before .before .before .before .before .before .before .before .before .before .before .before .pre .1 .1 .1)
+      let s = c .before .before .before .before .before .before .before .before .before .before .before .before .before .before .before .before .before .before .before .before .before .before .before in
+      let h = x-head s .first in
+      omega (arith, s .pre .1 .1 .1)
 
   pub add-at : remove-addend-lts.Need-add-at (addend-calls t) (addend-at t) remove-addend.Post
   add-at c =
-      let h = x-head (c .before .before .before .before .before .before .before .before .before .before .before .before .before .before .before .before .before .before .before .before .before .before .before .before .before .before) .first in
-      omega (arith, c .before .before .before .before .before .before .before .before .before .before .before .before .before .before .before .before .before .before .before .before .before .before .before .before .before .before .pre .1 .1 .1)
+      let s = c .before .before .before .before .before .before .before .before .before .before .before .before .before .before .before .before .before .before .before .before .before .before .before .before .before .before in
+      let h = x-head s .first in
+      omega (arith, s .pre .1 .1 .1)
 
   pub add-at-2 : remove-addend-lts.Need-add-at-2 (addend-calls t) (addend-at t) remove-addend.Post
   add-at-2 c =
-      let s = c .before .before .before .before .before .before .before .before .before .before .before .before .before .before .before .before .before .before .before .before .before .before .before .before .before .before in
-      let l = c .before .before .before .before .before .before .before .before .before .before .before .before .before .before .before .before .inside .ensures ∙ ap (insideOf (s .args .level)) (c .before .before .before .before .before .before .before .before .before .before .before .before .before .before .before .before .before .kind-at .ensures) in
-      let r = rw (c .before .before .before .before .before .before .n .given .1) at (c .before .before .before .before .before .before .before .before .before .before .remove-union .ensures) in
-      omega (arith, s .pre .1 .1 .1, body-rest (x-head s .first), inside-fits _ _ (x-head s) _ _ (omega (arith, c .before .before .before .before .before .before .before .before .before .before .before .before .before .before .before .before .before .before .before .before .if1 .left, c .before .before .before .before .before .before .before .before .before .before .before .before .before .before .before .before .before .before .before .if2 .left, c .before .before .before .before .before .before .before .before .before .before .before .before .before .before .before .before .before .before .before .before .before .before .count-at .ensures, c .before .before .before .before .before .before .before .before .before .before .before .before .before .before .before .before .before .before .before .before .before .count-at2 .ensures)) (omega (arith, c .before .before .before .before .before .before .before .before .before .before .before .before .before .before .before .before .before .before .before .before .before .before .count-at .ensures, c .before .before .before .before .before .before .before .before .before .before .before .before .before .before .before .before .before .before .before .before .before .count-at2 .ensures)) (c .before .before .before .before .before .before .before .before .before .before .before .before .before .before .before .before .before .before .if3 .left) l (c .before .before .before .before .before .before .before .before .before .before .before .limit-inside .ensures) (c .before .before .before .before .before .before .before .before .before .before .before .before .before .before .before .body-of3 .ensures) (c .before .before .before .before .before .before .before .before .before .before .before .before .before .before .body-of4 .ensures) _ _ _ _ r)
+      let u = c .before .before .before .before .before .before .before .before .before .before in
+      let f = u .before .before .before .before .before .before .before .before in
+      let s = f .before .before .before .before .before .before .before .before in
+      let l = u .before .before .before .before .before .before .inside .ensures ∙ ap (insideOf (s .args .level)) (u .before .before .before .before .before .before .before .kind-at .ensures) in
+      omega (
+        arith,
+        s .pre .1 .1 .1,
+        body-rest (x-head s .first),
+        inside-fits _ _ (x-head s) _ _ (omega (arith, f .before .before .if1 .left, f .before .if2 .left, f .before .before .before .before .count-at .ensures, f .before .before .before .count-at2 .ensures))
+            (omega (arith, f .before .before .before .before .count-at .ensures, f .before .before .before .count-at2 .ensures)) (f .if3 .left) l (u .before .limit-inside .ensures) (u .before .before .before .before .before .body-of3 .ensures) (u .before .before .before .before .body-of4 .ensures) _ _ _ _
+            (rw (c .before .before .before .before .before .before .n .given .1) at (u .remove-union .ensures)),
+      )
 
   pub same-length : remove-addend-lts.Need-same-length (addend-calls t) (addend-at t) remove-addend.Post
   same-length c = c .before .before .before .before .remove-union .kept .1 .1 .0
 
   pub returns-4 : remove-addend-lts.Need-returns-4 (addend-calls t) (addend-at t) remove-addend.Post
   returns-4 c =
-      let s = c .before .before .before .before .before .before .before .before .before .before .before .before .before .before .before .before .before .before .before .before in
-      let l = c .before .before .before .before .before .before .before .before .before .before .inside .ensures ∙ ap (insideOf (s .args .level)) (c .before .before .before .before .before .before .before .before .before .before .before .kind-at .ensures) in
-      let r = rw (c .enum-told .given .1) at (c .before .before .before .before .remove-union .ensures) in
-      addend-not-part _ _ (x-head s) _ _ (omega (arith, c .before .before .before .before .before .before .before .before .before .before .before .before .before .before .if1 .left, c .before .before .before .before .before .before .before .before .before .before .before .before .before .if2 .left, c .before .before .before .before .before .before .before .before .before .before .before .before .before .before .before .before .count-at .ensures, c .before .before .before .before .before .before .before .before .before .before .before .before .before .before .before .count-at2 .ensures)) (omega (arith, c .before .before .before .before .before .before .before .before .before .before .before .before .before .before .before .before .count-at .ensures, c .before .before .before .before .before .before .before .before .before .before .before .before .before .before .before .count-at2 .ensures)) (c .before .before .before .before .before .before .before .before .before .before .before .before .if3 .left) l (c .before .before .before .before .before .limit-inside .ensures) (c .before .before .before .before .before .before .before .before .before .body-of3 .ensures) (c .before .before .before .before .before .before .before .before .body-of4 .ensures) _ _ _ r
+      let u = c .before .before .before .before in
+      let f = u .before .before .before .before .before .before .before .before in
+      let s = f .before .before .before .before .before .before .before .before in
+      let l = u .before .before .before .before .before .before .inside .ensures ∙ ap (insideOf (s .args .level)) (u .before .before .before .before .before .before .before .kind-at .ensures) in
+      addend-not-part _ _ (x-head s) _ _ (omega (arith, f .before .before .if1 .left, f .before .if2 .left, f .before .before .before .before .count-at .ensures, f .before .before .before .count-at2 .ensures))
+      (omega (arith, f .before .before .before .before .count-at .ensures, f .before .before .before .count-at2 .ensures)) (f .if3 .left) l (u .before .limit-inside .ensures) (u .before .before .before .before .before .body-of3 .ensures) (u .before .before .before .before .body-of4 .ensures) _ _ _
+      (rw (c .enum-told .given .1) at (u .remove-union .ensures))
 
   pub same-length-2 : remove-addend-lts.Need-same-length-2 (addend-calls t) (addend-at t) remove-addend.Post
   same-length-2 c = search needs
@@ -138,7 +158,10 @@ module _ (t : ℕ) where
   pub returns-5 : remove-addend-lts.Need-returns-5 (addend-calls t) (addend-at t) remove-addend.Post
   unfolding payloadOf
   returns-5 c =
-      let s = c .before .before .before .before .before .before .before .before .before .before .before .before .before .before .before .before .before .before .before .before .before .before .before .before .before .before in
-      let l = c .before .before .before .before .before .before .before .before .before .before .before .before .before .before .before .before .inside .ensures ∙ ap (insideOf (s .args .level)) (c .before .before .before .before .before .before .before .before .before .before .before .before .before .before .before .before .before .kind-at .ensures) in
-      let r = rw (c .before .before .before .before .before .before .n .given .1) at (c .before .before .before .before .before .before .before .before .before .before .remove-union .ensures) in
-      addend-kept _ _ (x-head s) _ _ (omega (arith, c .before .before .before .before .before .before .before .before .before .before .before .before .before .before .before .before .before .before .before .before .if1 .left, c .before .before .before .before .before .before .before .before .before .before .before .before .before .before .before .before .before .before .before .if2 .left, c .before .before .before .before .before .before .before .before .before .before .before .before .before .before .before .before .before .before .before .before .before .before .count-at .ensures, c .before .before .before .before .before .before .before .before .before .before .before .before .before .before .before .before .before .before .before .before .before .count-at2 .ensures)) (omega (arith, c .before .before .before .before .before .before .before .before .before .before .before .before .before .before .before .before .before .before .before .before .before .before .count-at .ensures, c .before .before .before .before .before .before .before .before .before .before .before .before .before .before .before .before .before .before .before .before .before .count-at2 .ensures)) (c .before .before .before .before .before .before .before .before .before .before .before .before .before .before .before .before .before .before .if3 .left) l (c .before .before .before .before .before .before .before .before .before .before .before .limit-inside .ensures) (c .before .before .before .before .before .before .before .before .before .before .before .before .before .before .before .body-of3 .ensures) (c .before .before .before .before .before .before .before .before .before .before .before .before .before .before .body-of4 .ensures) _ _ _ _ _ _ _ r (c .before .before .before .before .before .before .before .before .before .before .before .before .before .before .before .before .before .kind-at .ensures) (c .before .before .before .key-at .ensures) (c .before .before .put-record .ensures)
+      let u = c .before .before .before .before .before .before .before .before .before .before in
+      let f = u .before .before .before .before .before .before .before .before in
+      let s = f .before .before .before .before .before .before .before .before in
+      let l = u .before .before .before .before .before .before .inside .ensures ∙ ap (insideOf (s .args .level)) (u .before .before .before .before .before .before .before .kind-at .ensures) in
+      addend-kept _ _ (x-head s) _ _ (omega (arith, f .before .before .if1 .left, f .before .if2 .left, f .before .before .before .before .count-at .ensures, f .before .before .before .count-at2 .ensures))
+      (omega (arith, f .before .before .before .before .count-at .ensures, f .before .before .before .count-at2 .ensures)) (f .if3 .left) l (u .before .limit-inside .ensures) (u .before .before .before .before .before .body-of3 .ensures) (u .before .before .before .before .body-of4 .ensures) _ _ _ _ _ _ _
+      (rw (c .before .before .before .before .before .before .n .given .1) at (u .remove-union .ensures)) (u .before .before .before .before .before .before .before .kind-at .ensures) (c .before .before .before .key-at .ensures) (c .before .before .put-record .ensures)

@@ -55,8 +55,8 @@ module _ (t : ℕ) where
   pub loop-again : remove-run-lts.Need-loop-again (run-calls t) (run-at t) remove-run.Post Inv-loop μ-loop
   loop-again c =
       let o = c .before .before .before .before .before .before .before .before .before in
-      let s = c .before .before .before .before .before .before .before .before .before .before .before .before .before .before .before in
-      turn-less (c .before .before .before .before .before .before .before .before .before .before .before .loop .inv) (whole-head o) (part-head o) (ap orderingOf (sym (c .before .before .before .before .before .before .enum-told .given .1)) ∙ c .before .before .before .before .before .before .before .before .compare-labels .ensures) (c .before .before .keep .ensures)
+      let s = o .before .before .before .before .before .before in
+      turn-less (o .before .before .loop .inv) (whole-head o) (part-head o) (ap orderingOf (sym (c .before .before .before .before .before .before .enum-told .given .1)) ∙ c .before .before .before .before .before .before .before .before .compare-labels .ensures) (c .before .before .keep .ensures)
       (⊎-elim (λ w. lacks-before _ (w .0 .taken) (w .1)) (λ w. lacks-now (w .0 .left) (w .2 ∙ ap (ltb (s .args .limit)) (w .1 .ensures))) (c .before .before .before .before .before .if2 .came))
 
   pub enum-told-2 : remove-run-lts.Need-enum-told-2 (run-calls t) (run-at t) remove-run.Post Inv-loop μ-loop
@@ -73,7 +73,7 @@ module _ (t : ℕ) where
   pub loop-again-2 : remove-run-lts.Need-loop-again-2 (run-calls t) (run-at t) remove-run.Post Inv-loop μ-loop
   loop-again-2 c =
       let o = c .before .before .before .before in
-      turn-more (c .before .before .before .before .before .before .loop .inv) (whole-head o) (part-head o) (ap orderingOf (sym (c .before .enum-told2 .given .1)) ∙ c .before .before .before .compare-labels .ensures) (c .rest-of .ensures)
+      turn-more (o .before .before .loop .inv) (whole-head o) (part-head o) (ap orderingOf (sym (c .before .enum-told2 .given .1)) ∙ c .before .before .before .compare-labels .ensures) (c .rest-of .ensures)
 
   pub enum-told-3 : remove-run-lts.Need-enum-told-3 (run-calls t) (run-at t) remove-run.Post Inv-loop μ-loop
   enum-told-3 c = search needs
@@ -81,9 +81,11 @@ module _ (t : ℕ) where
   pub remove-addend-requires : remove-run-lts.Need-remove-addend-requires (run-calls t) (run-at t) remove-run.Post Inv-loop μ-loop
   remove-addend-requires c κs =
       let i = ap orderingOf (sym (c .before .before .enum-told3 .given .1)) ∙ c .before .before .before .before .compare-labels .ensures in
-      let l = c .before .before .before .before .before .before .before .loop in (
-        omega (arith, c .before .before .before .before .before .before .before .before .before .before .before .pre .0),
-        ((l .inv .whole, omega arith), ((l .inv .part, c .before .before .before .before .before .before .loop-test .taken, same-kinds _ _ _ i), omega (arith, l .inv .room, c .before .before .before .before .before .before .before .before .before .before .before .pre))),
+      let o = c .before .before .before .before .before in
+      let l = o .before .before .loop in
+      let s = o .before .before .before .before .before .before in (
+        omega (arith, s .pre .0),
+        ((l .inv .whole, omega arith), ((l .inv .part, o .before .loop-test .taken, same-kinds _ _ _ i), omega (arith, l .inv .room, s .pre))),
       )
 
   pub rest-of-requires-2 : remove-run-lts.Need-rest-of-requires-2 (run-calls t) (run-at t) remove-run.Post Inv-loop μ-loop
@@ -94,8 +96,9 @@ module _ (t : ℕ) where
 
   pub loop-less-3 : remove-run-lts.Need-loop-less-3 (run-calls t) (run-at t) remove-run.Post Inv-loop μ-loop
   loop-less-3 c =
-      let h = whole-head (c .before .before .before .before .before .before .before .before .before .before .before) .first in
-      let g = part-head (c .before .before .before .before .before .before .before .before .before .before .before) .first in
+      let o = c .before .before .before .before .before .before .before .before .before .before .before in
+      let h = whole-head o .first in
+      let g = part-head o .first in
       omega (arith, ap length (c .before .rest-of2 .ensures), ap length (c .rest-of3 .ensures))
 
   pub loop-again-3 : remove-run-lts.Need-loop-again-3 (run-calls t) (run-at t) remove-run.Post Inv-loop μ-loop
@@ -103,7 +106,7 @@ module _ (t : ℕ) where
       let o = c .before .before .before .before .before .before .before .before .before .before .before in
       let i = ap orderingOf (sym (c .before .before .before .before .before .before .before .before .enum-told3 .given .1)) ∙ c .before .before .before .before .before .before .before .before .before .before .compare-labels .ensures in
       let r = c .before .before .before .before .before .remove-addend in
-      turn-same (c .before .before .before .before .before .before .before .before .before .before .before .before .before .loop .inv) (whole-head o) (part-head o) i (r .ensures) (r .kept .1 .1 .0) (c .before .rest-of2 .ensures) (c .rest-of3 .ensures)
+      turn-same (o .before .before .loop .inv) (whole-head o) (part-head o) i (r .ensures) (r .kept .1 .1 .0) (c .before .rest-of2 .ensures) (c .rest-of3 .ensures)
       (⊎-elim (λ w. lacks-before _ (w .0 .taken) (w .1)) (λ w. lacks-now (w .0 .left) (w .1)) (c .before .before .if3 .came))
 
   pub same-length-2 : remove-run-lts.Need-same-length-2 (run-calls t) (run-at t) remove-run.Post Inv-loop μ-loop
