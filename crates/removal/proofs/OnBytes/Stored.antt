@@ -59,16 +59,26 @@ module _ {level : Level} (limit : ℕ) {x : List ℕ} (y : List ℕ) (h : Head l
       stored-some (H ++ b) s (c ∙ rw (stored, a, k, span, d) (sets-last H b out at)) (omega (arith, length-append H b, sixteen))
       (omega (arith, length-append H b, sixteen, body-rest (h .first), front-rest (h .first)))
 
-  -- what the run inside has answered, for the count that is left
-  module _ (left m : ℕ) {inner : Level} {u v : List ℕ} (i : typeCount y 0 < typeCount x 0) (j : left ≡ typeCount x 0 - typeCount y 0) (k : left ≤ limit)
-      (l : inner ≡ insideOf level (typeKind x 0)) (z : m ≡ cond (inner .field) left maxTotal) (p : u ≡ body x) (q : v ≡ body y) where
+  -- what is known where a count is left: how many, the limit and the level inside, and the runs inside
+  pub record LeftInside (left m : ℕ) (inner : Level) (u v : List ℕ) : Type 0 where
+    pub more : typeCount y 0 < typeCount x 0
+    pub is-left : left ≡ typeCount x 0 - typeCount y 0
+    pub low : left ≤ limit
+    pub is-inner : inner ≡ insideOf level (typeKind x 0)
+    pub is-limit : m ≡ cond (inner .field) left maxTotal
+    pub whole-body : u ≡ body x
+    pub part-body : v ≡ body y
+
+  module _ {left m : ℕ} {inner : Level} {u v : List ℕ} (i : LeftInside left m inner u v) where
     by-inside : addendLeft (At level) limit x y ≡ headed (typeKind x 0) (typeKey x 0) left (runLeft (At inner) m u v)
-    by-inside = rw (p, q, l) (inside-left limit y h left m i j k (z ∙ ap (λ o. cond (o .field) left maxTotal) l))
+    by-inside =
+        rw (i .whole-body, i .part-body, i .is-inner)
+        (inside-left limit y h left m (i .more) (i .is-left) (i .low) (i .is-limit ∙ ap (λ o. cond (o .field) left maxTotal) (i .is-inner)))
 
     pub inside-fits : (out out₁ : List ℕ) (at n : ℕ) → remainderAt (Bytes n) out₁ at ≡ placed out at (runLeft (At inner) m u v) → n ≤ length (body x)
     unfolding remainderAt
     inside-fits out out₁ at n w =
-        let f = found out out₁ at (at + n) (runLeft (At level) m (body x) (body y)) (rw (p, q, l) at w) in
+        let f = found out out₁ at (at + n) (runLeft (At level) m (body x) (body y)) (rw (i .whole-body, i .part-body, i .is-inner) at w) in
         omega (arith, f .ends, left-short m (body y) (h .first .in-body) (f .is))
 
     pub addend-kept : (out out₁ out₂ : List ℕ) (at n kind key : ℕ) → remainderAt (Bytes n) out₁ (at + typeSize) ≡ placed out (at + typeSize) (runLeft (At inner) m u v) →

@@ -1,6 +1,6 @@
 -- The needs of `remove_addend`.
 use mathlib.Core.Path.{sym, ap, _∙_}
-use Prim.Native.Nat.{ℕ}
+use Prim.Native.Nat.{ℕ, _-_}
 use native.Mathlib.Omega.{arith}
 use lib.ListN.{length}
 use borrow.Author.Needs.{needs}
@@ -10,7 +10,7 @@ use Rattle.type_arena.proofs.FirstAddend.{headed, body-rest, coded-length}
 use Rattle.type_arena.proofs.Runs.{Head, head, rank-inside}
 use Rattle.removal.proofs.OnBytes.OneAddend.{short-left, over-left}
 use Rattle.removal.proofs.OnBytes.RemovalLoop.{whole-inside}
-use Rattle.removal.proofs.OnBytes.Stored.{addend-lost, addend-gone, inside-fits, addend-kept, addend-not-part}
+use Rattle.removal.proofs.OnBytes.Stored.{addend-lost, addend-gone, LeftInside, inside-fits, addend-kept, addend-not-part}
 use Rattle.removal.proofs.pass.remove_addend.Reads as remove-addend
 use Rattle.removal.proofs.pass.+remove_addend+remove_run+remove_union.Lts-remove_addend as remove-addend-lts
 use Rattle.removal.proofs.pass.+remove_addend+remove_run+remove_union.Proof.Claims.{addend-at, addend-calls}
@@ -22,6 +22,22 @@ module _ (t : ℕ) where
 
   y-head : (s : remove-addend-lts.Start (addend-calls t) (addend-at t) remove-addend.Post) → Head (s .args .level) (s .args .y .now)
   y-head s = head (s .pre .1 .1 .0 .0) (s .pre .1 .1 .0 .1)
+
+  -- what is known once the run inside is done
+  inside : (u : remove-addend-lts.After-remove-union (addend-calls t) (addend-at t) remove-addend.Post) → LeftInside (u .before .before .before .before .before .before .before .before .before .before .before .before .before .before .before .before .args .limit) (u .before .before .before .before .before .before .before .before .before .before .before .before .before .before .before .before .args .y .now) (x-head (u .before .before .before .before .before .before .before .before .before .before .before .before .before .before .before .before))
+      (u .before .before .before .before .before .before .before .before .before .before .before .before .count-at .result - u .before .before .before .before .before .before .before .before .before .before .before .count-at2 .result)
+      (u .before .limit-inside .result) (u .before .before .before .before .before .before .inside .result) (u .before .before .before .before .before .body-of3 .result .now) (u .before .before .before .before .body-of4 .result .now)
+  inside u =
+      let f = u .before .before .before .before .before .before .before .before in
+      record {
+        more = omega (arith, f .before .before .if1 .left, f .before .if2 .left, f .before .before .before .before .count-at .ensures, f .before .before .before .count-at2 .ensures);
+        is-left = omega (arith, f .before .before .before .before .count-at .ensures, f .before .before .before .count-at2 .ensures);
+        low = f .if3 .left;
+        is-inner = u .before .before .before .before .before .before .inside .ensures ∙ ap (insideOf (u .before .before .before .before .before .before .before .before .before .before .before .before .before .before .before .before .args .level)) (u .before .before .before .before .before .before .before .kind-at .ensures);
+        is-limit = u .before .limit-inside .ensures;
+        whole-body = u .before .before .before .before .before .body-of3 .ensures;
+        part-body = u .before .before .before .before .body-of4 .ensures;
+      }
 
   pub count-at-requires : remove-addend-lts.Need-count-at-requires (addend-calls t) (addend-at t) remove-addend.Post
   count-at-requires c κs =
@@ -127,17 +143,8 @@ module _ (t : ℕ) where
   pub add-at-2 : remove-addend-lts.Need-add-at-2 (addend-calls t) (addend-at t) remove-addend.Post
   add-at-2 c =
       let u = c .before .before .before .before .before .before .before .before .before .before in
-      let f = u .before .before .before .before .before .before .before .before in
-      let s = f .before .before .before .before .before .before .before .before in
-      let l = u .before .before .before .before .before .before .inside .ensures ∙ ap (insideOf (s .args .level)) (u .before .before .before .before .before .before .before .kind-at .ensures) in
-      omega (
-        arith,
-        s .pre .1 .1 .1,
-        body-rest (x-head s .first),
-        inside-fits _ _ (x-head s) _ _ (omega (arith, f .before .before .if1 .left, f .before .if2 .left, f .before .before .before .before .count-at .ensures, f .before .before .before .count-at2 .ensures))
-            (omega (arith, f .before .before .before .before .count-at .ensures, f .before .before .before .count-at2 .ensures)) (f .if3 .left) l (u .before .limit-inside .ensures) (u .before .before .before .before .before .body-of3 .ensures) (u .before .before .before .before .body-of4 .ensures) _ _ _ _
-            (rw (c .before .before .before .before .before .before .n .given .1) at (u .remove-union .ensures)),
-      )
+      let s = u .before .before .before .before .before .before .before .before .before .before .before .before .before .before .before .before in
+      omega (arith, s .pre .1 .1 .1, body-rest (x-head s .first), inside-fits _ _ (x-head s) (inside u) _ _ _ _ (rw (c .before .before .before .before .before .before .n .given .1) at (u .remove-union .ensures)))
 
   pub same-length : remove-addend-lts.Need-same-length (addend-calls t) (addend-at t) remove-addend.Post
   same-length c = c .before .before .before .before .remove-union .kept .1 .1 .0
@@ -145,12 +152,8 @@ module _ (t : ℕ) where
   pub returns-4 : remove-addend-lts.Need-returns-4 (addend-calls t) (addend-at t) remove-addend.Post
   returns-4 c =
       let u = c .before .before .before .before in
-      let f = u .before .before .before .before .before .before .before .before in
-      let s = f .before .before .before .before .before .before .before .before in
-      let l = u .before .before .before .before .before .before .inside .ensures ∙ ap (insideOf (s .args .level)) (u .before .before .before .before .before .before .before .kind-at .ensures) in
-      addend-not-part _ _ (x-head s) _ _ (omega (arith, f .before .before .if1 .left, f .before .if2 .left, f .before .before .before .before .count-at .ensures, f .before .before .before .count-at2 .ensures))
-      (omega (arith, f .before .before .before .before .count-at .ensures, f .before .before .before .count-at2 .ensures)) (f .if3 .left) l (u .before .limit-inside .ensures) (u .before .before .before .before .before .body-of3 .ensures) (u .before .before .before .before .body-of4 .ensures) _ _ _
-      (rw (c .enum-told .given .1) at (u .remove-union .ensures))
+      let s = u .before .before .before .before .before .before .before .before .before .before .before .before .before .before .before .before in
+      addend-not-part _ _ (x-head s) (inside u) _ _ _ (rw (c .enum-told .given .1) at (u .remove-union .ensures))
 
   pub same-length-2 : remove-addend-lts.Need-same-length-2 (addend-calls t) (addend-at t) remove-addend.Post
   same-length-2 c = search needs
@@ -159,9 +162,6 @@ module _ (t : ℕ) where
   unfolding payloadOf
   returns-5 c =
       let u = c .before .before .before .before .before .before .before .before .before .before in
-      let f = u .before .before .before .before .before .before .before .before in
-      let s = f .before .before .before .before .before .before .before .before in
-      let l = u .before .before .before .before .before .before .inside .ensures ∙ ap (insideOf (s .args .level)) (u .before .before .before .before .before .before .before .kind-at .ensures) in
-      addend-kept _ _ (x-head s) _ _ (omega (arith, f .before .before .if1 .left, f .before .if2 .left, f .before .before .before .before .count-at .ensures, f .before .before .before .count-at2 .ensures))
-      (omega (arith, f .before .before .before .before .count-at .ensures, f .before .before .before .count-at2 .ensures)) (f .if3 .left) l (u .before .limit-inside .ensures) (u .before .before .before .before .before .body-of3 .ensures) (u .before .before .before .before .body-of4 .ensures) _ _ _ _ _ _ _
-      (rw (c .before .before .before .before .before .before .n .given .1) at (u .remove-union .ensures)) (u .before .before .before .before .before .before .before .kind-at .ensures) (c .before .before .before .key-at .ensures) (c .before .before .put-record .ensures)
+      let s = u .before .before .before .before .before .before .before .before .before .before .before .before .before .before .before .before in
+      let r = rw (c .before .before .before .before .before .before .n .given .1) at (u .remove-union .ensures) in
+      addend-kept _ _ (x-head s) (inside u) _ _ _ _ _ _ _ r (u .before .before .before .before .before .before .before .kind-at .ensures) (c .before .before .before .key-at .ensures) (c .before .before .put-record .ensures)
