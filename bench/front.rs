@@ -1,4 +1,5 @@
-//! The first addend or field of a run of type records, and the order of two, for the plain merge and the plain removal.
+//! The first addend or field of a run of type records, and the order of two, for the plain merge and the plain removal. Inlined, as a
+//! function with one caller is: neither pays for the other.
 
 use crate::type_validator::{header, keys, Header, RECORD, SIZE};
 use std::cmp::Ordering;
@@ -11,6 +12,7 @@ pub struct Front<'a> {
     pub rest: &'a [u8],
 }
 
+#[inline(always)]
 pub fn front(run: &[u8]) -> Front<'_> {
     let header = header(run);
     let (all, rest) = run.split_at(SIZE * header.span);
@@ -22,6 +24,7 @@ pub fn front(run: &[u8]) -> Front<'_> {
     }
 }
 
+#[inline(always)]
 pub fn order(x: &Front, y: &Front, label: bool) -> Ordering {
     let key = |f: &Front| (f.header.kind, f.header.key);
     let order = key(x).cmp(&key(y));
