@@ -14,14 +14,12 @@ impl<'a> Arena<'a> {
         Arena { bytes, used: 0 }
     }
 
-    #[inline(always)]
     fn put(&mut self, at: usize, records: &[u8]) {
         if let Some(room) = self.bytes.get_mut(at..at + records.len()) {
             room.copy_from_slice(records);
         }
     }
 
-    #[inline(always)]
     pub fn append(&mut self, records: &[u8]) {
         self.put(self.used, records);
         self.used += records.len();
@@ -35,7 +33,6 @@ impl<'a> Arena<'a> {
     }
 
     /// Writes the record at a place that was left open; what was written since then stands inside it.
-    #[inline(always)]
     pub fn close(&mut self, at: usize, kind: u8, key: u16, count: u64) {
         let span = ((self.used - at) / SIZE) as u32;
         let mut record = [0; SIZE];

@@ -12,7 +12,7 @@ pub struct Front<'a> {
     pub rest: &'a [u8],
 }
 
-#[inline(always)]
+#[inline]
 pub fn front(run: &[u8]) -> Front<'_> {
     let header = header(run);
     let (all, rest) = run.split_at(SIZE * header.span);
@@ -24,7 +24,7 @@ pub fn front(run: &[u8]) -> Front<'_> {
     }
 }
 
-#[inline(always)]
+#[inline]
 pub fn order(x: &Front, y: &Front, label: bool) -> Ordering {
     let key = |f: &Front| (f.header.kind, f.header.key);
     let order = key(x).cmp(&key(y));
