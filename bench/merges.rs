@@ -1,30 +1,27 @@
 //! Call 5, which merges types, beside a plain merge. Where the inputs don't have all their records in common they are half as large, so
 //! that the merged type fits the largest arena.
 
-use crate::pair::{accepted, refused, Buffers, Inputs, Pair, Workload, KIND, LABEL};
+use crate::pair::{answered, Buffers, Inputs, Pair, Workload, KIND, LABEL};
 use crate::plain_merge;
 use crate::types::{deep, fields, lists, records};
 use ct::raw::{self, Answer};
 
 fn proved(inputs: &Inputs, buffers: &mut Buffers) -> Answer {
-    let Inputs {
-        first,
-        second,
-        equivalence,
-    } = inputs;
-    raw::merge(first, second, *equivalence, &mut buffers.arena)
+    raw::merge(
+        &inputs.first,
+        &inputs.second,
+        inputs.equivalence,
+        &mut buffers.arena,
+    )
 }
 
 fn plain(inputs: &Inputs, buffers: &mut Buffers) -> Answer {
-    let Inputs {
-        first,
-        second,
-        equivalence,
-    } = inputs;
-    match plain_merge::merge(first, second, *equivalence, &mut buffers.arena) {
-        Ok(records) => accepted(records),
-        Err(number) => refused(number, 0),
-    }
+    answered(plain_merge::merge(
+        &inputs.first,
+        &inputs.second,
+        inputs.equivalence,
+        &mut buffers.arena,
+    ))
 }
 
 static MERGE: Pair = Pair {

@@ -18,6 +18,14 @@ pub fn refused(number: u64, place: usize) -> Answer {
     }
 }
 
+/// The answer of a plain call that has no place to name.
+pub fn answered(result: Result<usize, u64>) -> Answer {
+    match result {
+        Ok(records) => accepted(records),
+        Err(number) => refused(number, 0),
+    }
+}
+
 pub const KIND: u64 = 0;
 pub const LABEL: u64 = 1;
 

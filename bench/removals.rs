@@ -1,31 +1,28 @@
 //! The removal of a part from a whole type, beside a plain removal. A whole is merged from its part and from the rest, which comes back.
 
 use crate::merges::{self, Types};
-use crate::pair::{accepted, refused, Buffers, Inputs, Pair, Workload, KIND, LABEL, ROOM};
+use crate::pair::{answered, Buffers, Inputs, Pair, Workload, KIND, LABEL, ROOM};
 use crate::tables::first_messages;
 use crate::types::{deep, fields, lists, records, with_keys};
 use crate::{plain_inference, plain_merge, plain_removal};
 use ct::raw::{self, Answer};
 
 fn proved(inputs: &Inputs, buffers: &mut Buffers) -> Answer {
-    let Inputs {
-        first,
-        second,
-        equivalence,
-    } = inputs;
-    raw::remove(first, second, *equivalence, &mut buffers.arena)
+    raw::remove(
+        &inputs.first,
+        &inputs.second,
+        inputs.equivalence,
+        &mut buffers.arena,
+    )
 }
 
 fn plain(inputs: &Inputs, buffers: &mut Buffers) -> Answer {
-    let Inputs {
-        first,
-        second,
-        equivalence,
-    } = inputs;
-    match plain_removal::remove(first, second, *equivalence, &mut buffers.arena) {
-        Ok(records) => accepted(records),
-        Err(number) => refused(number, 0),
-    }
+    answered(plain_removal::remove(
+        &inputs.first,
+        &inputs.second,
+        inputs.equivalence,
+        &mut buffers.arena,
+    ))
 }
 
 static REMOVE: Pair = Pair {
