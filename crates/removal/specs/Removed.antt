@@ -16,7 +16,7 @@ use Rattle.counting_theory.specs.WellFormed.{fieldCounts, wellFormed, badTypeLe
 use Rattle.counting_theory.specs.Answers.{equivalenceOf, equivalenceNumber, Written, turnedDown, stored, largestArena, merged}
 use Rattle.removal.specs.Difference.{Taken, short, gone, left, difference}
 
--- counts
+-- what is left of a count from which another is taken
 unfoldable pub takenBy : Ordering → ℕ → Taken Payload
 takenBy lt n = short
 takenBy eq n = gone

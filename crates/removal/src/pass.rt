@@ -151,24 +151,13 @@ fn remove_addend(
     }
     let kind = kind_at(x, 0);
     let inner = inside(level, kind);
-    match remove_union(
-        body_of(x),
-        body_of(y),
-        out,
-        *at + type_record::SIZE,
-        inner,
-        limit_inside(inner, left),
-    ) {
+    let most = limit_inside(inner, left);
+    let from = *at + type_record::SIZE;
+    match remove_union(body_of(x), body_of(y), out, from, inner, most) {
         Remainder::NotPart => true,
         Remainder::Bytes(n) => {
-            put_record(
-                out,
-                *at,
-                kind,
-                key_at(x, 0),
-                n / type_record::SIZE + 1,
-                Payload { count: left },
-            );
+            let span = n / type_record::SIZE + 1;
+            put_record(out, *at, kind, key_at(x, 0), span, Payload { count: left });
             *at = *at + type_record::SIZE + n;
             false
         }

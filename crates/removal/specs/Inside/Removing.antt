@@ -25,7 +25,7 @@ pub record Run (x : List ℕ) : Type 0 where
   pub field : Bool
   pub coded : Coded equivalence field x
 
--- a run of the whole, in which no count may pass the limit; one that is above all counts stands at a union
+-- a run of the whole, with the most that a count of what is left may be: at a union the limit on totals, which no count passes
 pub record WholeRun (level : Level) (limit : ℕ) (x : List ℕ) : Type 0 where
   pub run : TypeRun level x
   pub fields : fieldCounts byKind (typeOf (byFlag (level .label)) x) ≡ true

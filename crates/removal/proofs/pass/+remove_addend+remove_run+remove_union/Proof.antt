@@ -22,9 +22,9 @@ pub +remove-addend+remove-run+remove-union-spec : {M : Type 1} → statement M
     (λ t. remove-addend-lts.spec (addend-calls t) (addend-at t) remove-addend.Post
     (addend.count-at-requires t) (addend.count-at-requires-2 t) (addend.body-of-requires t) (addend.body-of-requires-2 t)
     (addend.same-bytes-requires t) (addend.returns t) (addend.returns-2 t) (addend.returns-3 t) (addend.kind-at-requires t)
-    (addend.inside-requires t) (addend.body-of-requires-3 t) (addend.body-of-requires-4 t) (addend.add-remove-union t)
-    (addend.limit-inside-requires t) (addend.remove-union-requires t) (addend.enum-told t) (addend.enum-known-n t)
-    (addend.key-at-requires t) (addend.add-put-record t) (addend.put-record-requires t) (addend.add-at t) (addend.add-at-2 t)
+    (addend.inside-requires t) (addend.limit-inside-requires t) (addend.add-from t) (addend.body-of-requires-3 t)
+    (addend.body-of-requires-4 t) (addend.remove-union-requires t) (addend.enum-told t) (addend.enum-known-n t)
+    (addend.add-span t) (addend.key-at-requires t) (addend.put-record-requires t) (addend.add-at t) (addend.add-at-2 t)
     (addend.same-length t) (addend.returns-4 t) (addend.same-length-2 t) (addend.returns-5 t))
     (λ t. remove-run-lts.spec (run-calls t) (run-at t) remove-run.Post Inv-loop μ-loop
     (run.loop-holds t) (run.same-length t) (run.returns t) (run.compare-labels-requires t) (run.enum-told t)

@@ -26,7 +26,7 @@ module _ (t : ℕ) where
   -- what is known once the run inside is done
   inside : (u : remove-addend-lts.After-remove-union (addend-calls t) (addend-at t) remove-addend.Post) → LeftInside (u .before .before .before .before .before .before .before .before .before .before .before .before .before .before .before .before .args .limit) (u .before .before .before .before .before .before .before .before .before .before .before .before .before .before .before .before .args .y .now) (x-head (u .before .before .before .before .before .before .before .before .before .before .before .before .before .before .before .before))
       (u .before .before .before .before .before .before .before .before .before .before .before .before .count-at .result - u .before .before .before .before .before .before .before .before .before .before .before .count-at2 .result)
-      (u .before .limit-inside .result) (u .before .before .before .before .before .before .inside .result) (u .before .before .before .before .before .body-of3 .result .now) (u .before .before .before .before .body-of4 .result .now)
+      (u .before .before .before .before .before .limit-inside .result) (u .before .before .before .before .before .before .inside .result) (u .before .before .before .body-of3 .result .now) (u .before .before .body-of4 .result .now)
   inside u =
       let f = u .before .before .before .before .before .before .before .before in
       record {
@@ -34,9 +34,9 @@ module _ (t : ℕ) where
         is-left = omega (arith, f .before .before .before .before .count-at .ensures, f .before .before .before .count-at2 .ensures);
         low = f .if3 .left;
         is-inner = u .before .before .before .before .before .before .inside .ensures ∙ ap (insideOf (u .before .before .before .before .before .before .before .before .before .before .before .before .before .before .before .before .args .level)) (u .before .before .before .before .before .before .before .kind-at .ensures);
-        is-limit = u .before .limit-inside .ensures;
-        whole-body = u .before .before .before .before .before .body-of3 .ensures;
-        part-body = u .before .before .before .before .body-of4 .ensures;
+        is-limit = u .before .before .before .before .before .limit-inside .ensures;
+        whole-body = u .before .before .before .body-of3 .ensures;
+        part-body = u .before .before .body-of4 .ensures;
       }
 
   pub count-at-requires : remove-addend-lts.Need-count-at-requires (addend-calls t) (addend-at t) remove-addend.Post
@@ -83,19 +83,19 @@ module _ (t : ℕ) where
   pub inside-requires : remove-addend-lts.Need-inside-requires (addend-calls t) (addend-at t) remove-addend.Post
   inside-requires c κs = x-head (c .before .before .before .before .before .before .before .before .before) .level-left
 
-  pub body-of-requires-3 : remove-addend-lts.Need-body-of-requires-3 (addend-calls t) (addend-at t) remove-addend.Post
-  body-of-requires-3 c κs = headed (x-head (c .before .before .before .before .before .before .before .before .before .before) .first)
-
-  pub body-of-requires-4 : remove-addend-lts.Need-body-of-requires-4 (addend-calls t) (addend-at t) remove-addend.Post
-  body-of-requires-4 c κs = headed (y-head (c .before .before .before .before .before .before .before .before .before .before .before) .first)
-
-  pub add-remove-union : remove-addend-lts.Need-add-remove-union (addend-calls t) (addend-at t) remove-addend.Post
-  add-remove-union c =
-      let h = x-head (c .before .before .before .before .before .before .before .before .before .before .before .before .before .before) .first in
-      omega (arith, c .before .before .before .before .before .before .before .before .before .before .before .before .before .before .pre .1 .1 .1)
-
   pub limit-inside-requires : remove-addend-lts.Need-limit-inside-requires (addend-calls t) (addend-at t) remove-addend.Post
   limit-inside-requires c κs = tt
+
+  pub add-from : remove-addend-lts.Need-add-from (addend-calls t) (addend-at t) remove-addend.Post
+  add-from c =
+      let h = x-head (c .before .before .before .before .before .before .before .before .before .before .before .before) .first in
+      omega (arith, c .before .before .before .before .before .before .before .before .before .before .before .before .pre .1 .1 .1)
+
+  pub body-of-requires-3 : remove-addend-lts.Need-body-of-requires-3 (addend-calls t) (addend-at t) remove-addend.Post
+  body-of-requires-3 c κs = headed (x-head (c .before .before .before .before .before .before .before .before .before .before .before .before) .first)
+
+  pub body-of-requires-4 : remove-addend-lts.Need-body-of-requires-4 (addend-calls t) (addend-at t) remove-addend.Post
+  body-of-requires-4 c κs = headed (y-head (c .before .before .before .before .before .before .before .before .before .before .before .before .before) .first)
 
   pub remove-union-requires : remove-addend-lts.Need-remove-union-requires (addend-calls t) (addend-at t) remove-addend.Post
   remove-union-requires c κs =
@@ -104,11 +104,11 @@ module _ (t : ℕ) where
       let h = x-head s in
       let g = y-head s in
       let l = i .inside .ensures ∙ ap (insideOf (s .args .level)) (i .before .kind-at .ensures) in
-      let u = c .before .before .before .before .body-of3 .ensures in
-      let v = c .before .before .before .body-of4 .ensures in (
+      let u = c .before .before .body-of3 .ensures in
+      let v = c .before .body-of4 .ensures in (
         rw l (omega (arith, rank-inside h, s .pre .0)),
         (
-          rw (c .limit-inside .ensures, l, u) (whole-inside h (s .pre .1 .0 .0) _),
+          rw (c .before .before .before .before .limit-inside .ensures, l, u) (whole-inside h (s .pre .1 .0 .0) _),
           rw (l, v, s .pre .1 .1 .0 .2) (g .in-body),
           omega (arith, ap length u, body-rest (h .first), s .pre .1 .1 .1),
         ),
@@ -120,13 +120,13 @@ module _ (t : ℕ) where
   pub enum-known-n : remove-addend-lts.Need-enum-known-n (addend-calls t) (addend-at t) remove-addend.Post
   enum-known-n c = search needs
 
+  pub add-span : remove-addend-lts.Need-add-span (addend-calls t) (addend-at t) remove-addend.Post
+  add-span c = search needs
+
   pub key-at-requires : remove-addend-lts.Need-key-at-requires (addend-calls t) (addend-at t) remove-addend.Post
   key-at-requires c κs =
       let h = x-head (c .before .before .before .before .before .before .before .before .before .before .before .before .before .before .before .before .before .before .before .before .before .before) .first in
       omega arith
-
-  pub add-put-record : remove-addend-lts.Need-add-put-record (addend-calls t) (addend-at t) remove-addend.Post
-  add-put-record c = search needs
 
   pub put-record-requires : remove-addend-lts.Need-put-record-requires (addend-calls t) (addend-at t) remove-addend.Post
   put-record-requires c κs =
