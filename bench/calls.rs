@@ -1,9 +1,11 @@
 //! Compares and times the calls of the library against plain Rust of the same rules.
 //!
-//! Arguments: the files with a log, as a value table and as text, and with its key book; then `texts` to time the reading of texts only.
+//! Arguments: the files with a log, as a value table and as text, and with its key book; then `texts` to time the reading of texts only, or
+//! `removals` for removal.
 
 mod arena;
 mod comparing;
+mod front;
 mod growth;
 mod inferences;
 mod judges;
@@ -12,8 +14,10 @@ mod pair;
 mod plain_inference;
 mod plain_merge;
 mod plain_reader;
+mod plain_removal;
 mod plain_tokens;
 mod readings;
+mod removals;
 mod sequence;
 mod tables;
 mod texts;
@@ -27,7 +31,9 @@ use pair::Workload;
 /// The calls that write a type, with tables of n records and types of half as many.
 fn writers(n: usize, log: &[u8]) -> Vec<Workload> {
     let mut workloads = inferences::workloads(n, log);
-    workloads.extend(merges::workloads(n as u16 / 2));
+    let n = n as u16 / 2;
+    workloads.extend(merges::workloads(n));
+    workloads.extend(removals::workloads(n, log));
     workloads
 }
 
@@ -35,6 +41,14 @@ fn workloads(n: usize, log: &[u8]) -> Vec<Workload> {
     let mut workloads = judges::of_tables(n);
     workloads.extend(judges::of_types(n as u16 / 2));
     workloads.extend(writers(n, log));
+    workloads.extend(removals::refused_workloads(n as u16 / 2));
+    workloads
+}
+
+/// Removals alone; the refused ones take no part in the table of growth.
+fn removals(n: usize, log: &[u8]) -> Vec<Workload> {
+    let mut workloads = removals::workloads(n as u16 / 2, log);
+    workloads.extend(removals::refused_workloads(n as u16 / 2));
     workloads
 }
 
@@ -44,13 +58,14 @@ fn compare(workloads: &[Workload], turns: usize) {
     }
 }
 
-fn types(log: &[u8]) {
-    let largest = workloads(8192, log);
-    compare(&workloads(100, log), 20_000);
+/// `all` and `growing` give workloads for a number of records.
+fn types(all: impl Fn(usize) -> Vec<Workload>, growing: impl Fn(usize) -> Vec<Workload>) {
+    let largest = all(8192);
+    compare(&all(100), 20_000);
     compare(&largest, 10);
     timing::report(&largest);
     println!();
-    growth::report(|kib| writers(128 * kib, log));
+    growth::report(|kib| growing(128 * kib));
     println!();
 }
 
@@ -66,8 +81,16 @@ fn texts(log: &[u8], book: &[u8]) {
 fn main() {
     let arguments: Vec<String> = std::env::args().skip(1).collect();
     let file = |i: usize| std::fs::read(&arguments[i]).expect("a file that can be read");
-    if arguments.get(3).map(String::as_str) != Some("texts") {
-        types(&file(0));
+    let log = file(0);
+    match arguments.get(3).map(String::as_str) {
+        Some("texts") => texts(&file(1), &file(2)),
+        Some("removals") => types(
+            |n| removals(n, &log),
+            |n| removals::workloads(n as u16 / 2, &log),
+        ),
+        _ => {
+            types(|n| workloads(n, &log), |n| writers(n, &log));
+            texts(&file(1), &file(2));
+        }
     }
-    texts(&file(1), &file(2));
 }

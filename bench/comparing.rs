@@ -1,13 +1,10 @@
 //! Compares two versions of a call: both must leave the same answers and bytes, or their times say nothing.
 
-use crate::pair::{Buffers, Inputs, Pair, Workload};
+use crate::pair::{Buffers, Inputs, Pair, Workload, ROOM};
 use crate::sequence::Sequence;
 use crate::type_validator::{MAX_TOTAL, SIZE as TYPE_RECORD};
 use crate::validator::{header, SIZE as VALUE_RECORD};
 use ct::raw::Answer;
-
-/// The largest allowed arena.
-pub const ROOM: usize = 65_536;
 
 /// Buffers with something in them beforehand.
 fn used_buffers(arena: usize, work: usize) -> Buffers {
@@ -98,31 +95,40 @@ fn damaged(inputs: &Inputs, size: usize, sequence: &mut Sequence) -> Inputs {
     inputs
 }
 
-/// Lengths of an arena around the one that just holds the type that a call has written.
-fn rooms(answer: Answer) -> [usize; 4] {
-    let exact = TYPE_RECORD * answer.count as usize;
-    [exact, exact - TYPE_RECORD, exact + TYPE_RECORD, exact + 1]
+/// Lengths of an arena around the one that just holds the type that a call has written, or around the workload's if it has written none.
+fn rooms(workload: &Workload, answer: Answer) -> [usize; 4] {
+    let room = match answer.number {
+        0 => TYPE_RECORD * answer.count as usize,
+        _ => workload.room,
+    };
+    let less = room.saturating_sub(TYPE_RECORD);
+    [room, less, room + TYPE_RECORD, room + 1]
 }
 
 /// On the workload, and with each of those rooms, which are the answer.
 fn compare_rooms(workload: &Workload) -> [usize; 4] {
-    let Workload { pair, name, inputs } = workload;
-    let answer = agree(pair, name, inputs, ROOM, ROOM);
-    assert_eq!(answer.number, 0, "{} of {name} is not accepted", pair.name);
+    let Workload {
+        pair, name, inputs, ..
+    } = workload;
+    let answer = agree(pair, name, inputs, workload.room, ROOM);
+    assert_eq!(answer.number, workload.number, "{} of {name}", pair.name);
     if !pair.writes {
         return [0; 4];
     }
-    for room in rooms(answer) {
+    let rooms = rooms(workload, answer);
+    for room in rooms {
         agree(pair, name, inputs, room, room);
         agree(pair, name, inputs, room, ROOM);
     }
-    rooms(answer)
+    rooms
 }
 
 /// The same, and on damaged forms of the workload, as often as asked.
 pub fn compare(workload: &Workload, turns: usize) {
     let rooms = compare_rooms(workload);
-    let Workload { pair, name, inputs } = workload;
+    let Workload {
+        pair, name, inputs, ..
+    } = workload;
     let mut sequence = Sequence::new();
     for _ in 0..turns {
         let mut inputs = damaged(inputs, pair.size, &mut sequence);

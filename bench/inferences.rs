@@ -52,15 +52,12 @@ static INFER_DEFAULT: Pair = Pair {
 };
 
 fn workload(pair: &'static Pair, name: &str, equivalence: u64, first: &[u8]) -> Workload {
-    Workload {
-        pair,
-        name: name.to_string(),
-        inputs: Inputs {
-            first: first.to_vec(),
-            second: Vec::new(),
-            equivalence,
-        },
-    }
+    let inputs = Inputs {
+        first: first.to_vec(),
+        second: Vec::new(),
+        equivalence,
+    };
+    Workload::accepted(pair, name, inputs)
 }
 
 /// Workloads with tables of n records or a few less.

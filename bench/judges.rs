@@ -1,6 +1,6 @@
 //! Calls 1 and 4, which judge tables and types, beside plain validators.
 
-use crate::pair::{accepted, refused, Buffers, Inputs, Pair, Workload, KIND, LABEL};
+use crate::pair::{accepted, answered, refused, Buffers, Inputs, Pair, Workload, KIND, LABEL};
 use crate::tables::{flat, messages, nested, wide};
 use crate::types::{deep, fields, lists, records};
 use crate::{type_validator, validator};
@@ -22,10 +22,7 @@ fn proved_type(inputs: &Inputs, _: &mut Buffers) -> Answer {
 }
 
 fn plain_type(inputs: &Inputs, _: &mut Buffers) -> Answer {
-    match type_validator::validate(&inputs.first, inputs.equivalence) {
-        Ok(records) => accepted(records),
-        Err(number) => refused(number, 0),
-    }
+    answered(type_validator::validate(&inputs.first, inputs.equivalence))
 }
 
 static TABLES: Pair = Pair {
@@ -45,16 +42,12 @@ static TYPES: Pair = Pair {
 };
 
 fn workload(pair: &'static Pair, name: &str, equivalence: u64, first: Vec<u8>) -> Workload {
-    let second = Vec::new();
-    Workload {
-        pair,
-        name: name.to_string(),
-        inputs: Inputs {
-            first,
-            second,
-            equivalence,
-        },
-    }
+    let inputs = Inputs {
+        first,
+        second: Vec::new(),
+        equivalence,
+    };
+    Workload::accepted(pair, name, inputs)
 }
 
 /// Workloads with tables of n records or a few less.

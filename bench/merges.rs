@@ -1,30 +1,27 @@
 //! Call 5, which merges types, beside a plain merge. Where the inputs don't have all their records in common they are half as large, so
 //! that the merged type fits the largest arena.
 
-use crate::pair::{accepted, refused, Buffers, Inputs, Pair, Workload, KIND, LABEL};
+use crate::pair::{answered, Buffers, Inputs, Pair, Workload, KIND, LABEL};
 use crate::plain_merge;
 use crate::types::{deep, fields, lists, records};
 use ct::raw::{self, Answer};
 
 fn proved(inputs: &Inputs, buffers: &mut Buffers) -> Answer {
-    let Inputs {
-        first,
-        second,
-        equivalence,
-    } = inputs;
-    raw::merge(first, second, *equivalence, &mut buffers.arena)
+    raw::merge(
+        &inputs.first,
+        &inputs.second,
+        inputs.equivalence,
+        &mut buffers.arena,
+    )
 }
 
 fn plain(inputs: &Inputs, buffers: &mut Buffers) -> Answer {
-    let Inputs {
-        first,
-        second,
-        equivalence,
-    } = inputs;
-    match plain_merge::merge(first, second, *equivalence, &mut buffers.arena) {
-        Ok(records) => accepted(records),
-        Err(number) => refused(number, 0),
-    }
+    answered(plain_merge::merge(
+        &inputs.first,
+        &inputs.second,
+        inputs.equivalence,
+        &mut buffers.arena,
+    ))
 }
 
 static MERGE: Pair = Pair {
@@ -50,34 +47,39 @@ fn equal(make: fn(Vec<u16>) -> Vec<u8>, n: u16) -> [Vec<u8>; 2] {
     [1, 1].map(|first| make((first..=n).collect()))
 }
 
-fn workload(name: &str, equivalence: u64, [first, second]: [Vec<u8>; 2]) -> Workload {
-    Workload {
-        pair: &MERGE,
-        name: name.to_string(),
-        inputs: Inputs {
-            first,
-            second,
-            equivalence,
-        },
-    }
-}
+/// Two types to be merged under an equivalence.
+pub type Types = (&'static str, u64, [Vec<u8>; 2]);
 
-/// Workloads with types of n records or a few less.
-pub fn workloads(n: u16) -> Vec<Workload> {
+/// Types whose merged type has n records or a few less.
+pub fn types(n: u16) -> Vec<Types> {
     let f = n / 2 - 1;
     let r = n / 3;
     let l = n / 19;
     let d = n / 47;
     vec![
-        workload("disjoint fields, kind", KIND, disjoint(fields, f)),
-        workload("interleaved fields, kind", KIND, interleaved(fields, f)),
-        workload("equal fields, kind", KIND, equal(fields, f)),
-        workload("equal fields, label", LABEL, equal(fields, f)),
-        workload("disjoint records, label", LABEL, disjoint(records, r)),
-        workload("interleaved records, label", LABEL, interleaved(records, r)),
-        workload("equal records, label", LABEL, equal(records, r)),
-        workload("interleaved lists, label", LABEL, interleaved(lists, l)),
-        workload("equal deep, kind", KIND, equal(deep, d)),
-        workload("equal deep, label", LABEL, equal(deep, d)),
+        ("disjoint fields, kind", KIND, disjoint(fields, f)),
+        ("interleaved fields, kind", KIND, interleaved(fields, f)),
+        ("equal fields, kind", KIND, equal(fields, f)),
+        ("equal fields, label", LABEL, equal(fields, f)),
+        ("disjoint records, label", LABEL, disjoint(records, r)),
+        ("interleaved records, label", LABEL, interleaved(records, r)),
+        ("equal records, label", LABEL, equal(records, r)),
+        ("interleaved lists, label", LABEL, interleaved(lists, l)),
+        ("equal deep, kind", KIND, equal(deep, d)),
+        ("equal deep, label", LABEL, equal(deep, d)),
     ]
+}
+
+fn workload((name, equivalence, [first, second]): Types) -> Workload {
+    let inputs = Inputs {
+        first,
+        second,
+        equivalence,
+    };
+    Workload::accepted(&MERGE, name, inputs)
+}
+
+/// Workloads with types of n records or a few less.
+pub fn workloads(n: u16) -> Vec<Workload> {
+    types(n).into_iter().map(workload).collect()
 }

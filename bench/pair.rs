@@ -18,11 +18,19 @@ pub fn refused(number: u64, place: usize) -> Answer {
     }
 }
 
+/// The answer of a plain call that has no place to name.
+pub fn answered(result: Result<usize, u64>) -> Answer {
+    match result {
+        Ok(records) => accepted(records),
+        Err(number) => refused(number, 0),
+    }
+}
+
 pub const KIND: u64 = 0;
 pub const LABEL: u64 = 1;
 
-/// What a call reads. Only a merge and a reader of texts have a second input, another type or the book. The judge of tables and the reader
-/// ask for no equivalence.
+/// What a call reads. Only a merge, a removal and a reader of texts have a second input, another type or the book. The judge of tables and
+/// the reader ask for no equivalence.
 #[derive(Clone)]
 pub struct Inputs {
     pub first: Vec<u8>,
@@ -49,14 +57,31 @@ pub struct Pair {
     pub plain: Call,
 }
 
-/// A call on inputs that it accepts.
+/// The length of the largest arena.
+pub const ROOM: usize = 65_536;
+
+/// A call on inputs, with an arena of a length.
 pub struct Workload {
     pub pair: &'static Pair,
     pub name: String,
     pub inputs: Inputs,
+    pub room: usize,
+    /// What the call answers: 0, as it accepts most workloads, or a refusal number.
+    pub number: u64,
 }
 
 impl Workload {
+    /// A call that accepts its inputs, with the largest arena.
+    pub fn accepted(pair: &'static Pair, name: &str, inputs: Inputs) -> Self {
+        Workload {
+            pair,
+            name: name.to_string(),
+            inputs,
+            room: ROOM,
+            number: 0,
+        }
+    }
+
     /// The number of records that the call reads.
     pub fn records(&self) -> usize {
         (self.inputs.first.len() + self.inputs.second.len()) / self.pair.size

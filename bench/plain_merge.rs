@@ -1,32 +1,14 @@
 //! Call 5 of document 01 in plain Rust: what the proved merge is measured against.
 
 use crate::arena::{clear_rest, Arena};
+use crate::front::{front, order, Front};
 use crate::pair::LABEL;
-use crate::type_validator::{bad_length, header, keys, validate, Header, MAX_TOTAL, RECORD, SIZE};
+use crate::type_validator::{bad_length, validate, MAX_TOTAL, RECORD};
 use std::cmp::Ordering;
 
 const LENGTH: u64 = 1;
 const SECOND: u64 = 9;
 const TOTAL: u64 = 10;
-
-/// The first addend or field of a run that is not empty: its record, what stands inside it, and what follows it.
-struct Front<'a> {
-    header: Header,
-    whole: &'a [u8],
-    inside: &'a [u8],
-    rest: &'a [u8],
-}
-
-fn front(run: &[u8]) -> Front<'_> {
-    let header = header(run);
-    let (whole, rest) = run.split_at(SIZE * header.span);
-    Front {
-        header,
-        whole,
-        inside: &whole[SIZE..],
-        rest,
-    }
-}
 
 fn total(mut union: &[u8]) -> u64 {
     let mut sum = 0;
@@ -36,15 +18,6 @@ fn total(mut union: &[u8]) -> u64 {
         union = first.rest;
     }
     sum
-}
-
-fn order(x: &Front, y: &Front, label: bool) -> Ordering {
-    let key = |f: &Front| (f.header.kind, f.header.key);
-    let order = key(x).cmp(&key(y));
-    if order.is_eq() && label && x.header.kind == RECORD {
-        return keys(x.inside).cmp(keys(y.inside));
-    }
-    order
 }
 
 struct Merge<'a> {
@@ -62,12 +35,12 @@ impl Merge<'_> {
             match order(&x, &y, self.label) {
                 Ordering::Less => {
                     sum += x.header.count;
-                    self.arena.append(x.whole);
+                    self.arena.append(x.all);
                     a = x.rest;
                 }
                 Ordering::Greater => {
                     sum += y.header.count;
-                    self.arena.append(y.whole);
+                    self.arena.append(y.all);
                     b = y.rest;
                 }
                 Ordering::Equal => {

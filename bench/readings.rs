@@ -1,7 +1,7 @@
 //! Call 6, which reads texts, beside a plain reader.
 
-use crate::comparing::{agree, ROOM};
-use crate::pair::{accepted, refused, Buffers, Inputs, Pair, KIND};
+use crate::comparing::agree;
+use crate::pair::{accepted, refused, Buffers, Inputs, Pair, KIND, ROOM};
 use crate::plain_reader;
 use crate::sequence::Sequence;
 use crate::texts::{self, Texts};
@@ -118,7 +118,7 @@ pub fn report(workloads: &[Workload]) {
             proved,
             plain,
             ratio,
-        } = measure(&READ, &workload.inputs, TIME);
+        } = measure(&READ, &workload.inputs, ROOM, TIME);
         println!(
             "{:<20}{:<28}{bytes:>7.0}{:>14.0}{:>16.0}{ratio:>9.2}{:>10.3}{:>10.3}",
             READ.name,

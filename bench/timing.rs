@@ -1,7 +1,6 @@
 //! Times a call of the library and the same call in plain Rust, in rounds that alternate so that noise meets both.
 
-use crate::comparing::ROOM;
-use crate::pair::{Buffers, Call, Inputs, Pair, Workload};
+use crate::pair::{Buffers, Call, Inputs, Pair, Workload, ROOM};
 use std::hint::black_box;
 use std::time::{Duration, Instant};
 
@@ -51,10 +50,10 @@ fn turns(n: usize, mut run: impl FnMut() -> f64) -> u32 {
     (SAMPLE.as_nanos() as f64 / once).max(1.0) as u32
 }
 
-/// Takes rounds for a time.
-pub fn measure(pair: &Pair, inputs: &[Inputs], time_for: Duration) -> Times {
+/// Takes rounds for a time, with an arena of a length.
+pub fn measure(pair: &Pair, inputs: &[Inputs], room: usize, time_for: Duration) -> Times {
     let mut buffers = Buffers {
-        arena: vec![0; ROOM],
+        arena: vec![0; room],
         work: vec![0; ROOM],
     };
     let mut run = |call, turns| time(call, inputs, &mut buffers, turns);
@@ -81,7 +80,8 @@ pub fn measure(pair: &Pair, inputs: &[Inputs], time_for: Duration) -> Times {
 
 impl Workload {
     pub fn measure(&self, time_for: Duration) -> Times {
-        measure(self.pair, std::slice::from_ref(&self.inputs), time_for)
+        let inputs = std::slice::from_ref(&self.inputs);
+        measure(self.pair, inputs, self.room, time_for)
     }
 }
 

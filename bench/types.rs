@@ -28,7 +28,7 @@ fn array(union: &[u8]) -> Vec<u8> {
 }
 
 /// A record with a null at each key.
-fn with_keys(keys: impl IntoIterator<Item = u16>) -> Vec<u8> {
+pub fn with_keys(keys: impl IntoIterator<Item = u16>) -> Vec<u8> {
     let fields: Vec<_> = keys.into_iter().map(|key| field(key, &null())).collect();
     record(&fields)
 }

@@ -28,6 +28,7 @@ extern "C" {
 #define CT_UNLISTED 13   /* a key that the book does not have, or that is spelled with an escape, at its closing quote */
 #define CT_BOOK 14       /* the key book is a bad one */
 #define CT_FIELDS 15     /* the 257th field of one record; in a text, at the closing quote of its key */
+#define CT_NOT_PART 16   /* no well-formed type merged with the part gives the whole */
 
 /* The equivalences: the class of a record is its kind alone, or its kind with its keys. */
 #define CT_BY_KIND 0
@@ -103,6 +104,23 @@ struct ct_answer ct_merge(const uint8_t *first, size_t first_length, const uint8
  * length 0. The call takes 141 KiB of the caller's stack. */
 struct ct_answer ct_read_text(const uint8_t *text, size_t text_length, const uint8_t *book, size_t book_length, uint8_t *table,
                               size_t table_length);
+
+/* Takes a part out of a whole under an equivalence: writes into the arena the type which, merged with the part, gives the whole.
+ *
+ * There is never more than one such type. Places whose counts fall to zero are not in it: a part that equals the whole leaves the empty
+ * type, with count 0, and an empty part leaves the whole. There is none, which is CT_NOT_PART, where the part has a place or a field that
+ * the whole lacks or counts lower, where something would stay inside what goes (one array with five elements less one array with three),
+ * and, under CT_BY_KIND, where a field would stay in more records than there are.
+ *
+ * Accepted, the count is the number of records of the type that is left, which stands in the front of the arena; the rest of the arena
+ * is zero. Refused, the place is 0 and the whole arena is zero. The three lengths come first, then the equivalence, the whole
+ * (CT_FIRST_TYPE), the part (CT_SECOND_TYPE), CT_NOT_PART, and at last the room, for which the records of the type that is left decide.
+ * What the arena held before makes no difference.
+ *
+ * `whole` and `part` point to bytes that nobody writes during the call; they may be the same bytes. The arena overlaps neither.
+ * None of the three is null, even for length 0. */
+struct ct_answer ct_remove(const uint8_t *whole, size_t whole_length, const uint8_t *part, size_t part_length, uint64_t equivalence,
+                           uint8_t *arena, size_t arena_length);
 
 #ifdef __cplusplus
 }

@@ -1,4 +1,5 @@
-/* Reads three messages, the example of document 01, from JSON text, infers their type, merges it with itself, and prints the types. */
+/* Reads three messages, the example of document 01, from JSON text, infers their type, merges it with itself, takes one message out of it,
+   and prints the types. */
 #include "ct.h"
 
 #include <inttypes.h>
@@ -34,6 +35,19 @@ static void print_type(const uint8_t *type, uint64_t records)
                number(record + 4, 4), number(record + 8, 8));
 }
 
+/* Takes the second message out of a type of all three. Its two records follow the five of the first. */
+static void take_out(const uint8_t *table, const uint8_t *type, size_t used)
+{
+    uint8_t part[ARENA], work[ARENA], rest[ARENA];
+    size_t part_used = ct_infer_default(table + 5 * VALUE, 2 * VALUE, part, ARENA, work, ARENA).count * RECORD;
+
+    struct ct_answer answer = ct_remove(type, used, part, part_used, CT_BY_KIND, rest, ARENA);
+    print_answer("take the second message out", answer);
+    print_type(rest, answer.count);
+
+    print_answer("take all out of the second", ct_remove(part, part_used, type, used, CT_BY_KIND, rest, ARENA));
+}
+
 int main(void)
 {
     uint8_t table[TABLE], type[ARENA], work[ARENA], merged[ARENA];
@@ -54,6 +68,8 @@ int main(void)
     answer = ct_merge(type, used, type, used, CT_BY_KIND, merged, ARENA);
     print_answer("merge with itself", answer);
     print_type(merged, answer.count);
+
+    take_out(table, type, used);
 
     print_answer("infer under label", ct_infer(table, length, CT_BY_LABEL, type, ARENA, work, ARENA));
 

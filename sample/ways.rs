@@ -1,5 +1,5 @@
-//! Reads a log from JSON text, brings its messages together in several ways, and says whether all of them end in the same bytes.
-//! `tests/ways.py` says which bytes.
+//! Reads a log from JSON text, brings its messages together in several ways, and says whether all of them end in the same bytes; then takes
+//! the first messages out again. `tests/ways.py` says which bytes.
 //!
 //! Arguments: the files with the log, as a value table and as text, and with the key book.
 
@@ -20,6 +20,9 @@ enum Merges {
     /// When all are inferred, two neighbours at a time.
     InPairs,
 }
+
+/// How many messages are taken out of the log's type.
+const SHIFT: usize = 100;
 
 /// How the messages are ordered, how many go into a table, and how the tables' types are merged.
 struct Way {
@@ -102,6 +105,20 @@ impl Fixed {
         Ok(Written { arena, records })
     }
 
+    fn remove(self, whole: &Written, part: &Written) -> Result<Written, Refusal> {
+        let mut arena = vec![0; self.arena];
+        let (whole, part) = (whole.in_use(), part.in_use());
+        let records = ct::remove(whole, part, self.equivalence, &mut arena)?;
+        Ok(Written { arena, records })
+    }
+
+    /// What a log's type is without that of the first messages.
+    fn without_shift(self, log: &[u8]) -> Result<Written, Refusal> {
+        let whole = self.infer(log)?;
+        let part = self.infer(&messages(log)[..SHIFT].concat())?;
+        self.remove(&whole, &part)
+    }
+
     /// The type that a way leaves. The first refusal ends it.
     fn bring(self, tables: &[Vec<u8>], merges: Merges) -> Result<Written, Refusal> {
         let mut at_hand = VecDeque::new();
@@ -155,20 +172,21 @@ fn digest(bytes: &[u8]) -> u64 {
     })
 }
 
+/// Prints the line of a way, or of what is done with its end.
+fn print_line(name: &str, tables: &str, result: &Result<Written, Refusal>) {
+    let number = result.as_ref().err().map_or(0, |refusal| refusal.number());
+    let records = result.as_ref().map_or(0, |written| written.records);
+    let digest = result.as_ref().map_or(0, |written| digest(&written.arena));
+    println!("{name:<40}{tables:>12}   answer {number:>2}{records:>6} records   {digest:016x}");
+}
+
 /// Goes one way, prints its line and gives the bytes that it leaves.
 fn go(way: &Way, log: &[u8], fixed: Fixed) -> Result<Vec<u8>, Refusal> {
     let mut messages = messages(log);
     (way.order)(&mut messages);
     let tables = tables(&messages, way.messages);
     let result = fixed.bring(&tables, way.merges);
-    let number = result.as_ref().err().map_or(0, |refusal| refusal.number());
-    let records = result.as_ref().map_or(0, |written| written.records);
-    let digest = result.as_ref().map_or(0, |written| digest(&written.arena));
-    println!(
-        "{:<40}{:>5} tables   answer {number:>2}{records:>6} records   {digest:016x}",
-        way.name,
-        tables.len()
-    );
+    print_line(way.name, &format!("{} tables", tables.len()), &result);
     result.map(|written| written.arena)
 }
 
@@ -183,7 +201,10 @@ fn compare(log: &[u8], fixed: Fixed) -> bool {
         (_, true) => "refused each time",
         _ => "THE WAYS DIFFER",
     };
-    println!("{verdict}\n");
+    println!("{verdict}");
+    let rest = fixed.without_shift(log);
+    print_line(&format!("without the first {SHIFT} messages"), "", &rest);
+    println!();
     same || refused
 }
 

@@ -52,22 +52,32 @@ def sum_of(first, second, equivalence):
     return Counter(dict(places(rows_in(first), equivalence))) + Counter(dict(places(rows_in(second), equivalence)))
 
 
-def merge(first, second, equivalence, arena):
-    """Refusal number, and the rows of the merged type, none if it is refused."""
+def refusal_of(first, second, equivalence, arena):
+    """The refusal number for the lengths, the equivalence and the two types, 0 if nothing is wrong with them."""
     verdicts = [judge(data, equivalence)[0] for data in (first, second)]
     if 1 in verdicts or arena % 16 or arena > LARGEST:
-        return 1, []
+        return 1
     if 2 in verdicts:
-        return 2, []
+        return 2
     if 8 in verdicts:
-        return 8 + verdicts.index(8), []
+        return 8 + verdicts.index(8)
+    return 0
+
+
+def fitted(rows, arena):
+    """Refusal number, and the rows that an arena has room for."""
+    return (11, []) if 16 * len(rows) > arena else (0, rows)
+
+
+def merge(first, second, equivalence, arena):
+    """Refusal number, and the rows of the merged type, none if it is refused."""
+    refusal = refusal_of(first, second, equivalence, arena)
+    if refusal:
+        return refusal, []
     counts = sum_of(first, second, equivalence)
     if largest_total(counts) > LIMIT:
         return 10, []
-    rows = rows_of(counts)
-    if 16 * len(rows) > arena:
-        return 11, []
-    return 0, rows
+    return fitted(rows_of(counts), arena)
 
 
 def written(rows):
@@ -306,14 +316,14 @@ def known():
     yield from given_lengths()
 
 
-def report(trials, equivalences):
-    """The 0 before the rows is the number of bytes behind the type that are not zero."""
+def report(call, trials, equivalences):
+    """What a call on two types answers. The 0 before the rows is the number of bytes behind the type that are not zero."""
     for name, first, second, arena in trials:
         for suffix, equivalence in equivalences.items():
-            refusal, rows = merge(first, second, equivalence, arena)
+            refusal, rows = call(first, second, equivalence, arena)
             print(f"{name}/{suffix} {refusal} 0 {len(rows)} 0{written(rows)}")
 
 
 if __name__ == "__main__":
-    report(known(), KNOWN)
-    report(unknown(), UNKNOWN)
+    report(merge, known(), KNOWN)
+    report(merge, unknown(), UNKNOWN)

@@ -15,7 +15,7 @@ def spelled(characters):
 
 def trials():
     """Names, texts, books and lengths of tables."""
-    section = STDIN.read_text(encoding="ascii").split("\n[6]\n")[1]
+    section = STDIN.read_text(encoding="ascii").split("\n[6]\n")[1].split("\n[")[0]
     for line in section.split("\n"):
         if ":" in line:
             head, rest = line.split(":", 1)

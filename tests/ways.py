@@ -1,4 +1,5 @@
-"""What sample/ways.rs must print for a log, from the map of places to counts (inferences.py): every way ends in the log's profile.
+"""What sample/ways.rs must print for a log, from the map of places to counts (inferences.py): every way ends in the log's profile, and
+without some messages that is the profile of the others.
 
 Run by tests/run: python3 tests/ways.py sample/log.table sample/log.json
 """
@@ -20,6 +21,9 @@ WAYS = {
     "sorted by bytes, tables of 3, in pairs": 3,
 }
 
+# How many messages are taken out.
+SHIFT = 100
+
 
 def digest(data):
     """FNV-1a, of 64 bits."""
@@ -29,14 +33,22 @@ def digest(data):
     return out
 
 
-def lines(log, count, name, equivalence, arena):
-    number, _, rows = infer(log, equivalence, arena, arena)
+def line(name, tables, number, rows, arena):
     left = 0 if number else digest(bytes_of(rows).ljust(arena, b"\0"))
+    return f"{name:<40}{tables:>12}   answer {number:>2}{len(rows):>6} records   {left:016x}"
+
+
+def lines(log, starts, name, equivalence, arena):
+    number, _, rows = infer(log, equivalence, arena, arena)
+    count = len(starts)
     yield f"{name}, arenas of {arena} bytes"
     for way, most in WAYS.items():
         tables = -(-count // (most or count))
-        yield f"{way:<40}{tables:>5} tables   answer {number:>2}{len(rows):>6} records   {left:016x}"
+        yield line(way, f"{tables} tables", number, rows, arena)
     yield "refused each time" if number else "the same bytes each time"
+    if not number:
+        number, _, rows = infer(log[8 * starts[SHIFT] :], equivalence, arena, arena)
+    yield line(f"without the first {SHIFT} messages", "", number, rows, arena)
     yield ""
 
 
@@ -44,8 +56,8 @@ if __name__ == "__main__":
     path, text = sys.argv[1:]
     log = Path(path).read_bytes()
     records = list(struct.iter_unpack("<BBHI", log))
-    count = len(list(runs(records, 0, len(records))))
-    print(f"{path}: {count} messages")
+    starts = list(runs(records, 0, len(records)))
+    print(f"{path}: {len(starts)} messages")
     print(f"{text}: {Path(text).stat().st_size} bytes, the same table\n")
     for name, equivalence, arena in ("Kind", KIND, LARGEST), ("Label", LABEL, LARGEST), ("Label", LABEL, 16 * 64):
-        print("\n".join(lines(log, count, name, equivalence, arena)))
+        print("\n".join(lines(log, starts, name, equivalence, arena)))

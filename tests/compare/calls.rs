@@ -1,7 +1,7 @@
 //! The calls: what each must answer and leave in the buffers lent to it, by its inputs.
 
 use crate::json;
-use crate::profile::{passes_limit, profile, sum, Equivalence};
+use crate::profile::{difference, passes_limit, profile, sum, Equivalence, Profile};
 use crate::types;
 use crate::value::{self, is_length, Fault};
 
@@ -36,6 +36,12 @@ pub enum Call<'a> {
         book: &'a [u8],
         table: usize,
     },
+    Remove {
+        whole: &'a [u8],
+        part: &'a [u8],
+        equivalence: u64,
+        arena: usize,
+    },
 }
 
 /// The answer, and every byte of the buffers. A text is read into the arena.
@@ -61,6 +67,7 @@ impl Call<'_> {
             Call::JudgeType { .. } => 4,
             Call::Merge { .. } => 5,
             Call::ReadText { .. } => 6,
+            Call::Remove { .. } => 7,
         }
     }
 
@@ -87,6 +94,12 @@ impl Call<'_> {
                 arena,
             } => settle(merge(first, second, equivalence, arena), arena, 0),
             Call::ReadText { text, book, table } => read_text(text, book, table),
+            Call::Remove {
+                whole,
+                part,
+                equivalence,
+                arena,
+            } => settle(remove(whole, part, equivalence, arena), arena, 0),
         }
     }
 }
@@ -123,19 +136,36 @@ fn judge_type(bytes: &[u8], number: u64) -> Result<Accepted, Fault> {
     }
 }
 
-fn merge(first: &[u8], second: &[u8], number: u64, arena: usize) -> Result<Accepted, Fault> {
-    let lengths = [first.len(), second.len(), arena];
+/// Two types that a call takes with an arena of this length.
+fn two_types(types: [&[u8]; 2], number: u64, arena: usize) -> Result<[Profile; 2], Fault> {
+    let lengths = [types[0].len(), types[1].len(), arena];
     if !lengths.into_iter().all(|n| is_length(n, types::SIZE)) {
         return Err((1, 0));
     }
     let equivalence = equivalence(number)?;
-    let first = types::read(first, equivalence).ok_or((8, 0))?;
-    let second = types::read(second, equivalence).ok_or((9, 0))?;
+    let first = types::read(types[0], equivalence).ok_or((8, 0))?;
+    let second = types::read(types[1], equivalence).ok_or((9, 0))?;
+    Ok([first, second])
+}
+
+fn merge(first: &[u8], second: &[u8], number: u64, arena: usize) -> Result<Accepted, Fault> {
+    let [first, second] = two_types([first, second], number, arena)?;
     let merged = sum(&first, &second);
     if passes_limit(&merged) {
         return Err((10, 0));
     }
     fit(types::write(&merged), arena)
+}
+
+/// Counts add at each place, so no type but the difference can give the whole. Whether it does is left to judging and merging its bytes.
+fn remove(whole: &[u8], part: &[u8], number: u64, arena: usize) -> Result<Accepted, Fault> {
+    let [all, part] = two_types([whole, part], number, arena)?;
+    let rest = types::write(&difference(&all, &part).ok_or((16, 0))?);
+    let read = types::read(&rest, equivalence(number)?).ok_or((16, 0))?;
+    if types::write(&sum(&read, &part)) != whole {
+        return Err((16, 0));
+    }
+    fit(rest, arena)
 }
 
 fn equivalence(number: u64) -> Result<Equivalence, Fault> {

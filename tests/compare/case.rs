@@ -83,6 +83,16 @@ fn show_call(call: &Call) -> String {
         Call::ReadText { text, book, table } => {
             format!("text {}\nbook {}\ntable {table}\n", hex(text), hex(book))
         }
+        Call::Remove {
+            whole,
+            part,
+            equivalence,
+            arena,
+        } => format!(
+            "whole {}\npart {}\nequivalence {equivalence}, arena {arena}\n",
+            hex(whole),
+            hex(part)
+        ),
     };
     format!("call {}\n{inputs}", call.number())
 }

@@ -5,8 +5,13 @@ use crate::random::Random;
 use ct::raw::{self, Answer};
 use ct::{Equivalence, Refusal};
 use std::hint::black_box;
+use std::ops::Range;
 
 const GUARD: usize = 16;
+
+/// The two forms of a call on two types.
+type Safe = fn(&[u8], &[u8], Equivalence, &mut [u8]) -> Result<usize, Refusal>;
+type Raw = fn(&[u8], &[u8], u64, &mut [u8]) -> Answer;
 
 /// Bytes that are lent for a call, at any alignment, with guards before and behind them.
 struct Lent {
@@ -78,8 +83,20 @@ pub fn run(call: &Call, random: &mut Random) -> Result<Outcome, &'static str> {
             second,
             equivalence,
             arena,
-        } => merge([first, second], equivalence, arena, random),
+        } => {
+            let call = (ct::merge as Safe, raw::merge as Raw);
+            combine(call, [first, second], equivalence, arena, random)
+        }
         Call::ReadText { text, book, table } => read_text([text, book], table, random),
+        Call::Remove {
+            whole,
+            part,
+            equivalence,
+            arena,
+        } => {
+            let call = (ct::remove as Safe, raw::remove as Raw);
+            combine(call, [whole, part], equivalence, arena, random)
+        }
     }
 }
 
@@ -129,8 +146,9 @@ fn judge_type(
     Ok(outcome(answer, Vec::new(), Vec::new()))
 }
 
-/// One slice given twice is lent as one slice.
-fn merge(
+/// A second type that is a part of the first slice, or that slice again, is lent as that.
+fn combine(
+    call: (Safe, Raw),
     types: [&[u8]; 2],
     equivalence: u64,
     arena: usize,
@@ -139,19 +157,25 @@ fn merge(
     let [first, second] = types.map(|bytes| Lent::holding(random, bytes));
     let mut arena = Lent::random(random, arena);
     let f = first.content();
-    let s = if std::ptr::eq(types[0], types[1]) {
-        f
-    } else {
-        second.content()
+    let s = match within(types[0], types[1]) {
+        Some(place) => &f[place],
+        None => second.content(),
     };
     let a = arena.content_mut();
     let answer = match safe(equivalence, random) {
-        Some(safe) => answer(ct::merge(f, s, safe, a)),
-        None => raw::merge(f, s, equivalence, a),
+        Some(safe) => answer(call.0(f, s, safe, a)),
+        None => call.1(f, s, equivalence, a),
     };
     first.kept()?;
     second.kept()?;
     Ok(outcome(answer, arena.written()?, Vec::new()))
+}
+
+/// Where in a slice another one lies.
+fn within(outer: &[u8], inner: &[u8]) -> Option<Range<usize>> {
+    let start = (inner.as_ptr() as usize).checked_sub(outer.as_ptr() as usize)?;
+    let end = start + inner.len();
+    (end <= outer.len()).then_some(start..end)
 }
 
 fn read_text(

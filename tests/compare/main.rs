@@ -1,5 +1,5 @@
-//! Compares the library with a separately written implementation of documents 01 and 02, on random cases and on tables and texts that are
-//! tried once each. Every second case has a text beside the other calls.
+//! Compares the library with a separately written implementation of documents 01 and 02, on random cases and on tables, texts and types
+//! that are tried once each. Every second case has a text beside the other calls.
 //!
 //! Arguments: the number of cases, the seed, and the first case's number (to see one case again).
 
@@ -14,9 +14,12 @@ mod full_records;
 mod json;
 mod library;
 mod messages;
+mod parts;
 mod profile;
 mod random;
+mod removals;
 mod single;
+mod small_types;
 mod tally;
 mod text_damage;
 mod texts;
@@ -53,16 +56,19 @@ fn main() {
     let mut case = Case::new(seed, 0, &mut once);
     full_records::compare(&mut case);
     extremes::compare(&mut case);
+    small_types::compare(&mut case);
     println!("{} calls tried once each: no difference", once.calls());
 }
 
 fn run(case: &mut Case) {
-    match case.random.below(10) {
+    match case.random.below(14) {
         0..=2 => single::table(case),
         3..=4 => single::one_type(case),
         5..=7 => single::two_types(case),
         8 => ways::ways(case),
-        _ => ways::merges(case),
+        9 => ways::merges(case),
+        10 => removals::apart(case),
+        _ => removals::whole_and_part(case),
     }
     if case.index % 2 == 0 {
         single::text(case);

@@ -101,6 +101,17 @@ pub fn sum(first: &Profile, second: &Profile) -> Profile {
     sum
 }
 
+/// What is left of the first at every place, without places where nothing is; none if the second counts a place higher.
+pub fn difference(first: &Profile, second: &Profile) -> Option<Profile> {
+    let mut rest = first.clone();
+    for (place, count) in second {
+        let left = rest.get_mut(place)?;
+        *left = left.checked_sub(*count)?;
+    }
+    rest.retain(|_, count| *count > 0);
+    Some(rest)
+}
+
 /// The total of each union, by what the classes of its addends follow.
 pub fn totals(profile: &Profile) -> BTreeMap<&[Step], u128> {
     let mut totals = BTreeMap::new();

@@ -95,7 +95,7 @@ pub fn text(case: &mut Case) {
 }
 
 /// Mostly the equivalence itself, sometimes the other one or none.
-fn number(equivalence: Equivalence, random: &mut Random) -> u64 {
+pub fn number(equivalence: Equivalence, random: &mut Random) -> u64 {
     match random.below(20) {
         0 => random.pick(&[0, 1]),
         1 => random.pick(&[2, 3, 255, 256, 257, 1 << 32, 1 << 63, u64::MAX]),
@@ -104,7 +104,7 @@ fn number(equivalence: Equivalence, random: &mut Random) -> u64 {
 }
 
 /// The length of an arena about a type of so many records.
-fn arena_length(records: usize, random: &mut Random) -> usize {
+pub fn arena_length(records: usize, random: &mut Random) -> usize {
     let exact = types::SIZE * records;
     match random.below(20) {
         0..=6 => exact,

@@ -1,21 +1,24 @@
 //! Counts how often each call and each way answered each number. A number that can occur must.
 
-/// The rows of ways over tables and of merge trees over types; a call's row has its number.
-pub const WAY: usize = 7;
-pub const MERGES: usize = 8;
+/// The rows of ways over tables, of merge trees over types and of merges taken apart; a call's row has its number.
+pub const WAY: usize = 8;
+pub const MERGES: usize = 9;
+pub const APART: usize = 10;
 
 /// One more than the largest number that a call answers.
-const NUMBERS: usize = 16;
+const NUMBERS: usize = 17;
 
-const ROWS: [(&str, &[u64]); 8] = [
+const ROWS: [(&str, &[u64]); 10] = [
     ("1 judge a table", &[0, 1, 3, 4, 5, 6, 7, 15]),
     ("2 infer", &[0, 1, 2, 3, 4, 5, 6, 7, 11, 15]),
     ("3 infer, default", &[0, 1, 3, 4, 5, 6, 7, 11, 15]),
     ("4 judge a type", &[0, 1, 2, 8]),
     ("5 merge", &[0, 1, 2, 8, 9, 10, 11]),
     ("6 read a text", &[0, 1, 6, 7, 11, 12, 13, 14, 15]),
+    ("7 remove", &[0, 1, 2, 8, 9, 11, 16]),
     ("ways", &[0, 11]),
     ("merge trees", &[0, 10, 11]),
+    ("merges apart", &[0, 1, 11]),
 ];
 
 #[derive(Default)]

@@ -43,6 +43,8 @@ pub enum Refusal {
     SecondType,
     /// A union of the merged type would total above 1,000,000,000,000,000.
     Total,
+    /// No well-formed type merged with the part gives the whole.
+    NotPart,
     /// The resulting type has more records than the arena.
     Room,
     /// The table is full where a value of the text starts.
@@ -56,7 +58,7 @@ pub enum Refusal {
 }
 
 impl Refusal {
-    /// The number of documents 01 and 02, 1 to 15.
+    /// The number of documents 01 and 02, 1 to 16.
     pub fn number(self) -> u64 {
         match self {
             Refusal::Length => 1,
@@ -74,6 +76,7 @@ impl Refusal {
             Refusal::Unlisted { .. } => 13,
             Refusal::Book => 14,
             Refusal::Fields { .. } => 15,
+            Refusal::NotPart => 16,
         }
     }
 
@@ -150,4 +153,35 @@ pub fn merge(
 /// read from the left, and the first fault decides. The call takes 141 KiB of stack.
 pub fn read_text(text: &[u8], book: &[u8], table: &mut [u8]) -> Result<usize, Refusal> {
     raw::read_text(text, book, table).result_of_text()
+}
+
+/// Call 7. Takes a part out of a whole: writes the type that merged with the part gives the whole at the front of the arena, and gives
+/// its number of records.
+///
+/// There is never more than one such type. Where there is none, the call is refused by [`Refusal::NotPart`]: the part has a place
+/// that the whole lacks or counts lower, something would stay inside what goes, or, under [`Equivalence::Kind`], a field would
+/// stay in more records than there are. The types are just the records in use, and may be the same bytes; that leaves the empty
+/// type. The arena may hold any bytes; accepted, it is zero behind the type, refused, all of it is. The whole is judged before the
+/// part, then what is left, then the room, which is refused only where what is left itself has more records than the arena.
+///
+/// ```
+/// use ct::{remove, Equivalence, Refusal};
+///
+/// // A type of one record: so many nulls.
+/// let nulls = |count| [1, 0, 0, 0, 1, 0, 0, 0, count, 0, 0, 0, 0, 0, 0, 0];
+/// let mut arena = [0; 16];
+/// assert_eq!(remove(&nulls(5), &nulls(2), Equivalence::Kind, &mut arena), Ok(1));
+/// assert_eq!(arena, nulls(3));
+///
+/// let refused = remove(&nulls(2), &nulls(5), Equivalence::Kind, &mut arena);
+/// assert_eq!(refused, Err(Refusal::NotPart));
+/// assert_eq!(arena, [0; 16]);
+/// ```
+pub fn remove(
+    whole: &[u8],
+    part: &[u8],
+    equivalence: Equivalence,
+    arena: &mut [u8],
+) -> Result<usize, Refusal> {
+    raw::remove(whole, part, equivalence as u64, arena).result()
 }

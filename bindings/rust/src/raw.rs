@@ -49,6 +49,15 @@ extern "C" {
         table: *mut u8,
         table_length: usize,
     ) -> Answer;
+    fn ct_remove(
+        whole: *const u8,
+        whole_length: usize,
+        part: *const u8,
+        part_length: usize,
+        equivalence: u64,
+        arena: *mut u8,
+        arena_length: usize,
+    ) -> Answer;
 }
 
 // The library asks for pointers that are not null, to bytes that nobody else writes during the call, and for an arena, a
@@ -116,6 +125,20 @@ pub fn read_text(text: &[u8], book: &[u8], table: &mut [u8]) -> Answer {
     }
 }
 
+pub fn remove(whole: &[u8], part: &[u8], equivalence: u64, arena: &mut [u8]) -> Answer {
+    unsafe {
+        ct_remove(
+            whole.as_ptr(),
+            whole.len(),
+            part.as_ptr(),
+            part.len(),
+            equivalence,
+            arena.as_mut_ptr(),
+            arena.len(),
+        )
+    }
+}
+
 impl Answer {
     /// The count, or the refusal.
     pub fn result(self) -> Result<usize, Refusal> {
@@ -137,6 +160,7 @@ impl Answer {
             13 => Refusal::Unlisted { place },
             14 => Refusal::Book,
             15 => Refusal::Fields { place },
+            16 => Refusal::NotPart,
             number => unreachable!("no call answers {number}"),
         })
     }

@@ -20,11 +20,11 @@ use Rattle.byte_records.proofs.Clear.{clearedFrom}
 abbrev pub Exact : Written → Type 0
 Exact w = length (w .bytes) ≡ typeSize * w .outcome .count
 
-exact-cond : (t : Bool) (v w : Written) → Exact v → Exact w → Exact (cond t v w)
+pub exact-cond : (t : Bool) (v w : Written) → Exact v → Exact w → Exact (cond t v w)
 exact-cond true v w h i = h
 exact-cond false v w h i = i
 
-exact-stored : (n : ℕ) (f : CountingType) → Exact (stored n f)
+pub exact-stored : (n : ℕ) (f : CountingType) → Exact (stored n f)
 exact-stored n f = exact-cond (ltb n (typeSize * size f)) (turnedDown 11 0) _ refl (length-encode f)
 
 pub exact-merged : (first second : List ℕ) (equivalence n : ℕ) → Exact (merged first second equivalence n)

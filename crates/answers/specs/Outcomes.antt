@@ -7,7 +7,7 @@ use Rattle.counting_theory.specs.Answers.{Left}
 use Rattle.answers.specs.declared.Answered.{Answered}
 use Rattle.answers.specs.declared.Answered.the-variants.{Accepted, Refused}
 use Rattle.answers.specs.declared.Refusal.{Refusal}
-use Rattle.answers.specs.declared.Refusal.the-variants.{Length, Equivalence, Table, First, Second, Total, Room}
+use Rattle.answers.specs.declared.Refusal.the-variants.{Length, Equivalence, Table, First, Second, Total, NotPart, Room}
 
 -- the column 'returned'
 abbrev pub numberOfRefusal : Refusal → ℕ
@@ -17,6 +17,7 @@ numberOfRefusal (Table fault) = table.numberOfFault fault
 numberOfRefusal First = 8
 numberOfRefusal Second = 9
 numberOfRefusal Total = 10
+numberOfRefusal NotPart = 16
 numberOfRefusal Room = 11
 
 abbrev pub outcomeOf : Answered → Outcome

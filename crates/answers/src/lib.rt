@@ -8,7 +8,7 @@ ghost use Rattle.counting_theory.specs.Encoding.{typeSize};
 ghost use Rattle.answers.specs.Outcomes.{numberOfRefusal, outcomeOf};
 
 // Why a call is refused: a length, an unknown equivalence, a fault of a record of the table, a malformed first (or only) or second type, a total
-// above the limit, or no room in the arena.
+// above the limit, a part that is not in the whole, or no room in the arena.
 pub enum Refusal {
     Length,
     Equivalence,
@@ -16,6 +16,7 @@ pub enum Refusal {
     First,
     Second,
     Total,
+    NotPart,
     Room,
 }
 
@@ -35,6 +36,7 @@ fn refusal_number(why: Refusal) -> u64
         Refusal::First => 8,
         Refusal::Second => 9,
         Refusal::Total => 10,
+        Refusal::NotPart => 16,
         Refusal::Room => 11,
     }
 }

@@ -134,9 +134,9 @@ module _ (w : ℕ) (b : List ℕ) (p : ℕ) (bytes : Bytes b) (fits : p + w ≤ 
   part-written = rw part-length at (bytesOf-numberOf (take w (drop p b)) part-bytes)
 
 -- bytes that give one number are the same
-pub part-same : (w : ℕ) (b : List ℕ) (p q : ℕ) → Bytes b → p + w ≤ length b → q + w ≤ length b → numberAt w b p ≡ numberAt w b q →
-    take w (drop p b) ≡ take w (drop q b)
-part-same w b p q bytes h k e = sym (part-written w b p bytes h) ∙ ap (bytesOf w) e ∙ part-written w b q bytes k
+pub part-same : (w : ℕ) (b c : List ℕ) (p q : ℕ) → Bytes b → Bytes c → p + w ≤ length b → q + w ≤ length c → numberAt w b p ≡ numberAt w c q →
+    take w (drop p b) ≡ take w (drop q c)
+part-same w b c p q f g h k e = sym (part-written w b p f h) ∙ ap (bytesOf w) e ∙ part-written w c q g k
 
 -- the bytes from p on, by the numbers that are read there
 numbers-written : (format : Format) (ns b : List ℕ) (p : ℕ) → Bytes b → p + widthOf format ≤ length b →

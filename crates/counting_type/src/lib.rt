@@ -8,6 +8,8 @@ use inference::inferring::Inferred;
 use merging::merge_types;
 use type_arena::type_record;
 use type_arena::type_record::bad_length;
+use type_check::pair::Pair;
+use type_check::pair::judge_pair;
 use type_check::well_formed;
 use value_table::Judged;
 use value_table::judge;
@@ -112,19 +114,6 @@ pub fn judge_type(bytes: &[u8], equivalence: u64) -> Answered
     Answered::Refused(Refusal::First, 0)
 }
 
-// Whether the length of one of two types or of an arena is wrong.
-fn bad_lengths(first: usize, second: usize, arena: usize) -> bool
-    ensures { λ r. ⌜ r ≡ (badTypeLength first || badTypeLength second || badTypeLength arena) ⌝ }
-{
-    if bad_length(first) {
-        return true;
-    }
-    if bad_length(second) {
-        return true;
-    }
-    bad_length(arena)
-}
-
 // The merge of two well-formed types, in the front of the arena.
 fn merge_checked(first: &[u8], second: &[u8], label: bool, arena: &mut [u8]) -> Answered
     requires { ⌜ IsType (byFlag label) (now first) (typeOf (byFlag label) (now first)) ⌝ }
@@ -148,20 +137,10 @@ fn merge_checked(first: &[u8], second: &[u8], label: bool, arena: &mut [u8]) -> 
 fn merge_front(first: &[u8], second: &[u8], equivalence: u64, arena: &mut [u8]) -> Answered
     ensures { λ r. ⌜ WrittenInFront (merged (now (first .entry)) (now (second .entry)) equivalence (length (now (arena .entry)))) r (now (arena .exit)) ⌝ }
 {
-    if bad_lengths(first.len(), second.len(), arena.len()) {
-        return Answered::Refused(Refusal::Length, 0);
+    match judge_pair(first, second, equivalence, arena.len()) {
+        Pair::Refused(why) => Answered::Refused(why, 0),
+        Pair::Formed(label) => merge_checked(first, second, label, arena),
     }
-    if 1 < equivalence {
-        return Answered::Refused(Refusal::Equivalence, 0);
-    }
-    let label = equivalence == 1;
-    if !well_formed(first, label) {
-        return Answered::Refused(Refusal::First, 0);
-    }
-    if !well_formed(second, label) {
-        return Answered::Refused(Refusal::Second, 0);
-    }
-    merge_checked(first, second, label, arena)
 }
 
 // Call 5: merges a first and a second type under an equivalence into the arena. Both may be the same bytes.

@@ -8,6 +8,7 @@ ghost use mathlib.Core.List.{[]};
 ghost use lib.ListN.{length};
 ghost use Rattle.counting_theory.specs.Answers.{judgedType, leaves, inferred, inferredDefault, merged};
 ghost use Rattle.json_theory.specs.Reader.{read};
+ghost use Rattle.removal.specs.Removed.{removed};
 ghost use Rattle.ct.specs.Left.{answerLeft, answerRead};
 
 // Call 1: judges a table.
@@ -70,4 +71,13 @@ pub extern "C" fn ct_read_text(text: &[u8], book: &[u8], table: &mut [u8]) -> An
     ensures { λ r. ⌜ answerRead r (now (table .exit)) ≡ read (now (text .entry)) (now (book .entry)) (length (now (table .entry))) ⌝ }
 {
     call::answer_of(call::read_text(text, book, table))
+}
+
+// Call 7: takes a part out of a whole type under an equivalence, into the arena.
+#[no_mangle]
+pub extern "C" fn ct_remove(whole: &[u8], part: &[u8], equivalence: u64, arena: &mut [u8]) -> Answer
+    ensures { λ r. ⌜ answerLeft r (now (arena .exit)) []
+        ≡ leaves (removed (now (whole .entry)) (now (part .entry)) equivalence (length (now (arena .entry)))) (now (arena .entry)) [] ⌝ }
+{
+    answers::answer_of(removal::remove(whole, part, equivalence, arena))
 }

@@ -1,4 +1,3 @@
 -- The merge on bytes.
-pub mod Part
 pub mod OneAddend
 pub mod MergeLoop

@@ -1,15 +1,14 @@
 // Merges two well-formed types in one pass over both: union by union, and inside addends that have one label.
-mod level;
-
 use byte_records::store::put_bytes;
-use level::Level;
-use level::inside;
+use type_arena::addend::append;
 use type_arena::addend::body_of;
-use type_arena::addend::front_of;
+use type_arena::addend::keep;
 use type_arena::addend::rest_of;
 use type_arena::addend::union_total;
 use type_arena::label_order::Order;
 use type_arena::label_order::compare_labels;
+use type_arena::level::Level;
+use type_arena::level::inside;
 use type_arena::payload::join;
 use type_arena::payload::payload_at;
 use type_arena::record_store::put_record;
@@ -21,12 +20,11 @@ ghost use mathlib.Core.Path.{_≡_};
 ghost use mathlib.Core.Bool.{_||_};
 ghost use Prim.Native.Nat.{_+_, _^_, _<_};
 ghost use lib.ListN.{length};
-ghost use lib.Seq.{sets};
 ghost use Rattle.counting_theory.specs.Encoding.{typeKind, typeOf};
 ghost use Rattle.counting_theory.specs.WellFormed.{IsType};
 ghost use Rattle.type_arena.specs.Inside.Arena.{byFlag};
-ghost use Rattle.type_arena.specs.Inside.Addend.{Headed};
-ghost use Rattle.merging.specs.Inside.Merging.{Part, exceedsHere, Kept, MergedSoFar, MergeStored, Joined};
+ghost use Rattle.type_arena.specs.Inside.Runs.{TypeRun};
+ghost use Rattle.merging.specs.Inside.Merging.{exceedsHere, MergedSoFar, MergeStored, Joined};
 
 // How many bytes a merge has, and whether a union in it totals above the limit.
 pub struct Merged {
@@ -46,32 +44,13 @@ fn either(a: bool, b: bool) -> bool
 
 // Whether the merge of two unions totals above the limit; fields have no total.
 fn total_over(a: &[u8], b: &[u8], level: Level) -> bool
-    requires { ⌜ Part level (now a) × Part level (now b) ⌝ }
+    requires { ⌜ TypeRun level (now a) × TypeRun level (now b) ⌝ }
     ensures { λ r. ⌜ r ≡ exceedsHere (byFlag (level .label)) (now (a .entry)) (now (b .entry)) ⌝ }
 {
     if level.field {
         return false;
     }
     type_record::MAX_TOTAL < union_total(a) + union_total(b)
-}
-
-// Stores src from `at` on, and moves `at` past it.
-fn append(src: &[u8], out: &mut [u8], at: &mut usize)
-    requires { ⌜ now at + length (now src) < 2 ^ 64 ⌝ }
-    ensures { λ _. ⌜ (now (out .exit) ≡ sets (now (out .entry)) (now (at .entry)) (now (src .entry)))
-        × (now (at .exit) ≡ now (at .entry) + length (now (src .entry))) ⌝ }
-{
-    put_bytes(src, out, *at);
-    *at = *at + src.len();
-}
-
-// Stores the first addend of x as it is, and returns what follows it.
-fn keep<'a>(x: &'a [u8], out: &mut [u8], at: &mut usize) -> &'a [u8]
-    requires { ⌜ Headed (now x) × (now at + length (now x) < 2 ^ 64) ⌝ }
-    ensures { λ r. ⌜ Kept (now (x .entry)) (now (out .entry)) (now (at .entry)) (now r) (now (out .exit)) (now (at .exit)) ⌝ }
-{
-    append(front_of(x), out, at);
-    rest_of(x)
 }
 
 // Merges two unions, or two runs of fields, until the second has run out, and returns what is left of the first.
@@ -83,7 +62,7 @@ fn merge_run<'a>(
     over: &mut bool,
     level: Level,
 ) -> &'a [u8]
-    requires { ⌜ Part level (now first) × Part level (now second) ⌝ }
+    requires { ⌜ TypeRun level (now first) × TypeRun level (now second) ⌝ }
     requires { ⌜ now at + length (now first) + length (now second) < 2 ^ 64 ⌝ }
     ensures { λ r. ⌜ MergedSoFar (byFlag (level .label)) (now (first .entry)) (now (second .entry)) (now (out .entry)) (now (at .entry)) (now (over .entry))
         (now r) (now (out .exit)) (now (at .exit)) (now (over .exit)) ⌝ }
@@ -118,8 +97,8 @@ fn merge_run<'a>(
 
 // Merges the first addends or fields of x and y, which have one label.
 fn merge_addend(x: &[u8], y: &[u8], out: &mut [u8], at: &mut usize, over: &mut bool, level: Level)
-    requires { ⌜ Part level (now x) × (0 < length (now x)) ⌝ }
-    requires { ⌜ Part level (now y) × (0 < length (now y)) × (typeKind (now x) 0 ≡ typeKind (now y) 0) ⌝ }
+    requires { ⌜ TypeRun level (now x) × (0 < length (now x)) ⌝ }
+    requires { ⌜ TypeRun level (now y) × (0 < length (now y)) × (typeKind (now x) 0 ≡ typeKind (now y) 0) ⌝ }
     requires { ⌜ now at + length (now x) + length (now y) < 2 ^ 64 ⌝ }
     ensures { λ _. ⌜ Joined (byFlag (level .label)) (now (x .entry)) (now (y .entry)) (now (out .entry)) (now (at .entry)) (now (over .entry))
         (now (out .exit)) (now (at .exit)) (now (over .exit)) ⌝ }
@@ -136,7 +115,7 @@ fn merge_addend(x: &[u8], y: &[u8], out: &mut [u8], at: &mut usize, over: &mut b
 
 // Merges two unions, or two runs of fields, into out from `at` on.
 fn merge_union(a: &[u8], b: &[u8], out: &mut [u8], at: usize, level: Level) -> Merged
-    requires { ⌜ Part level (now a) × Part level (now b) ⌝ }
+    requires { ⌜ TypeRun level (now a) × TypeRun level (now b) ⌝ }
     requires { ⌜ at + length (now a) + length (now b) < 2 ^ 64 ⌝ }
     ensures { λ r. ⌜ MergeStored (byFlag (level .label)) (now (a .entry)) (now (b .entry)) (now (out .entry)) at (now (out .exit)) (r .bytes) (r .over) ⌝ }
 {

@@ -131,7 +131,7 @@ module _ {b arena : List ℕ} {answer : Answer} (t : Told b arena answer) where
       go (suc k) z = (λ i. refusalLine (z i) (t .outcome i .place)) ∙ ap (λ j. textOf j (profiled b)) (sym (number-of (suc k) z))
 
 -- a refusal number has two digits at most
-pub small-number : (answered : Answered) → outcomeOf answered .number ≤ 15
+pub small-number : (answered : Answered) → outcomeOf answered .number ≤ 16
 small-number (Accepted records) = omega arith
 small-number (Refused refusals.Length place) = omega arith
 small-number (Refused refusals.Equivalence place) = omega arith
@@ -144,4 +144,5 @@ small-number (Refused (refusals.Table faults.Depth) place) = omega arith
 small-number (Refused refusals.First place) = omega arith
 small-number (Refused refusals.Second place) = omega arith
 small-number (Refused refusals.Total place) = omega arith
+small-number (Refused refusals.NotPart place) = omega arith
 small-number (Refused refusals.Room place) = omega arith

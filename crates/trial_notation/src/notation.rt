@@ -4,6 +4,7 @@ use crate::records::Layout;
 use crate::records::RECORD;
 use crate::records::Run;
 use crate::records::put_around;
+use crate::records::put_count;
 use crate::records::put_run;
 use crate::records::put_text;
 use crate::text::byte_at;
@@ -25,9 +26,10 @@ fn put_behind(
 }
 
 // A record with a run of fields, and the records for further ones.
-fn fields(bytes: &mut [u8], layout: Layout, run: Run, records: &[u8]) -> usize {
+fn fields(bytes: &mut [u8], layout: Layout, count: u64, run: Run, records: &[u8]) -> usize {
     let end = put_behind(bytes, layout, Item::Field, 1, run, records);
     put_around(bytes, layout, 0, RECORD, end);
+    put_count(bytes, layout, 0, count);
     end
 }
 
@@ -63,7 +65,7 @@ pub fn build(bytes: &mut [u8], layout: Layout, text: &[u8]) -> usize {
     match byte_at(text, 0) {
         b'n' => put_behind(bytes, layout, Item::Null, 0, run, records),
         b'r' => put_behind(bytes, layout, Item::Record, 0, run, records),
-        b'f' => fields(bytes, layout, run, records),
+        b'f' => fields(bytes, layout, number_or(head, 4, 1) as u64, run, records),
         b'a' => arrays(bytes, layout, run.count, records),
         _ => put_text(bytes, layout, 0, text),
     }

@@ -120,9 +120,14 @@ fn put(bytes: &mut [u8], layout: Layout, i: usize, kind: u64, key: u64, span: u6
     put_number(bytes, layout, at, kind);
     put_number(bytes, layout, at + 1, key);
     put_number(bytes, layout, at + 2, span);
+    put_count(bytes, layout, i, 1);
+}
+
+// Stores the count of a record, where it has one.
+pub fn put_count(bytes: &mut [u8], layout: Layout, i: usize, count: u64) {
     match layout {
         Layout::Value => (),
-        Layout::Type => put_number(bytes, layout, at + COUNT, 1),
+        Layout::Type => put_number(bytes, layout, i % 16384 * 4 + COUNT, count),
     }
 }
 

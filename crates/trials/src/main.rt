@@ -5,7 +5,7 @@ mod texts;
 mod trial;
 
 fn main() {
-    let mut text = [0u8; 65536];
+    let mut text = [0u8; 131072];
     let n = io::read_full(0, &mut text);
     lines::each_line(&text[..n]);
 }

@@ -81,24 +81,30 @@ fn try_type(equivalence: u64, head: &[u8], records: &[u8]) {
     print_answer(answers::answer_of(counting_type::judge_type(judged, equivalence)));
 }
 
-fn merge_into(equivalence: u64, first: &[u8], second: &[u8], arena: &mut [u8]) {
-    let answered = counting_type::merge(first, second, equivalence, arena);
-    let answer = answers::answer_of(answered);
+fn combine(call: u8, equivalence: u64, first: &[u8], second: &[u8], arena: &mut [u8]) -> Answered {
+    if call == b'7' {
+        return removal::remove(first, second, equivalence, arena);
+    }
+    counting_type::merge(first, second, equivalence, arena)
+}
+
+fn combine_into(call: u8, equivalence: u64, first: &[u8], second: &[u8], arena: &mut [u8]) {
+    let answer = answers::answer_of(combine(call, equivalence, first, second, arena));
     print_answer(answer);
     print(nonzero(behind_type(arena, answer.count)));
     print_type(type_in(arena, answer.count));
 }
 
-fn merge_under(equivalence: u64, head: &[u8], first: &[u8], second: &[u8]) {
+fn combine_under(call: u8, equivalence: u64, head: &[u8], first: &[u8], second: &[u8]) {
     let mut arena = [DIRT; ROOM];
     let length = number_or(head, 1, LARGEST);
     if length <= ROOM {
-        merge_into(equivalence, first, second, &mut arena[0..length]);
+        combine_into(call, equivalence, first, second, &mut arena[0..length]);
     }
 }
 
-// Call 5. The line may name the lengths of the arena, of the first and of the second type. The second may be the same as the first.
-fn try_merge(equivalence: u64, head: &[u8], records: &[u8]) {
+// Calls 5 and 7. The line may name the lengths of the arena, of the first and of the second type. The second may be the same as the first.
+fn try_two_types(call: u8, equivalence: u64, head: &[u8], records: &[u8]) {
     let mut one = [0u8; ROOM];
     let mut other = [0u8; ROOM];
     let bar = find(records, 0, b'|');
@@ -108,11 +114,12 @@ fn try_merge(equivalence: u64, head: &[u8], records: &[u8]) {
     let built = start_of(Layout::Type, build(&mut one, Layout::Type, before));
     let first = part(&one, 0, number_or(head, 2, built));
     if byte_at(after, 0) == b's' {
-        merge_under(equivalence, head, first, first);
+        combine_under(call, equivalence, head, first, first);
         return;
     }
     let built = start_of(Layout::Type, build(&mut other, Layout::Type, after));
-    merge_under(
+    combine_under(
+        call,
         equivalence,
         head,
         first,
@@ -145,7 +152,7 @@ fn try_under(call: u8, equivalence: u64, head: &[u8], records: &[u8]) {
     match call {
         b'1' => try_table(head, records),
         b'4' => try_type(equivalence, head, records),
-        b'5' => try_merge(equivalence, head, records),
+        b'5' | b'7' => try_two_types(call, equivalence, head, records),
         b'6' => try_text(head, records),
         _ => try_inference(call, equivalence, head, records),
     }

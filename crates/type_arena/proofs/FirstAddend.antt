@@ -29,6 +29,10 @@ header-parts : (l : Label) (span : ℕ) (a : Payload) → header l span a ≡ he
 unfolding header
 header-parts l span a = refl
 
+pub header-first : (e : Equivalence) (x : List ℕ) (span : ℕ) (a : Payload) → header (labelAt e x 0) span a ≡ headerOf (typeKind x 0) (typeKey x 0) span a
+unfolding labelAt header
+header-first e x span a = refl
+
 -- whether fields stand inside, by the kind
 pub fields-by-kind : (field : Bool) (l : Label) → holdsFields field l ≡ (not field && eqb (l .kind) recordKind)
 fields-by-kind true l = refl

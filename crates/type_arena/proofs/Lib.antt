@@ -4,4 +4,5 @@ pub mod Nodes
 pub mod RecordBytes
 pub mod PayloadBytes
 pub mod FirstAddend
+pub mod Runs
 pub mod UnionTotal

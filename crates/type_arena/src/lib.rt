@@ -1,6 +1,7 @@
-// Type records: their fields, their payload, the order of their labels, their stores, and the parts of a run.
+// Type records: their fields, their payload, the order of their labels, their stores, and the parts and the level of a run.
 pub mod addend;
 pub mod label_order;
+pub mod level;
 pub mod payload;
 pub mod record_store;
 pub mod type_record;

@@ -1,4 +1,6 @@
 // Well-formedness of a type, in one pass over its records.
+pub mod pair;
+
 use type_arena::label_order::Order;
 use type_arena::label_order::compare_labels;
 use type_arena::type_record;

@@ -13,7 +13,7 @@ largest-le w w′ x x′ y y′ z z′ h i j k = omega arith
 module _ {T : TrieOps} where
   open TrieOps T using (Label, Payload, weight)
 
-  noLarger-refl : (f : Trie T) → NoLarger T f f
+  pub noLarger-refl : (f : Trie T) → NoLarger T f f
   noLarger-refl f = omega arith
 
   pub noLarger-trans : {f g h : Trie T} → NoLarger T f g → NoLarger T g h → NoLarger T f h

@@ -17,6 +17,9 @@ module _ {T : TrieOps} (W : TrieLaws T) where
   pub reduce-add : (f g : Trie T) → Sorted T f → Sorted T g → reduce T f g ≡ add T f g
   reduce-add f g u v = canonical W (sorted-reduce W f g u v) (sorted-add W f g v) (λ p. lookup-reduce W f g p ∙ sym (lookup-add W f g p))
 
+  pub reduce-comm : (f g : Trie T) → Sorted T f → Sorted T g → reduce T f g ≡ reduce T g f
+  reduce-comm f g u v = canonical W (sorted-reduce W f g u v) (sorted-reduce W g f v u) (λ p. simp (lookup-reduce W) (⊞-comm W _ _))
+
   pub lookup-profile : (r : Trie T) → SameMap T (profile T r) r
   unfolding lookup
   lookup-profile r p = lookup-add W r nil p ∙ ⊞-none W (lookup T r p)

@@ -25,7 +25,7 @@ use Rattle.counting_theory.proofs.WellFormed.Limit.{totals-limit}
 use Rattle.counting_theory.proofs.WellFormed.AcceptsExactly.{type-unique, well-formed-type}
 use Rattle.counting_theory.proofs.Ways.Weights.{largest-values}
 
-equivalence-of : (e : Equivalence) → equivalenceOf (equivalenceNumber e) ≡ some e
+pub equivalence-of : (e : Equivalence) → equivalenceOf (equivalenceNumber e) ≡ some e
 equivalence-of byKind = refl
 equivalence-of byLabel = refl
 
@@ -50,13 +50,13 @@ module _ (e : Equivalence) (n : ℕ) (allowed : badTypeLength n ≡ false) (b : 
   default-profile h arena work i j = ap (λ x. inferred b (equivalenceNumber x) arena work) h ∙ inferred-profile arena work i j
 
 module _ (e : Equivalence) where
-  encode-length : (f : CountingType) → IsType e (encode f) f → badTypeLength (length (encode f)) ≡ false
+  pub encode-length : (f : CountingType) → IsType e (encode f) f → badTypeLength (length (encode f)) ≡ false
   unfolding badTypeLength
   encode-length f t =
       let k = length-encode f in
       rw (eq-eqb (length (encode f) % typeSize) 0 (omega arith), le-ltb maxLength (length (encode f)) (omega arith)) refl
 
-  encode-formed : (f : CountingType) → IsType e (encode f) f → wellFormed e (encode f) ≡ true
+  pub encode-formed : (f : CountingType) → IsType e (encode f) f → wellFormed e (encode f) ≡ true
   encode-formed f t =
       let u : IsType e (encode f) (typeOf e (encode f)) = rw (← type-unique e (encode f) f t) t in
       well-formed-type e (encode f) (bytes-encode f) (encode-length f t) .1 u

@@ -8,39 +8,40 @@ use native.Mathlib.Omega.{arith}
 use lib.Dec.{ltb}
 use lib.ListN.{length, length-append}
 use lib.Seq.{sets, length-sets}
-use Rattle.merging.specs.declared.level.Level.{Level}
+use Rattle.type_arena.specs.declared.level.Level.{Level}
 use Rattle.counting_theory.specs.Payload.{Payload, join}
 use Rattle.counting_theory.specs.Trie.{size, total}
 use Rattle.counting_theory.specs.Label.{Equivalence, Counting}
 use Rattle.counting_theory.specs.Encoding.{typePayload, typeSize, typeKind, typeKey, typeOf}
 use Rattle.counting_theory.specs.WellFormed.{maxTotal}
 use Rattle.type_arena.specs.Inside.Arena.{headerOf}
-use Rattle.type_arena.specs.Inside.Addend.{front, body, rest}
-use Rattle.merging.specs.Inside.Merging.{Part, insideOf, exceedsBelow, both, mergedBytes, joinedBytes, Kept, MergedSoFar, MergeStored, Joined}
+use Rattle.type_arena.specs.Inside.Addend.{front, body, rest, Kept}
+use Rattle.type_arena.specs.Inside.Runs.{TypeRun, insideOf}
+use Rattle.merging.specs.Inside.Merging.{exceedsBelow, both, mergedBytes, joinedBytes, MergedSoFar, MergeStored, Joined}
 use Rattle.type_arena.specs.Inside.Payload.{payloadBytes}
 use Rattle.type_arena.proofs.PayloadBytes.{header-same}
 use Rattle.byte_records.proofs.Sets.{sets-append, sets-last}
 use Rattle.type_arena.proofs.RecordBytes.{length-header}
 use Rattle.type_arena.proofs.FirstAddend.{body-rest, front-rest}
-use Rattle.merging.proofs.TypeMerge.Part.{Head}
-use Rattle.merging.proofs.TypeMerge.OneAddend.{Step, At, order, step-less, step-more, step-same, second-out, first-out, length-merged, length-joined, merged-le, union-over}
+use Rattle.type_arena.proofs.Runs.{At, order, Head}
+use Rattle.merging.proofs.TypeMerge.OneAddend.{Step, step-less, step-more, step-same, second-out, first-out, length-merged, length-joined, merged-le, union-over}
 
 -- what is left to do: x and y are still to be merged into out from byte k on, as against a and b at the start
 pub record State (level : Level) (a b out₀ : List ℕ) (k₀ : ℕ) (over₀ : Bool) (x y out : List ℕ) (k : ℕ) (over : Bool) : Type 0 where
-  pub first : Part level x
-  pub second : Part level y
+  pub first : TypeRun level x
+  pub second : TypeRun level y
   pub long : length out ≡ length out₀
   pub room : k + length x + length y ≤ k₀ + length a + length b
   pub bytes : sets out k (mergedBytes (At level) x y) ≡ sets out₀ k₀ (mergedBytes (At level) a b)
   pub upto : k + length (mergedBytes (At level) x y) ≡ k₀ + length (mergedBytes (At level) a b)
   pub seen : (over || exceedsBelow (both (At level) x y)) ≡ (over₀ || exceedsBelow (both (At level) a b))
 
-pub start : {level : Level} {a b : List ℕ} (out : List ℕ) (k : ℕ) (over : Bool) → Part level a → Part level b → State level a b out k over a b out k over
+pub start : {level : Level} {a b : List ℕ} (out : List ℕ) (k : ℕ) (over : Bool) → TypeRun level a → TypeRun level b → State level a b out k over a b out k over
 start out k over p q = record { first = p; second = q; long = refl; room = le-refl _; bytes = refl; upto = refl; seen = refl }
 
 module _ {level : Level} {a b out₀ : List ℕ} {k₀ : ℕ} {over₀ : Bool} {x y out : List ℕ} {k : ℕ} {over : Bool}
     (s : State level a b out₀ k₀ over₀ x y out k over) where
-  turn : (z x′ y′ : List ℕ) (p : Bool) → Step (At level) x y z x′ y′ p → Part level x′ → Part level y′ → length z + length x′ + length y′ ≤ length x + length y →
+  turn : (z x′ y′ : List ℕ) (p : Bool) → Step (At level) x y z x′ y′ p → TypeRun level x′ → TypeRun level y′ → length z + length x′ + length y′ ≤ length x + length y →
       State level a b out₀ k₀ over₀ x′ y′ (sets out k z) (k + length z) (over || p)
   turn z x′ y′ p t u v h =
       record {
@@ -111,7 +112,7 @@ first-done {x = []} {y = y} {over = over} s h e =
 first-done {x = v ∷ x} s h e = absurd (omega arith)
 
 -- the second is empty from the start
-pub first-only : {level : Level} {a b out out′ : List ℕ} {at : ℕ} → Part level a → length b ≡ 0 → out′ ≡ sets out at a →
+pub first-only : {level : Level} {a b out out′ : List ℕ} {at : ℕ} → TypeRun level a → length b ≡ 0 → out′ ≡ sets out at a →
     MergeStored (At level) a b out at out′ (length a) false
 unfolding mergedBytes
 first-only {a = a} {b = []} {out = out} {at = at} p h e =

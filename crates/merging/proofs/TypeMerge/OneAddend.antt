@@ -2,28 +2,29 @@
 use mathlib.Core.Path.{_≡_, refl, sym, ap, _∙_}
 use mathlib.Core.Bool.{Bool, false, _||_}
 use mathlib.Core.List.{List, [], _++_, append-assoc}
-use Prim.Native.Nat.{ℕ, _+_, _*_, _≤_, _<_, max, Ordering, Ordering·lt as lt, Ordering·eq as eq, Ordering·gt as gt}
+use Prim.Native.Nat.{ℕ, _+_, _*_, _≤_, _<_, max, Ordering·lt as lt, Ordering·eq as eq, Ordering·gt as gt}
 use native.Mathlib.Decide.{decLt}
 use native.Mathlib.Omega.{arith}
 use lib.Dec.{ltb}
 use lib.ListN.{length, length-append}
 use borrow.Author.Tests.{le-ltb, lt-ltb}
-use Rattle.merging.specs.declared.level.Level.{Level}
+use Rattle.type_arena.specs.declared.level.Level.{Level}
 use Rattle.counting_theory.specs.Payload.{Payload, join}
 use Rattle.counting_theory.specs.Trie.{node, size, reduceStep, reduceNode, reduce, total, largestBelow, largestTotal}
-use Rattle.counting_theory.specs.Label.{Equivalence, compareLabel, Counting, CountingType}
-use Rattle.counting_theory.specs.Encoding.{typeSize, typeKind, typeKey, typePayload, header, encode, typeOf}
+use Rattle.counting_theory.specs.Label.{Equivalence, Counting, CountingType}
+use Rattle.counting_theory.specs.Encoding.{typeSize, typeKind, typeKey, typePayload, encode, typeOf}
 use Rattle.counting_theory.specs.WellFormed.{maxTotal}
-use Rattle.type_arena.specs.Inside.Arena.{byFlag, labelAt, headerOf}
+use Rattle.type_arena.specs.Inside.Arena.{labelAt, headerOf}
 use Rattle.type_arena.specs.Inside.Addend.{front, body, rest, Coded}
-use Rattle.merging.specs.Inside.Merging.{Part, exceeds, exceedsBelow, both, mergedBytes, joinedBytes}
-use Rattle.counting_theory.proofs.Label.{label-order, kind-eq, counting-laws}
+use Rattle.type_arena.specs.Inside.Runs.{TypeRun}
+use Rattle.merging.specs.Inside.Merging.{exceeds, exceedsBelow, both, mergedBytes, joinedBytes}
+use Rattle.counting_theory.proofs.Label.{counting-laws}
 use Rattle.counting_theory.proofs.WellFormed.Limit.{limit-totals, over-limit}
 use Rattle.counting_theory.proofs.Trie.Sizes.{reduce-nil, size-reduce, total-reduce}
 use Rattle.counting_theory.proofs.Encoding.Header.{length-encode}
 use Rattle.type_arena.proofs.RecordBytes.{length-header}
-use Rattle.type_arena.proofs.FirstAddend.{coded-type, coded-length, type-empty}
-use Rattle.merging.proofs.TypeMerge.Part.{Head}
+use Rattle.type_arena.proofs.FirstAddend.{header-first, coded-type, coded-length, type-empty}
+use Rattle.type_arena.proofs.Runs.{At, order, Head}
 
 max-over : (m p q : ℕ) → ltb m (max p q) ≡ (ltb m p || ltb m q)
 max-over m p q = go (decLt m p)
@@ -37,10 +38,6 @@ max-over m p q = go (decLt m p)
     go (no h) = rw (le-ltb m p (omega arith)) (later (decLt m q) (omega arith))
 
 module _ (e : Equivalence) where
-  header-of : (x : List ℕ) (span : ℕ) (a : Payload) → header (labelAt e x 0) span a ≡ headerOf (typeKind x 0) (typeKey x 0) span a
-  unfolding labelAt header
-  header-of x span a = refl
-
   -- one step of the merge: z is stored, x′ and y′ are left, and p says whether z exceeds a limit
   pub record Step (x y z x′ y′ : List ℕ) (p : Bool) : Type 0 where
     pub is-bytes : mergedBytes e x y ≡ z ++ mergedBytes e x′ y′
@@ -52,21 +49,13 @@ module _ (e : Equivalence) where
   unfolding mergedBytes encode exceeds exceedsBelow largestBelow largestTotal
   step x y w x′ y′ count c h =
       record {
-        is-bytes = rw (h, header-of w (1 + size c) count) (sym (append-assoc (headerOf (typeKind w 0) (typeKey w 0) (1 + size c) count) (encode c) (encode (both e x′ y′))));
+        is-bytes = rw (h, header-first e w (1 + size c) count) (sym (append-assoc (headerOf (typeKind w 0) (typeKey w 0) (1 + size c) count) (encode c) (encode (both e x′ y′))));
         is-over = rw (h, over-limit c) (max-over maxTotal (max (total Counting c) (largestBelow Counting c)) (largestBelow Counting (both e x′ y′)));
       }
 
--- the equivalence that a level is byFlag
-abbrev pub At : Level → Equivalence
-At level = byFlag (level .label)
-
--- how the first labels compare
-abbrev pub order : Equivalence → List ℕ → List ℕ → Ordering
-order e x y = compareLabel (labelAt e x 0) (labelAt e y 0)
-
-pub same-kinds : (e : Equivalence) (x y : List ℕ) → eq ≡ order e x y → typeKind x 0 ≡ typeKind y 0
-unfolding labelAt
-same-kinds e x y h = kind-eq (label-order .compare-eq (sym h))
+light-body : {level : Level} {w : List ℕ} → Head level w → exceeds (typeOf (At level) (body w)) ≡ false
+unfolding exceeds
+light-body h = rw (h .in-body .limit) refl
 
 module _ {level : Level} {x y : List ℕ} where
   -- the first addend of w as it is
@@ -77,7 +66,7 @@ module _ {level : Level} {x y : List ℕ} where
       let c : CountingType = typeOf (At level) (body w) in
       let s : Step (At level) x y (headerOf (typeKind w 0) (typeKey w 0) (1 + size c) (typePayload w 0) ++ encode c) x′ y′ (exceeds c) =
       step (At level) x y w x′ y′ (typePayload w 0) c z in
-      rw (h .light, h .first .is-body, ← h .first .is-front) at s
+      rw (light-body h, h .first .is-body, ← h .first .is-front) at s
 
   module _ (h : Head level x) (g : Head level y) where
     pub step-less : lt ≡ order (At level) x y → Step (At level) x y (front x) (rest x) y false
@@ -99,7 +88,7 @@ pub record Alone (x : List ℕ) (f : CountingType) : Type 0 where
   pub light : exceeds f ≡ false
   pub light-below : exceedsBelow f ≡ false
 
-module _ {level : Level} (x : List ℕ) (p : Part level x) where
+module _ {level : Level} (x : List ℕ) (p : TypeRun level x) where
   alone : {f : CountingType} → f ≡ typeOf (At level) x → Alone x f
   unfolding exceeds exceedsBelow largestTotal
   alone z =

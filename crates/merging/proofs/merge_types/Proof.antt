@@ -1,5 +1,5 @@
 -- `merge_types` meets its contract.
-use Rattle.merging.proofs.TypeMerge.Part.{type-part, type-short}
+use Rattle.type_arena.proofs.Runs.{type-run, type-short}
 use borrow.Author.Needs.{needs}
 use native.Mathlib.Omega.{arith}
 use Rattle.merging.proofs.merge_types.Statement.{statement}
@@ -10,7 +10,7 @@ merge-union-requires c κs =
     let s = c .before .before .before .before in
     let p = s .pre .0 in
     let q = s .pre .1 in
-    ((type-part (s .args .label) _ p, type-part (s .args .label) _ q), omega (arith, type-short p, type-short q))
+    ((type-run (s .args .label) _ p, type-run (s .args .label) _ q), omega (arith, type-short p, type-short q))
 
 returns : tie.Need-returns
 returns c = c .before .before .merge-union .ensures

@@ -1,36 +1,18 @@
--- The merge of two types on their bytes, as the code goes about it: what a run of records is, and what is stored.
+-- The merge of two types on their bytes, as the code goes about it: what is stored, and where a limit is passed.
 use mathlib.Core.Path.{_≡_}
-use mathlib.Core.Bool.{Bool, true, cond, not, _&&_, _||_}
+use mathlib.Core.Bool.{Bool, not, _||_}
 use mathlib.Core.List.{List, _++_}
-use Prim.Native.Nat.{ℕ, _+_, _-_, _≤_}
-use lib.Dec.{eqb, ltb}
+use Prim.Native.Nat.{ℕ, _+_}
+use lib.Dec.{ltb}
 use lib.ListN.{length}
 use lib.Seq.{sets}
-use Rattle.value_table.specs.Value.{maxDepth, recordKind}
-use Rattle.merging.specs.declared.level.Level.{Level}
 use Rattle.counting_theory.specs.Payload.{join}
 use Rattle.counting_theory.specs.Trie.{size, reduce, total, largestBelow}
 use Rattle.counting_theory.specs.Label.{Equivalence, Counting, CountingType}
 use Rattle.counting_theory.specs.Encoding.{typeKind, typeKey, typePayload, encode, typeOf}
-use Rattle.counting_theory.specs.WellFormed.{maxTotal, withinLimit, Shallow}
-use Rattle.type_arena.specs.Inside.Arena.{byFlag, headerOf}
-use Rattle.type_arena.specs.Inside.Addend.{front, body, rest, Coded}
-
--- the depth of a run's addends, or of the record that has the fields
-abbrev pub depthOf : Level → ℕ
-depthOf level = maxDepth + 1 - (level .left + cond (level .field) 1 0)
-
--- x is the bytes of a run of a well-formed type
-pub record Part (level : Level) (x : List ℕ) : Type 0 where
-  pub coded : Coded (byFlag (level .label)) (level .field) x
-  pub shallow : Shallow (level .field) (depthOf level) (typeOf (byFlag (level .label)) x)
-  pub left-low : level .left ≤ maxDepth
-  pub limit : withinLimit (typeOf (byFlag (level .label)) x) ≡ true
-
--- what stands inside a record of this kind: the depth falls at an addend
-abbrev pub insideOf : Level → ℕ → Level
-insideOf level kind =
-    record { left = level .left - cond (level .field) 0 1; field = not (level .field) && eqb kind recordKind; label = level .label }
+use Rattle.counting_theory.specs.WellFormed.{maxTotal, withinLimit}
+use Rattle.type_arena.specs.Inside.Arena.{headerOf}
+use Rattle.type_arena.specs.Inside.Addend.{body}
 
 -- some union, or some union inside, totals above the limit
 unfoldable pub exceeds : CountingType → Bool
@@ -72,9 +54,3 @@ pub record Joined (e : Equivalence) (x y out₀ : List ℕ) (k₀ : ℕ) (over�
   pub bytes : out ≡ sets out₀ k₀ (joinedBytes e x y)
   pub upto : k ≡ k₀ + length (joinedBytes e x y)
   pub seen : over ≡ (over₀ || exceeds (both e (body x) (body y)))
-
--- the first addend of x is stored as it is, up to byte k, and r is left
-pub record Kept (x out₀ : List ℕ) (k₀ : ℕ) (r out : List ℕ) (k : ℕ) : Type 0 where
-  pub bytes : out ≡ sets out₀ k₀ (front x)
-  pub upto : k ≡ k₀ + length (front x)
-  pub left : r ≡ rest x

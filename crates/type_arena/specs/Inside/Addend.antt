@@ -2,8 +2,9 @@
 use mathlib.Core.Path.{_≡_}
 use mathlib.Core.Bool.{Bool, false}
 use mathlib.Core.List.{List}
-use Prim.Native.Nat.{ℕ, _*_, _-_, _≤_}
+use Prim.Native.Nat.{ℕ, _+_, _*_, _-_, _≤_}
 use lib.ListN.{length, take, drop}
+use lib.Seq.{sets}
 use Rattle.counting_theory.specs.Trie.{total}
 use Rattle.counting_theory.specs.Label.{Equivalence, Counting, CountingType}
 use Rattle.counting_theory.specs.Encoding.{typeSize, typeSpan, encode, typeOf, Tagged}
@@ -24,6 +25,12 @@ rest x = drop (typeSize * typeSpan x 0) x
 pub record Headed (x : List ℕ) : Type 0 where
   pub some : 1 ≤ typeSpan x 0
   pub whole : typeSize * typeSpan x 0 ≤ length x
+
+-- the first addend of x is stored as it is, up to byte k, and r is left
+pub record Kept (x out₀ : List ℕ) (k₀ : ℕ) (r out : List ℕ) (k : ℕ) : Type 0 where
+  pub bytes : out ≡ sets out₀ k₀ (front x)
+  pub upto : k ≡ k₀ + length (front x)
+  pub left : r ≡ rest x
 
 -- x is the bytes of a union, or (field ≡ true) of a run of fields
 pub record Coded (e : Equivalence) (field : Bool) (x : List ℕ) : Type 0 where

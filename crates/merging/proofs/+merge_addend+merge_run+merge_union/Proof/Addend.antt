@@ -3,9 +3,9 @@ use mathlib.Core.Path.{ap, _∙_}
 use Prim.Native.Nat.{ℕ}
 use native.Mathlib.Omega.{arith}
 use lib.ListN.{length}
-use Rattle.merging.specs.Inside.Merging.{insideOf}
+use Rattle.type_arena.specs.Inside.Runs.{insideOf}
 use Rattle.type_arena.proofs.FirstAddend.{headed, body-rest}
-use Rattle.merging.proofs.TypeMerge.Part.{Head, head, rank-inside}
+use Rattle.type_arena.proofs.Runs.{Head, head, rank-inside}
 use Rattle.merging.proofs.TypeMerge.MergeLoop.{inside-fits, stored-inside, addend-done}
 use Rattle.merging.proofs.merge_addend.Reads as merge-addend
 use Rattle.merging.proofs.+merge_addend+merge_run+merge_union.Lts-merge_addend as merge-addend-lts

@@ -4,7 +4,7 @@ use Prim.Native.Nat.{ℕ, _+_, _*_, _<_}
 use lib.ListN.{length}
 use borrow.Fn.Kinds.{In}
 use borrow.Fn.PlainCycle.{Measures, is, falls, and}
-use Rattle.merging.proofs.TypeMerge.Part.{rank}
+use Rattle.type_arena.proofs.Runs.{rank}
 use Rattle.merging.proofs.TypeMerge.MergeLoop.{State}
 use Rattle.merging.proofs.merge_addend.Reads as merge-addend
 use Rattle.merging.proofs.merge_addend.Kinds as merge-addend-kinds
@@ -17,11 +17,11 @@ use Rattle.merging.proofs.merge_union.Kinds as merge-union-kinds
 use Rattle.merging.proofs.+merge_addend+merge_run+merge_union.Lts-merge_union as merge-union-lts
 use Rattle.type_arena.proofs.addend.body_of.Reads as body-of-reads
 use Rattle.type_arena.proofs.label_order.compare_labels.Reads as compare-labels-reads
-use Rattle.merging.proofs.level.inside.Reads as inside-reads
+use Rattle.type_arena.proofs.level.inside.Reads as inside-reads
 use Rattle.type_arena.proofs.addend.rest_of.Reads as rest-of-reads
-use Rattle.merging.proofs.append.Reads as append-reads
+use Rattle.type_arena.proofs.addend.append.Reads as append-reads
 use Rattle.merging.proofs.either.Reads as either-reads
-use Rattle.merging.proofs.keep.Reads as keep-reads
+use Rattle.type_arena.proofs.addend.keep.Reads as keep-reads
 use Rattle.merging.proofs.total_over.Reads as total-over-reads
 use Rattle.byte_records.proofs.store.put_bytes.Reads as put-bytes-reads
 use Rattle.type_arena.proofs.record_store.put_record.Reads as put-record-reads

@@ -6,8 +6,7 @@ use lib.ListN.{length}
 use borrow.Author.Needs.{needs}
 use Rattle.type_arena.specs.Inside.LabelOrder.{orderingOf}
 use Rattle.type_arena.proofs.FirstAddend.{headed}
-use Rattle.merging.proofs.TypeMerge.Part.{Head, head}
-use Rattle.merging.proofs.TypeMerge.OneAddend.{same-kinds}
+use Rattle.type_arena.proofs.Runs.{Head, head, same-kinds}
 use Rattle.merging.proofs.TypeMerge.MergeLoop.{start, turn-less, turn-more, turn-same, second-done, first-done}
 use Rattle.merging.proofs.merge_run.Reads as merge-run
 use Rattle.merging.proofs.+merge_addend+merge_run+merge_union.Lts-merge_run as merge-run-lts

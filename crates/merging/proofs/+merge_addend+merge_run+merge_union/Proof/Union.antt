@@ -2,7 +2,8 @@
 use mathlib.Core.Path.{_∙_}
 use Prim.Native.Nat.{ℕ}
 use native.Mathlib.Omega.{arith}
-use Rattle.merging.proofs.TypeMerge.OneAddend.{At, merged-le}
+use Rattle.type_arena.proofs.Runs.{At}
+use Rattle.merging.proofs.TypeMerge.OneAddend.{merged-le}
 use Rattle.merging.proofs.TypeMerge.MergeLoop.{first-only, union-done}
 use Rattle.merging.proofs.merge_union.Reads as merge-union
 use Rattle.merging.proofs.+merge_addend+merge_run+merge_union.Lts-merge_union as merge-union-lts

@@ -1,28 +1,40 @@
 -- The first addend or field of a run of a well-formed type: its count, what stands inside it and what follows are within the limits.
-use mathlib.Core.Path.{_≡_, refl, ap}
+use mathlib.Core.Path.{_≡_, refl, sym, ap}
 use mathlib.Core.Bool.{Bool, true, false, cond, not, _&&_}
 use mathlib.Core.List.{List}
-use Prim.Native.Nat.{ℕ, _+_, _*_, _-_, _≤_, _<_}
+use Prim.Native.Nat.{ℕ, _+_, _*_, _-_, _≤_, _<_, Ordering, Ordering·eq as eq}
 use native.Mathlib.Nat.{zero-add, le-refl}
 use native.Mathlib.Omega.{arith}
 use lib.Dec.{eqb}
 use lib.ListN.{length}
 use borrow.Author.Tests.{eq-eqb}
 use Rattle.value_table.specs.Value.{maxLength, maxDepth, recordKind}
-use Rattle.merging.specs.declared.level.Level.{Level}
+use Rattle.type_arena.specs.declared.level.Level.{Level}
 use Rattle.counting_theory.specs.Trie.{nil, node, total, largestBelow, largestTotal}
-use Rattle.counting_theory.specs.Label.{Equivalence, Label, fieldKind, Counting, CountingType}
+use Rattle.counting_theory.specs.Label.{Equivalence, Label, fieldKind, compareLabel, Counting, CountingType}
 use Rattle.counting_theory.specs.Encoding.{typePayload, typeKind, typeOf, Tagged}
-use Rattle.counting_theory.specs.WellFormed.{maxTotal, withinLimit, depthInside, Shallow, IsType}
+use Rattle.counting_theory.specs.WellFormed.{maxTotal, depthInside, Shallow, IsType}
 use Rattle.type_arena.specs.Inside.Arena.{byFlag, labelAt}
 use Rattle.type_arena.specs.Inside.Addend.{body, rest, Coded, Union}
-use Rattle.merging.specs.Inside.Merging.{depthOf, Part, insideOf, exceeds}
-use Rattle.counting_theory.proofs.Label.{kind-eq}
+use Rattle.type_arena.specs.Inside.Runs.{depthOf, TypeRun, insideOf}
+use Rattle.counting_theory.proofs.Label.{kind-eq, label-order}
 use Rattle.counting_theory.proofs.Tagged.Parts.{holdsFields}
 use Rattle.counting_theory.proofs.WellFormed.Nodes.{KeyOrDepth, depthUnder, shallow-parts}
 use Rattle.counting_theory.proofs.Encoding.Header.{length-encode}
 use Rattle.counting_theory.proofs.WellFormed.Limit.{limit-totals, totals-limit}
 use Rattle.type_arena.proofs.FirstAddend.{Addend, addend, coded-type, type-coded}
+
+-- the equivalence that a level is by
+abbrev pub At : Level → Equivalence
+At level = byFlag (level .label)
+
+-- how the first labels compare
+abbrev pub order : Equivalence → List ℕ → List ℕ → Ordering
+order e x y = compareLabel (labelAt e x 0) (labelAt e y 0)
+
+pub same-kinds : (e : Equivalence) (x y : List ℕ) → eq ≡ order e x y → typeKind x 0 ≡ typeKind y 0
+unfolding labelAt
+same-kinds e x y h = kind-eq (label-order .compare-eq (sym h))
 
 -- an addend has a level left
 level-left : (field : Bool) (left : ℕ) (l : Label) → KeyOrDepth field (maxDepth + 1 - (left + cond field 1 0)) l → cond field 0 1 ≤ left
@@ -44,12 +56,11 @@ shallow-inside false left l c low some h = go (eqb (l .kind) recordKind) h
 pub record Head (level : Level) (x : List ℕ) : Type 0 where
   pub first : Addend (byFlag (level .label)) (level .field) x
   pub level-left : cond (level .field) 0 1 ≤ level .left
-  pub in-body : Part (insideOf level (typeKind x 0)) (body x)
-  pub in-rest : Part level (rest x)
-  pub light : exceeds (typeOf (byFlag (level .label)) (body x)) ≡ false
+  pub in-body : TypeRun (insideOf level (typeKind x 0)) (body x)
+  pub in-rest : TypeRun level (rest x)
 
-pub head : {level : Level} {x : List ℕ} → Part level x → 0 < length x → Head level x
-unfolding labelAt largestTotal largestBelow total exceeds
+pub head : {level : Level} {x : List ℕ} → TypeRun level x → 0 < length x → Head level x
+unfolding labelAt largestTotal largestBelow total
 head {level} {x} p h =
     let e : Equivalence = byFlag (level .label) in
     let l : Label = labelAt e x 0 in
@@ -60,7 +71,6 @@ head {level} {x} p h =
     let q = shallow-parts (level .field) (depthOf level) l (typePayload x 0) c s shallow in
     let limit : largestTotal Counting (node l (typePayload x 0) c s) ≤ maxTotal = rw (a .is-type) at (limit-totals (typeOf e x) (p .limit)) in
     let some = level-left (level .field) (level .left) l (q .0) in
-    let within : withinLimit c ≡ true = totals-limit c (omega (arith, limit)) in
     record {
       first = a;
       level-left = some;
@@ -69,15 +79,14 @@ head {level} {x} p h =
             coded = a .in-body;
             shallow = shallow-inside (level .field) (level .left) l c (p .left-low) some (q .1);
             left-low = omega (arith, p .left-low);
-            limit = within;
+            limit = totals-limit c (omega (arith, limit));
           };
       in-rest = record { coded = a .in-rest; shallow = q .2; left-low = p .left-low; limit = totals-limit s (omega (arith, limit)) };
-      light = rw within refl;
     }
 
 -- a whole type is a union at depth 1, and short
-pub type-part : (label : Bool) (x : List ℕ) → IsType (byFlag label) x (typeOf (byFlag label) x) → Part (record { left = maxDepth; field = false; label = label }) x
-type-part label x t =
+pub type-run : (label : Bool) (x : List ℕ) → IsType (byFlag label) x (typeOf (byFlag label) x) → TypeRun (record { left = maxDepth; field = false; label = label }) x
+type-run label x t =
     record {
       coded = type-coded t;
       shallow = t .shallow;
@@ -100,7 +109,7 @@ rank-inside {level} {x} h = go (level .field) (eqb (typeKind x 0) recordKind) (h
     go false true i = omega arith
     go false false i = omega arith
 
-pub total-low : {level : Level} {x : List ℕ} → Part level x → total Counting (typeOf (byFlag (level .label)) x) ≤ maxTotal
+pub total-low : {level : Level} {x : List ℕ} → TypeRun level x → total Counting (typeOf (byFlag (level .label)) x) ≤ maxTotal
 unfolding largestTotal
 total-low {level} {x} p = omega (arith, limit-totals (typeOf (byFlag (level .label)) x) (p .limit))
 
@@ -113,9 +122,9 @@ total-fields {e} k = rw (coded-type k) (go (k .trie) (k .tagged))
     go nil t = refl
     go (node l a c s) t = rw (eq-eqb (l .kind) fieldKind (kind-eq (t .0)), zero-add) (go s (t .2))
 
-pub part-union : {level : Level} {x : List ℕ} → level .field ≡ false → Part level x → Union x
-part-union {level} f p = record { equivalence = byFlag (level .label); coded = rw f at (p .coded); limit = total-low p }
+pub run-union : {level : Level} {x : List ℕ} → level .field ≡ false → TypeRun level x → Union x
+run-union {level} f p = record { equivalence = byFlag (level .label); coded = rw f at (p .coded); limit = total-low p }
 
-pub part-total : {level : Level} {x : List ℕ} {n : ℕ} → level .field ≡ false → Part level x → ((e : Equivalence) → Coded e false x → n ≡ total Counting (typeOf e x)) →
+pub run-total : {level : Level} {x : List ℕ} {n : ℕ} → level .field ≡ false → TypeRun level x → ((e : Equivalence) → Coded e false x → n ≡ total Counting (typeOf e x)) →
     n ≡ total Counting (typeOf (byFlag (level .label)) x)
-part-total {level} f p h = h (byFlag (level .label)) (rw f at (p .coded))
+run-total {level} f p h = h (byFlag (level .label)) (rw f at (p .coded))

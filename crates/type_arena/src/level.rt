@@ -1,9 +1,9 @@
-// The level at which a merge stands in both types.
+// The level at which a run of records stands in a type.
 use value_table::record;
 ghost use mathlib.Core.Path.{_≡_};
 ghost use mathlib.Core.Bool.{cond};
 ghost use Prim.Native.Nat.{_≤_};
-ghost use Rattle.merging.specs.Inside.Merging.{insideOf};
+ghost use Rattle.type_arena.specs.Inside.Runs.{insideOf};
 
 // What a run of records is: the levels of addends left, whether it is a run of fields, and whether labels list keys.
 pub struct Level {

@@ -1,8 +1,8 @@
 -- `inside` meets its contract.
 use mathlib.Core.Path.{refl}
 use native.Mathlib.Nat.{sub-zero}
-use Rattle.merging.proofs.level.inside.Statement.{statement}
-use Rattle.merging.proofs.level.inside.Tie as tie
+use Rattle.type_arena.proofs.level.inside.Statement.{statement}
+use Rattle.type_arena.proofs.level.inside.Tie as tie
 
 returns : tie.Need-returns
 returns c = rw (c .if1 .taken, sub-zero) refl

@@ -1,8 +1,8 @@
 -- `bad_lengths` meets its contract.
 use mathlib.Core.Path.{sym, _∙_}
 use borrow.Author.Needs.{needs}
-use Rattle.counting_type.proofs.bad_lengths.Statement.{statement}
-use Rattle.counting_type.proofs.bad_lengths.Tie as tie
+use Rattle.type_check.proofs.pair.bad_lengths.Statement.{statement}
+use Rattle.type_check.proofs.pair.bad_lengths.Tie as tie
 
 returns : tie.Need-returns
 returns c = simp (sym (c .before .bad-length .ensures) ∙ c .if1 .taken)

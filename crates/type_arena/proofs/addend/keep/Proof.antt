@@ -3,11 +3,11 @@ use mathlib.Core.Path.{ap, _∙_}
 use Prim.Native.Nat.{_+_}
 use lib.ListN.{length}
 use lib.Seq.{sets}
 use Rattle.type_arena.proofs.FirstAddend.{front-le}
 use borrow.Author.Needs.{needs}
 use native.Mathlib.Omega.{arith}
-use Rattle.merging.proofs.keep.Statement.{statement}
-use Rattle.merging.proofs.keep.Tie as tie
+use Rattle.type_arena.proofs.addend.keep.Statement.{statement}
+use Rattle.type_arena.proofs.addend.keep.Tie as tie
 
 append-requires : tie.Need-append-requires
 append-requires c κs = omega (arith, front-le (c .before .before .before .before .before .args .x .now), ap length (c .before .before .front-of .ensures))
