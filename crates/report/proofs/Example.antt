@@ -1,4 +1,4 @@
--- Document 01's example, byte by byte: what the program prints for its nine value records; for an empty and for a refused table.
+-- Document 01's example, byte by byte: what the program prints for its nine value records; for an empty and for a refused table; and the largest count.
 use mathlib.Core.Path.{_≡_, refl}
 use mathlib.Core.List.{List, [], _∷_, _++_}
 use Prim.Native.Nat.{ℕ}
@@ -12,7 +12,7 @@ use Rattle.counting_theory.specs.Trie.{nil, node, size, insertStep, insert, add
 use Rattle.counting_theory.specs.Label.{byKind, listed, labelOf, compareKeys, CountingType}
 use Rattle.counting_theory.specs.Raw.{insertKey, ascending, raw, profileOf}
 use Rattle.counting_theory.specs.Encoding as type
-use Rattle.counting_theory.specs.WellFormed.{badTypeLength}
+use Rattle.counting_theory.specs.WellFormed.{badTypeLength, maxTotal}
 use Rattle.counting_theory.specs.Answers.{inferred}
 use Rattle.report.specs.Decimal.{text, divisions, digitCount, digits}
 use Rattle.report.specs.Line.{kindWord, share, lineOf, refusalLine}
@@ -32,6 +32,10 @@ nine =
 abbrev pub sixteen : CountingType
 sixteen = node (labelOf byKind 1 0 []) (ofNumbers (1 ∷ [])) nil (node (labelOf byKind 3 0 []) (ofNumbers (15 ∷ [])) nil nil)
 
+-- the largest count, sixteen digits
+abbrev pub limit : CountingType
+limit = node (labelOf byKind 3 0 []) (ofNumbers (maxTotal ∷ [])) nil nil
+
 pub record Examples : Type 0 where
   pub seven-lines : printed nine
       ≡ text "1 rec 0 3 1000\n" ++ text "1 field 1 2 667\n" ++ text "2 null 0 1 500\n" ++ text "2 num 0 1 500\n"
@@ -39,7 +43,8 @@ pub record Examples : Type 0 where
   pub nothing : printed [] ≡ []
   pub refusal : printed (row 1 0 2) ≡ text "refused 4 0\n"
   pub halves : report sixteen ≡ text "1 null 0  1 63\n" ++ text "1 num 0 15 938\n"
+  pub widest : report limit ≡ text "1 num 0 1000000000000000 1000\n"
 
 pub examples : Examples
 unfolding printed header bytesOf numberOf numberAt fieldAt fieldsFrom recordBytes numbers ofNumbers one oneField join keys member kindAt zeroAt keyAt spanAt badLength badKind badSpan badKey repeated tooMany tooDeep fault faultIn close enter walk judged decode messages then comparePair compareList compareOn compareKeys size insertStep insert add total listed insertKey ascending raw profileOf type.typeKind type.typeKey type.typeSpan type.typePayload type.header type.encode type.siblingKeys type.decode type.typeOf badTypeLength inferred report linesOf largestCount lineOf kindWord share digitCount divisions digits refusalLine
-examples = record { seven-lines = refl; nothing = refl; refusal = refl; halves = refl }
+examples = record { seven-lines = refl; nothing = refl; refusal = refl; halves = refl; widest = refl }
