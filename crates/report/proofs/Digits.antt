@@ -1,13 +1,13 @@
 -- The number of digits: what its divisions come to, and that it is the digit number.
 use mathlib.Core.Path.{_≡_, refl, sym, ap, _∙_}
 use mathlib.Core.List.{List, [], _∷_, _++_}
-use Prim.Native.Nat.{ℕ, zero, suc, _+_, _-_, _/_, _%_, _^_, _≤_, _<_}
+use Prim.Native.Nat.{ℕ, zero, suc, _+_, _-_, _*_, _/_, _%_, _^_, _≤_, _<_}
 use native.Mathlib.Nat.{div-one, pow-suc, one-le-pow, mul-comm, div-div-eq-div-mul, lt-of-not-le}
 use native.Mathlib.Omega.{arith}
 use lib.ListN.{length, set}
 use lib.Seq.{sets}
 use Rattle.byte_records.proofs.Sets.{sets-last}
-use Rattle.report.specs.Decimal.{divisions, digitCount, digits, HasDigits, CountsDigits}
+use Rattle.report.specs.Decimal.{divisions, digitCount, digits, spelled, HasDigits, CountsDigits}
 
 -- any bound that is not below n will do
 enough : (k m n : ℕ) → n ≤ k → n ≤ m → divisions k n ≡ divisions m n
@@ -53,6 +53,11 @@ unfolding digitCount
 digits-at-most zero d a h = a
 digits-at-most (suc n) d a h = at-most (suc n) (suc n) d h
 
+more-digits : (n d : ℕ) → 10 ^ d ≤ n → d < digitCount n
+unfolding digitCount
+more-digits zero d h = absurd (omega (arith, one-le-pow d 10 (omega arith)))
+more-digits (suc n) d h = more (suc n) (suc n) d (omega arith) h
+
 pub length-digits : (d n : ℕ) → length (digits d n) ≡ d
 unfolding digits
 length-digits zero n = refl
@@ -74,6 +79,22 @@ digit-stored (suc d) n s p h =
     let stored = rw (length-digits d (n / 10)) at (sets-last (digits d (n / 10)) ((48 + n % 10) ∷ []) s p) in
     rw (e, digits-last d n) stored
 
+spelled-last : (m c : ℕ) (xs : List ℕ) → spelled m (xs ++ (c ∷ [])) ≡ 10 * spelled m xs + (c - 48)
+unfolding spelled
+spelled-last m c [] = refl
+spelled-last m c (x ∷ xs) = spelled-last (10 * m + (x - 48)) c xs
+
+-- d digits are enough for what is below 10^d
+digits-spell : (d n : ℕ) → n < 10 ^ d → spelled 0 (digits d n) ≡ n
+unfolding spelled digits
+digits-spell zero n h = omega arith
+digits-spell (suc d) n h =
+    rw (digits-last d n, spelled-last 0 (48 + n % 10) (digits d (n / 10)))
+    (omega (arith, digits-spell d (n / 10) (omega (arith, pow-suc 10 d))))
+
+below : (n : ℕ) → n < 10 ^ digitCount n
+below n = lt-of-not-le (λ h. omega (arith, more-digits n (digitCount n) h))
+
 module _ (n : ℕ) (a : 1 ≤ n) where
   divided : digitCount n ≡ divisions n n
   divided = first-division n ∙ sym (division n a)
@@ -82,16 +103,17 @@ module _ (n : ℕ) (a : 1 ≤ n) where
   has =
       let d : ℕ = digitCount n in
       let least : 10 ^ (d - 1) < suc n = lt-of-not-le (λ h. omega (arith, at-most n n (d - 1) h, divided, one-digit n)) in
-      (omega (arith, least), lt-of-not-le (λ h. omega (arith, more n n d (omega arith) h, divided)))
+      (omega (arith, least), below n)
 
   only : (d : ℕ) → HasDigits n d → digitCount n ≡ d
   only zero h = absurd (omega (arith, h .1))
   only (suc d) h =
       let e : suc d - 1 ≡ d = omega arith in
-      omega (arith, divided, at-most n n (suc d) (h .1), more n n d (omega arith) (rw e at (h .0)))
+      omega (arith, digits-at-most n (suc d) (omega arith) (h .1), more-digits n d (rw e at (h .0)))
 
 pub counts-digits : CountsDigits
 counts-digits = record {
   digit-number = λ n d a. ((λ e. rw e at (has n a)), only n a d);
-  decimal-length = λ n a. length-digits (digitCount n) n;
+  decimal-length = λ n. length-digits (digitCount n) n;
+  decimal-spells = λ n. digits-spell (digitCount n) n (below n);
 }

@@ -2,7 +2,7 @@
 use mathlib.Core.Path.{_≡_}
 use mathlib.Core.Logic.{_↔_}
 use mathlib.Core.List.{List, [], _∷_, _++_}
-use Prim.Native.Nat.{ℕ, zero, suc, _+_, _-_, _/_, _%_, _^_, _≤_, _<_}
+use Prim.Native.Nat.{ℕ, zero, suc, _+_, _-_, _*_, _/_, _%_, _^_, _≤_, _<_}
 use Prim.Native.Char.{code}
 use Prim.Native.String.{String, [] as empty, _∷_ as _then_}
 use lib.ListN.{length, drop, replicate}
@@ -34,10 +34,17 @@ decimal n = digits (digitCount n) n
 abbrev pub HasDigits : ℕ → ℕ → Type 0
 HasDigits n d = (10 ^ (d - 1) ≤ n) × (n < 10 ^ d)
 
--- Change 4 of document 02 asks for this of every count from 1 to 1,000,000,000,000,000; it holds of every larger one too.
+-- the number that digits spell behind those of m
+unfoldable pub spelled : ℕ → List ℕ → ℕ
+spelled m [] = m
+spelled m (c ∷ cs) = spelled (10 * m + (c - 48)) cs
+
+-- Change 4 of document 02 asks for the digit number of every count from 1 to 1,000,000,000,000,000; larger ones have it too. The
+-- decimal has just so many digits, and they spell n.
 pub record CountsDigits : Type 0 where
   pub digit-number : (n d : ℕ) → 1 ≤ n → (digitCount n ≡ d) ↔ HasDigits n d
-  pub decimal-length : (n : ℕ) → 1 ≤ n → length (decimal n) ≡ digitCount n
+  pub decimal-length : (n : ℕ) → length (decimal n) ≡ digitCount n
+  pub decimal-spells : (n : ℕ) → spelled 0 (decimal n) ≡ n
 
 -- padded on the left with spaces
 abbrev pub padded : ℕ → ℕ → List ℕ
