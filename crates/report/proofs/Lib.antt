@@ -1,6 +1,6 @@
 -- The laws behind the statements; a folder for each function's proof.
 pub mod Table
-pub mod Powers
+pub mod Digits
 pub mod Storing
 pub mod Lines
 pub mod Runs

@@ -2,9 +2,8 @@
 use mathlib.Core.Path.{_≡_, refl, sym, ap, _∙_}
 use mathlib.Core.List.{List, [], _∷_, _++_}
 use Prim.Native.Nat.{ℕ, zero, suc, _+_, _≤_}
-use native.Mathlib.Numerals.{add-one}
 use native.Mathlib.Omega.{arith}
-use lib.ListN.{length, take, drop, replicate, set, length-set, length-append}
+use lib.ListN.{length, take, drop, replicate, length-append}
 use lib.Seq.{sets, length-sets, sets-eq, length-take-le}
 use Rattle.byte_records.proofs.Sets.{sets-append}
 use Rattle.report.specs.Decimal.{leavesText, textLeft}
@@ -26,11 +25,6 @@ pub storing-all : (s : List ℕ) (p : ℕ) (xs : List ℕ) → Storing s p xs s 
 storing-all s p xs = record { bytes = refl; behind = refl; same = refl }
 
 module _ {s : List ℕ} {p : ℕ} {xs s′ : List ℕ} {q : ℕ} where
-  pub storing-next : {y : ℕ} {ys zs : List ℕ} → zs ≡ y ∷ ys → Storing s p xs s′ q zs → Storing s p xs (set s′ q y) (q + 1) ys
-  storing-next {y} {ys} e h =
-      let i : Storing s p xs s′ q (y ∷ ys) = rw e at h in
-      record { bytes = rw (add-one q) (i .bytes); behind = omega (arith, i .behind); same = length-set s′ q y ∙ h .same }
-
   pub storing-none : {ys : List ℕ} → ys ≡ [] → Storing s p xs s′ q ys → TextStored s p xs s′ q
   storing-none e h = record { bytes = rw e at (h .bytes); behind = omega (arith, h .behind, ap length e) }
 

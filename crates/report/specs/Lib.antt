@@ -1,5 +1,6 @@
--- The report of a type: numbers in decimal, lines, and what the walk over the records expects of them.
+-- The report of a type: numbers in decimal, lines, the whole text, and examples.
 pub mod Decimal
 pub mod Line
 pub mod Report
+pub mod Example
 pub mod Inside

@@ -2,7 +2,7 @@
 use byte_records::store::put_bytes;
 ghost use mathlib.Core.Path.{_≡_};
 ghost use mathlib.Core.List.{[], _∷_};
-ghost use Prim.Native.Nat.{_+_, _-_, _^_, _≤_, _<_};
+ghost use Prim.Native.Nat.{_+_, _-_, _≤_, _<_};
 ghost use lib.ListN.{length, replicate};
 ghost use Rattle.counting_theory.specs.WellFormed.{maxTotal};
 ghost use Rattle.report.specs.Decimal.{digitCount, digits, decimal, padded};
@@ -11,42 +11,15 @@ ghost use Rattle.report.specs.Inside.Room.{maxDigits, TextStored};
 // The most digits of a number that is printed.
 pub const MAX_DIGITS: usize = 16;
 
-const POWERS: [usize; MAX_DIGITS] = [
-    1,
-    10,
-    100,
-    1000,
-    10000,
-    100000,
-    1000000,
-    10000000,
-    100000000,
-    1000000000,
-    10000000000,
-    100000000000,
-    1000000000000,
-    10000000000000,
-    100000000000000,
-    1000000000000000,
-];
-
-fn power(d: usize) -> usize
-    requires { ⌜ d < maxDigits ⌝ }
-    ensures { λ r. ⌜ r ≡ 10 ^ d ⌝ }
-{
-    POWERS[d]
-}
-
-// The number of digits, by the powers of ten.
+// How often n can be divided by ten until nothing is left; 0 has one digit.
 pub fn digit_count(n: usize) -> usize
     requires { ⌜ n ≤ maxTotal ⌝ }
     ensures { λ r. ⌜ (r ≡ digitCount n) × (1 ≤ r) × (r ≤ maxDigits) ⌝ }
 {
+    let mut rest = n / 10;
     let mut d = 1;
-    while d < MAX_DIGITS {
-        if n < power(d) {
-            return d;
-        }
+    while 0 < rest {
+        rest /= 10;
         d += 1;
     }
     d
@@ -76,19 +49,19 @@ fn put_spaces(out: &mut [u8], at: usize, count: usize) -> usize
     put_text(out, at, &spaces[..count])
 }
 
-// The last `count` digits of n.
+// The last `count` digits of n, stored from behind.
 fn put_digits(out: &mut [u8], at: usize, n: usize, count: usize) -> usize
-    requires { ⌜ (at + count ≤ length (now out)) × (count ≤ maxDigits) ⌝ }
+    requires { ⌜ at + count ≤ length (now out) ⌝ }
     ensures { λ r. ⌜ TextStored (now (out .entry)) at (digits count n) (now (out .exit)) r ⌝ }
 {
-    let mut p = at;
+    let mut rest = n;
     let mut d = count;
     while 0 < d {
         d -= 1;
-        out[p] = b'0' + (n / power(d) % 10) as u8;
-        p += 1;
+        out[at + d] = b'0' + (rest % 10) as u8;
+        rest /= 10;
     }
-    p
+    at + count
 }
 
 pub fn put_number(out: &mut [u8], at: usize, n: usize) -> usize

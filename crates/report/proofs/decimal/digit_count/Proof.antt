@@ -1,35 +1,42 @@
--- `digit_count` meets its contract: the powers of ten up to d - 1 are not above n.
-use mathlib.Core.Path.{_≡_}
-use Prim.Native.Nat.{_+_, _-_, _^_, _≤_, _<_}
+-- `digit_count` meets its contract: d divisions are done, and those of the rest are to come.
+use mathlib.Core.Path.{_≡_, refl}
+use Prim.Native.Nat.{ℕ, _+_, _≤_}
 use borrow.Author.Needs.{needs}
 use native.Mathlib.Omega.{arith}
+use Rattle.counting_theory.specs.WellFormed.{maxTotal}
+use Rattle.report.specs.Decimal.{divisions, digitCount}
 use Rattle.report.specs.Inside.Room.{maxDigits}
-use Rattle.report.proofs.Powers.{digit-count}
+use Rattle.report.proofs.Digits.{division, first-division, one-digit, digits-at-most}
 use Rattle.report.proofs.decimal.digit_count.Statement.{statement}
 use Rattle.report.proofs.decimal.digit_count.Tie as tie
 
 abbrev Inv-loop : tie.InvT-loop
-Inv-loop n d₀ d = (1 ≤ d) × (d ≤ maxDigits) × (1 < d → 10 ^ (d - 1) ≤ n)
+Inv-loop n rest₀ d₀ rest d = digitCount n ≡ d + divisions rest rest
 
 abbrev μ-loop : tie.MeasureT-loop
-μ-loop n d₀ d = maxDigits - d
+μ-loop n rest₀ d₀ rest d = rest
 
-returns : tie.Need-returns Inv-loop μ-loop
-returns c =
-    let l = c .before .before .before .loop in
-    (digit-count (l .d) _ (l .inv .0) (omega (arith, c .before .power .ensures)) (l .inv .2), l .inv .0, l .inv .1)
+few : (n : ℕ) → n ≤ maxTotal → digitCount n ≤ maxDigits
+few n h = digits-at-most n maxDigits (omega arith) (omega arith)
+
+loop-holds : tie.Need-loop-holds Inv-loop μ-loop
+loop-holds c = first-division (c .args .n)
+
+add-d : tie.Need-add-d Inv-loop μ-loop
+add-d c = omega (arith, c .before .loop .inv, few (c .before .before .args .n) (search needs))
 
 loop-again : tie.Need-loop-again Inv-loop μ-loop
-loop-again c =
-    let d = c .before .before .before .loop .d in
-    let e : d + 1 - 1 ≡ d = omega arith in
-    (omega arith, omega arith, λ z. rw e (omega (arith, c .before .power .ensures)))
+loop-again c = let l = c .before .loop in omega (arith, l .inv, division (l .rest) (omega arith))
 
-returns-2 : tie.Need-returns-2 Inv-loop μ-loop
-returns-2 c =
+returns : tie.Need-returns Inv-loop μ-loop
+unfolding divisions
+returns c =
     let l = c .before .loop in
-    let e : l .d ≡ maxDigits = omega arith in
-    (digit-count (l .d) _ (l .inv .0) (rw e (omega arith)) (l .inv .2), l .inv .0, l .inv .1)
+    let n = c .before .before .args .n in
+    let e : l .rest ≡ 0 = omega arith in
+    let none : divisions (l .rest) (l .rest) ≡ 0 = rw e refl in
+    let all : l .d ≡ digitCount n = omega (arith, l .inv, none) in
+    (all, omega (arith, one-digit n), omega (arith, few n (search needs)))
 
 pub digit-count-spec : {M : Type 1} → statement M
 digit-count-spec =
@@ -37,10 +44,8 @@ digit-count-spec =
     (tie.spec
     Inv-loop
     μ-loop
-    (λ c. search needs)
-    (λ c κs. search needs)
-    returns
-    (λ c. search needs)
+    loop-holds
+    add-d
     (λ c. search needs)
     loop-again
-    returns-2)
+    returns)

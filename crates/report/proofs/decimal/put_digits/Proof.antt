@@ -1,43 +1,47 @@
--- `put_digits` meets its contract: the last d digits are left to store.
-use mathlib.Core.Path.{_≡_, ap}
-use Prim.Native.Nat.{ℕ, _-_, _≤_}
-use native.Mathlib.Nat.{one-le-pow}
+-- `put_digits` meets its contract: the first d digits are left to store, those of the rest.
+use mathlib.Core.Path.{_≡_, refl, sym, ap, _∙_}
+use Prim.Native.Nat.{ℕ, _+_, _-_, _%_, _≤_}
+use lib.ListN.{length, length-set}
+use lib.Seq.{sets}
 use Rattle.report.specs.Decimal.{digits}
-use Rattle.report.specs.Inside.Room.{maxDigits}
-use Rattle.report.proofs.Powers.{digits-first, length-digits}
-use Rattle.report.proofs.Storing.{Storing, storing-all, storing-next, storing-none}
+use Rattle.report.proofs.Digits.{length-digits, digit-stored}
 use borrow.Author.Needs.{needs}
 use native.Mathlib.Omega.{arith}
 use Rattle.report.proofs.decimal.put_digits.Statement.{statement}
 use Rattle.report.proofs.decimal.put_digits.Tie as tie
 
 abbrev Inv-loop : tie.InvT-loop
-Inv-loop out₀ at n count p₀ d₀ out p d = (d ≤ maxDigits) × Storing out₀ at (digits count n) out p (digits d n)
+Inv-loop out₀ at n count rest₀ d₀ out rest d =
+    (d ≤ count) × (length out ≡ length out₀) × (sets out at (digits d rest) ≡ sets out₀ at (digits count n))
 
 abbrev μ-loop : tie.MeasureT-loop
-μ-loop out₀ at n count p₀ d₀ out p d = d
+μ-loop out₀ at n count rest₀ d₀ out rest d = d
 
 loop-holds : tie.Need-loop-holds Inv-loop μ-loop
-loop-holds c = (omega arith, storing-all _ _ _)
-
-div-out : tie.Need-div-out Inv-loop μ-loop
-div-out c = omega (arith, one-le-pow (c .before .before .loop .d - 1) 10 (omega arith), c .power .ensures)
+loop-holds c = (omega arith, refl, refl)
 
 slice-write-out : tie.Need-slice-write-out Inv-loop μ-loop
-slice-write-out c = let l = c .before .before .loop in omega (arith, length-digits (l .d) (c .before .before .before .before .args .n), length-digits (c .before .before .before .before .args .count) (c .before .before .before .before .args .n), l .inv .1 .behind, l .inv .1 .same)
-
-add-p : tie.Need-add-p Inv-loop μ-loop
-add-p c = let l = c .before .before .loop in omega (arith, length-digits (l .d) (c .before .before .before .before .args .n), length-digits (c .before .before .before .before .args .count) (c .before .before .before .before .args .n), l .inv .1 .behind)
+slice-write-out c = omega (arith, c .before .loop .inv)
 
 loop-again : tie.Need-loop-again Inv-loop μ-loop
 loop-again c =
-    let l = c .before .before .loop in
-    (omega arith, rw (c .power .ensures) (storing-next (digits-first (l .d) (c .before .before .before .before .args .n) (omega arith)) (l .inv .1)))
+    let l = c .before .loop in
+    let at = c .before .before .args .at in (
+      omega (arith, l .inv .0),
+      length-set (l .out) (at + (l .d - 1)) (48 + l .rest % 10) ∙ l .inv .1,
+      digit-stored (l .d) (l .rest) (l .out) at (omega arith) ∙ l .inv .2,
+    )
+
+same-length : tie.Need-same-length Inv-loop μ-loop
+same-length c = c .before .loop .inv .1
 
 returns : tie.Need-returns Inv-loop μ-loop
 unfolding digits
 returns c =
-    let e : c .before .loop .d ≡ 0 = omega arith in storing-none (ap (λ (d : ℕ). digits d (c .before .before .before .args .n)) e) (c .before .loop .inv .1)
+    let l = c .before .loop in
+    let a = c .before .before .args in
+    let e : l .d ≡ 0 = omega arith in
+    record { bytes = rw e at (l .inv .2); behind = ap (λ (k : ℕ). a .at + k) (sym (length-digits (a .count) (a .n))) }
 
 pub put-digits-spec : {M : Type 1} → statement M
 put-digits-spec =
@@ -47,13 +51,12 @@ put-digits-spec =
     μ-loop
     loop-holds
     (λ c. search needs)
-    (λ c κs. search needs)
-    div-out
+    (λ c. search needs)
     (λ c. search needs)
     (λ c. search needs)
     slice-write-out
-    add-p
     (λ c. search needs)
     loop-again
     (λ c. search needs)
+    same-length
     returns)

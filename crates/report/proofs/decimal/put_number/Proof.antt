@@ -2,7 +2,7 @@
 use native.Mathlib.Omega.{arith}
 use borrow.Author.Needs.{needs}
 use Rattle.report.specs.Decimal.{digitCount}
-use Rattle.report.proofs.Powers.{length-digits}
+use Rattle.report.proofs.Digits.{length-digits}
 use Rattle.report.proofs.decimal.put_number.Statement.{statement}
 use Rattle.report.proofs.decimal.put_number.Tie as tie
 

@@ -4,7 +4,7 @@ use borrow.Author.Needs.{needs}
 use Prim.Native.Nat.{ℕ, _-_}
 use lib.ListN.{length-replicate}
 use Rattle.report.specs.Decimal.{digitCount}
-use Rattle.report.proofs.Powers.{length-digits}
+use Rattle.report.proofs.Digits.{length-digits}
 use Rattle.report.proofs.Storing.{stored-then}
 use Rattle.report.proofs.decimal.put_padded.Statement.{statement}
 use Rattle.report.proofs.decimal.put_padded.Tie as tie
