@@ -6,7 +6,6 @@ use byte_records::clearing::clear_from;
 use gathering::add_messages;
 use inference::inferring::Inferred;
 use merging::merge_types;
-use type_arena::equivalence::BY_KIND;
 use type_arena::equivalence::BY_LABEL;
 use type_arena::type_record;
 use type_arena::type_record::bad_length;
@@ -36,7 +35,7 @@ ghost use Rattle.answers.specs.Outcomes.{outcomeOf, leftBy};
 ghost use Rattle.answers.specs.Inside.Front.{WrittenInFront};
 
 // The equivalence of call 3.
-const HOUSE_DEFAULT: u64 = BY_KIND;
+const HOUSE_DEFAULT: u64 = BY_LABEL;
 
 // Whether the length of a table, of an arena or of its working buffer is wrong.
 fn bad_buffers(table: usize, arena: usize, work: usize) -> bool
