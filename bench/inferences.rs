@@ -32,7 +32,7 @@ fn plain(inputs: &Inputs, buffers: &mut Buffers) -> Answer {
 }
 
 fn plain_default(inputs: &Inputs, buffers: &mut Buffers) -> Answer {
-    plain_under(KIND, inputs, buffers)
+    plain_under(LABEL, inputs, buffers)
 }
 
 static INFER: Pair = Pair {
@@ -83,8 +83,8 @@ pub fn workloads(n: usize, log: &[u8]) -> Vec<Workload> {
     ];
     let mut workloads = Vec::new();
     for (name, table) in &tables {
-        if ["messages", "far fields"].contains(name) {
-            workloads.push(workload(&INFER_DEFAULT, name, KIND, table));
+        if ["messages", "far shapes"].contains(name) {
+            workloads.push(workload(&INFER_DEFAULT, name, LABEL, table));
         }
     }
     for (name, table) in tables {

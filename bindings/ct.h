@@ -63,7 +63,11 @@ struct ct_answer ct_judge_table(const uint8_t *table, size_t length);
 struct ct_answer ct_infer(const uint8_t *table, size_t table_length, uint64_t equivalence, uint8_t *arena, size_t arena_length,
                           uint8_t *work, size_t work_length);
 
-/* The same under the house default, which is CT_BY_KIND. */
+/* The same under the house default, which is CT_BY_LABEL.
+ *
+ * Judge, merge and take apart its types under CT_BY_LABEL. Earlier the house default was CT_BY_KIND: types that this call made then stay
+ * usable under CT_BY_KIND. Under CT_BY_LABEL such a type is not well formed (CT_FIRST_TYPE, CT_SECOND_TYPE), unless each of its fields has
+ * the count of its record. A type under label may have more records than the one under kind. */
 struct ct_answer ct_infer_default(const uint8_t *table, size_t table_length, uint8_t *arena, size_t arena_length, uint8_t *work,
                                   size_t work_length);
 
@@ -82,6 +86,9 @@ struct ct_answer ct_judge_type(const uint8_t *bytes, size_t length, uint64_t equ
  * Accepted, the count is the number of records of the merged type, which stands in the front of the arena; the rest of the arena
  * is zero. Refused, the place is 0 and the whole arena is zero. The three lengths come first, then the equivalence, the first
  * type, the second, the totals and at last the room. What the arena held before makes no difference.
+ *
+ * The equivalence is the one that both types were made under: for types of ct_infer_default CT_BY_LABEL, and CT_BY_KIND if that call made
+ * them while its default was kind.
  *
  * `first` and `second` point to bytes that nobody writes during the call; they may be the same bytes. The arena overlaps neither.
  * None of the three is null, even for length 0. */

@@ -5,7 +5,7 @@
 #include <inttypes.h>
 #include <stdio.h>
 
-enum { VALUE = 8, TABLE = 16 * VALUE, RECORD = 16, ARENA = 7 * RECORD };
+enum { VALUE = 8, TABLE = 16 * VALUE, RECORD = 16, ARENA = 12 * RECORD };
 
 /* A key's number is its place in the book, from 1; the keys ascend. */
 static const uint8_t book[][32] = {"lane", "weights"};
@@ -41,11 +41,11 @@ static void take_out(const uint8_t *table, const uint8_t *type, size_t used)
     uint8_t part[ARENA], work[ARENA], rest[ARENA];
     size_t part_used = ct_infer_default(table + 5 * VALUE, 2 * VALUE, part, ARENA, work, ARENA).count * RECORD;
 
-    struct ct_answer answer = ct_remove(type, used, part, part_used, CT_BY_KIND, rest, ARENA);
+    struct ct_answer answer = ct_remove(type, used, part, part_used, CT_BY_LABEL, rest, ARENA);
     print_answer("take the second message out", answer);
     print_type(rest, answer.count);
 
-    print_answer("take all out of the second", ct_remove(part, part_used, type, used, CT_BY_KIND, rest, ARENA));
+    print_answer("take all out of the second", ct_remove(part, part_used, type, used, CT_BY_LABEL, rest, ARENA));
 }
 
 int main(void)
@@ -64,14 +64,20 @@ int main(void)
     print_answer("infer under the default", answer);
     print_type(type, answer.count);
 
+    /* The default is label, so that is what a merge of its types is told. */
     size_t used = answer.count * RECORD;
-    answer = ct_merge(type, used, type, used, CT_BY_KIND, merged, ARENA);
+    answer = ct_merge(type, used, type, used, CT_BY_LABEL, merged, ARENA);
     print_answer("merge with itself", answer);
     print_type(merged, answer.count);
 
     take_out(table, type, used);
 
-    print_answer("infer under label", ct_infer(table, length, CT_BY_LABEL, type, ARENA, work, ARENA));
+    print_answer("merge with itself under kind", ct_merge(type, used, type, used, CT_BY_KIND, merged, ARENA));
+    print_answer("infer with room for eleven", ct_infer_default(table, length, type, ARENA - RECORD, work, ARENA - RECORD));
+
+    answer = ct_infer(table, length, CT_BY_KIND, type, ARENA, work, ARENA);
+    print_answer("infer under kind", answer);
+    print_type(type, answer.count);
 
     /* The second key alone: `lane` is not listed, and its closing quote is byte 6. */
     print_answer("read with half of the book", ct_read_text((const uint8_t *)text, sizeof text - 1, book[1], sizeof book[1], table, TABLE));

@@ -168,6 +168,21 @@ def accepted():
     yield "record-in-array-in-record", record(field(1, array(record(field(1, null(2)), count=2))))
 
 
+# Types of the default call as it was, under kind: of {1: number}, {1: number, 2: null}, and of {1: number, 2: null}, {1: number, 2: string},
+# which have the same keys. And one as it is, under label: of {1: string}, {1: number, 2: null}.
+FORMER_DEFAULT = record(field(1, number(2)), field(2, null()), count=2)
+FORMER_SAME_KEYS = record(field(1, number(2)), field(2, null(), string()), count=2)
+DEFAULT = record(field(1, string())) + record(field(1, number()), field(2, null()))
+
+
+def defaults():
+    yield "former-default", FORMER_DEFAULT
+    yield "former-default-same-keys", FORMER_SAME_KEYS
+    yield "former-default-inside", array(FORMER_DEFAULT)
+    yield "former-default-same-keys-inside", array(FORMER_SAME_KEYS)
+    yield "default", DEFAULT
+
+
 def totals():
     largest = 2**64 - 1
     yield "count-10^15", null(LIMIT)
@@ -356,7 +371,7 @@ def lengths():
 
 def types():
     """Names and types, in the order of crates/trials, each to be judged under both equivalences."""
-    groups = accepted, totals, zero_counts, field_counts, key_lists, addend_order, field_order, keys, kinds, spans, depths
+    groups = accepted, defaults, totals, zero_counts, field_counts, key_lists, addend_order, field_order, keys, kinds, spans, depths
     for group in groups:
         for name, rows in group():
             yield name, bytes_of(rows)

@@ -6,7 +6,7 @@ A place is as in merges.py: a tuple of classes and of fields.
 import struct
 from collections import Counter
 
-from counting_types import FIELD, KIND, KNOWN, LABEL, UNKNOWN
+from counting_types import FIELD, KNOWN, LABEL, UNKNOWN
 from merges import LARGEST, rows_of, written
 from tables import ARRAY, BOOLEAN, EMPTY_ARRAY, EVERY, FIVE_INSIDE, NINE, NULL, NUMBER, ONE_NULL, RECORD, STRING
 from tables import array, bytes_of, in_arrays, in_fields, judge, many, messages, nested, null, one_field_each, record, value
@@ -133,6 +133,13 @@ def key_lists():
     yield "lists-of-different-depth", with_keys(1) + record(with_keys(1, key=1)) + record(array(with_keys(1), key=1))
 
 
+def defaults():
+    """Messages whose types, those of the default call as it was and as it is, are judged and merged by counting_types.py and merges.py."""
+    yield "former-default", record(number(1)) + record(number(1), null(2))
+    yield "former-default-same-keys", record(number(1), null(2)) + record(number(1), single(STRING, 2))
+    yield "default", record(single(STRING, 1)) + record(number(1), null(2))
+
+
 def rooms():
     for arena in 0, 16, 32, 64, 160, 176:
         yield f"five-fields-arena-{arena}", with_keys(5, 4, 3, 2, 1), arena
@@ -214,7 +221,7 @@ def unknown():
 
 def known():
     """Names, tables and lengths, in the order of crates/trials."""
-    for group in document, faults, unions, contents, fields, key_lists, rooms, depths, fields_of_one_record, largest:
+    for group in document, faults, unions, contents, fields, key_lists, defaults, rooms, depths, fields_of_one_record, largest:
         yield from tables(group())
     yield from given_lengths()
 
@@ -222,8 +229,9 @@ def known():
 def default():
     yield from tables(document())
     yield from tables([("lists-13-2-12", with_keys(1, 3) + with_keys(2) + with_keys(2, 1))])
+    yield from tables(defaults())
     yield from tables([("fields-256", FIELDS_256), ("fields-257", with_fields(257)), ("fields-257-before-room", with_fields(257), 16)])
-    yield from tables([("records-2047", one_field_each(many(2047, 1, 1)) + array())])
+    yield from tables([("records-2047", one_field_each(many(2047, 1, 1)) + array()), ("records", one_field_each(many(1365, 1, 1)) + array())])
     yield "arena-17", bytes_of(null()), 17, 17
     yield "arena-16-work-0", bytes_of(null()), 16, 0
     yield "table-9", bytes_of(null()) + bytes(1), LARGEST, LARGEST
@@ -244,4 +252,4 @@ def suffixed(equivalences):
 if __name__ == "__main__":
     report(known(), suffixed(KNOWN))
     report(unknown(), suffixed(UNKNOWN))
-    report(default(), {"": KIND})
+    report(default(), {"": LABEL})

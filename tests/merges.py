@@ -5,7 +5,8 @@ A place is a tuple of classes and of fields, so that places in order are the row
 import zlib
 from collections import Counter
 
-from counting_types import EVERY_KIND, FIELD, KNOWN, LABEL, LIMIT, NINE_BY_KIND, NINE_BY_LABEL, RECORD, UNKNOWN, Row
+from counting_types import DEFAULT, EVERY_KIND, FIELD, FORMER_DEFAULT, FORMER_SAME_KEYS, KNOWN, LABEL, LIMIT, NINE_BY_KIND, NINE_BY_LABEL
+from counting_types import RECORD, UNKNOWN, Row
 from counting_types import array, boolean, field, null, number, record, string
 from counting_types import bytes_of, front, joined, judge, nested, rows_in, split, wide, with_keys
 
@@ -208,6 +209,14 @@ def malformed():
     yield "first-before-room", boolean() + null(), null(), 0
 
 
+def defaults():
+    yield from both_ways("former-default-and-same-keys", "same-keys-and-former-default", FORMER_DEFAULT, FORMER_SAME_KEYS)
+    yield "same-keys-twice", FORMER_SAME_KEYS, FORMER_SAME_KEYS
+    yield from both_ways("former-default-and-default", "default-and-former-default", FORMER_DEFAULT, DEFAULT)
+    yield from both_ways("same-keys-and-default", "default-and-same-keys", FORMER_SAME_KEYS, DEFAULT)
+    yield "default-twice", DEFAULT, DEFAULT
+
+
 def same_twice():
     """The first type is also the second."""
     yield "nine-by-kind", NINE_BY_KIND
@@ -308,7 +317,7 @@ def unknown():
 
 def known():
     """Names, both types and arena lengths, in the order of crates/trials."""
-    for group in empty_types, unions, contents, fields, key_lists, totals, malformed:
+    for group in empty_types, unions, contents, fields, key_lists, totals, malformed, defaults:
         yield from pairs(group())
     yield from pairs((f"{name}-twice", rows, rows) for name, rows in same_twice())
     for group in arenas, depths, largest:

@@ -84,7 +84,8 @@ impl Call<'_> {
                 work,
             } => settle(infer(table, equivalence, arena, work), arena, work),
             Call::InferDefault { table, arena, work } => {
-                settle(infer(table, 0, arena, work), arena, work)
+                let default = Equivalence::Label as u64;
+                settle(infer(table, default, arena, work), arena, work)
             }
             Call::JudgeType { bytes, equivalence } => settle(judge_type(bytes, equivalence), 0, 0),
             Call::Merge {

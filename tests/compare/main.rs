@@ -61,13 +61,14 @@ fn main() {
 }
 
 fn run(case: &mut Case) {
-    match case.random.below(14) {
+    match case.random.below(15) {
         0..=2 => single::table(case),
         3..=4 => single::one_type(case),
         5..=7 => single::two_types(case),
         8 => ways::ways(case),
         9 => ways::merges(case),
-        10 => removals::apart(case),
+        10 => ways::former_defaults(case),
+        11 => removals::apart(case),
         _ => removals::whole_and_part(case),
     }
     if case.index % 2 == 0 {

@@ -1,14 +1,16 @@
 //! Counts how often each call and each way answered each number. A number that can occur must.
 
-/// The rows of ways over tables, of merge trees over types and of merges taken apart; a call's row has its number.
+/// The rows of ways over tables, of merge trees over types, of merges taken apart and of merges of former default types; a call's row has
+/// its number.
 pub const WAY: usize = 8;
 pub const MERGES: usize = 9;
 pub const APART: usize = 10;
+pub const FORMER: usize = 11;
 
 /// One more than the largest number that a call answers.
 const NUMBERS: usize = 17;
 
-const ROWS: [(&str, &[u64]); 10] = [
+const ROWS: [(&str, &[u64]); 11] = [
     ("1 judge a table", &[0, 1, 3, 4, 5, 6, 7, 15]),
     ("2 infer", &[0, 1, 2, 3, 4, 5, 6, 7, 11, 15]),
     ("3 infer, default", &[0, 1, 3, 4, 5, 6, 7, 11, 15]),
@@ -19,6 +21,7 @@ const ROWS: [(&str, &[u64]); 10] = [
     ("ways", &[0, 11]),
     ("merge trees", &[0, 10, 11]),
     ("merges apart", &[0, 1, 11]),
+    ("former defaults", &[0, 8, 9]),
 ];
 
 #[derive(Default)]

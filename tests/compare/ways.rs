@@ -7,7 +7,7 @@ use crate::messages::{messages, Shape};
 use crate::profile::{passes_limit, profile, sum, Equivalence, Profile};
 use crate::random::Random;
 use crate::single::EQUIVALENCES;
-use crate::tally::{MERGES, WAY};
+use crate::tally::{FORMER, MERGES, WAY};
 use crate::value::{Value, LONGEST};
 use crate::{types, value};
 
@@ -21,10 +21,7 @@ struct Fixed {
 /// Two or three ways of one log.
 pub fn ways(case: &mut Case) {
     let random = &mut case.random;
-    let shape = Shape::random(random);
-    let mut log = messages(&shape, random);
-    // A way reads tables that call 1 accepts.
-    log.retain(|message| value::read(&value::write(std::slice::from_ref(message))).is_ok());
+    let mut log = log(random);
     let equivalence = random.pick(&EQUIVALENCES);
     let profile = profile(&log, equivalence);
     let fixed = Fixed {
@@ -38,6 +35,35 @@ pub fn ways(case: &mut Case) {
         ends.push(bring(case, tables, Vec::new(), fixed));
     }
     settle(case, WAY, &ends, &profile, fixed);
+}
+
+/// Messages that call 1 accepts.
+fn log(random: &mut Random) -> Vec<Value> {
+    let shape = Shape::random(random);
+    let mut log = messages(&shape, random);
+    log.retain(|message| value::read(&value::write(std::slice::from_ref(message))).is_ok());
+    log
+}
+
+/// Merges the types that the default call, when it inferred under kind, made of two parts of a log. Under kind the end is that of a
+/// way. Under label it is too, or a type that is not well formed there is refused.
+pub fn former_defaults(case: &mut Case) {
+    let log = log(&mut case.random);
+    let (one, other) = log.split_at(case.random.below(log.len() + 1));
+    let [first, second] = [one, other].map(|part| types::write(&profile(part, Equivalence::Kind)));
+    if first.len() > LONGEST || second.len() > LONGEST {
+        return;
+    }
+    let fixed = Fixed {
+        equivalence: case.random.pick(&EQUIVALENCES),
+        arena: LONGEST,
+    };
+    let end = merge_two(case, &mut vec![first, second], fixed);
+    let refused = fixed.equivalence == Equivalence::Label && [8, 9].contains(&end.number);
+    if !refused && !agrees(&end, &profile(&log, fixed.equivalence), fixed) {
+        case.fail("a merge of types by the former default ends otherwise than its profile\n");
+    }
+    case.tally.add(FORMER, end.number);
 }
 
 /// Two or three merge trees of the same types, whose counts come up to the limit.
@@ -124,7 +150,7 @@ fn bring(
 
 fn infer(case: &mut Case, table: &[u8], fixed: Fixed) -> Outcome {
     let arena = fixed.arena;
-    if fixed.equivalence == Equivalence::Kind && case.random.one_in(2) {
+    if fixed.equivalence == Equivalence::Label && case.random.one_in(2) {
         return case.call(Call::InferDefault {
             table,
             arena,

@@ -119,7 +119,28 @@ pub fn infer(
     raw::infer(table, equivalence as u64, arena, work).result()
 }
 
-/// Call 3. The same as [`infer`] under the house default, [`Equivalence::Kind`].
+/// Call 3. The same as [`infer`] under the house default, [`Equivalence::Label`].
+///
+/// Judge, merge and take apart its types under [`Equivalence::Label`]. Earlier the house default was [`Equivalence::Kind`]: types
+/// that this call made then stay usable under that. Under [`Equivalence::Label`] such a type is not well formed, unless each of
+/// its fields has the count of its record. A type under label may have more records than the one under kind.
+///
+/// ```
+/// use ct::{infer_default, merge, Equivalence, Refusal};
+///
+/// // Two records: one without fields, and one with a null at key 1.
+/// let empty = [5, 0, 0, 0, 1, 0, 0, 0];
+/// let with_null = [5, 0, 0, 0, 2, 0, 0, 0, 1, 0, 1, 0, 1, 0, 0, 0];
+/// let table = [&empty[..], &with_null].concat();
+/// let [mut arena, mut work, mut merged] = [[0; 64]; 3];
+/// let records = infer_default(&table, &mut arena, &mut work)?;
+/// let inferred = &arena[..16 * records];
+/// assert_eq!(merge(inferred, inferred, Equivalence::Label, &mut merged), Ok(4));
+///
+/// let refused = merge(inferred, inferred, Equivalence::Kind, &mut merged);
+/// assert_eq!(refused, Err(Refusal::FirstType));
+/// # Ok::<(), Refusal>(())
+/// ```
 pub fn infer_default(table: &[u8], arena: &mut [u8], work: &mut [u8]) -> Result<usize, Refusal> {
     raw::infer_default(table, arena, work).result()
 }
@@ -137,6 +158,9 @@ pub fn judge_type(bytes: &[u8], equivalence: Equivalence) -> Result<usize, Refus
 /// The types are just the records in use, and may be the same bytes. The arena may hold any bytes; accepted, it is zero behind
 /// the merged type, refused, all of it is. The first type is judged before the second, then the totals, then the room, which
 /// is refused only where the merged type itself has more records than the arena.
+///
+/// The equivalence is the one that both types were made under: for types of [`infer_default`] [`Equivalence::Label`], and
+/// [`Equivalence::Kind`] if that call made them while its default was kind.
 pub fn merge(
     first: &[u8],
     second: &[u8],

@@ -26,8 +26,9 @@ abbrev pub equivalenceNumber : Equivalence → ℕ
 equivalenceNumber byKind = 0
 equivalenceNumber byLabel = 1
 
+-- the equivalence of call 3
 abbrev pub houseDefault : Equivalence
-houseDefault = byKind
+houseDefault = byLabel
 
 -- What a call that writes a type answers, and the bytes of that type; none where it is turned down.
 pub record Written : Type 0 where

@@ -6,6 +6,7 @@ use byte_records::clearing::clear_from;
 use gathering::add_messages;
 use inference::inferring::Inferred;
 use merging::merge_types;
+use type_arena::equivalence::BY_LABEL;
 use type_arena::type_record;
 use type_arena::type_record::bad_length;
 use type_check::pair::Pair;
@@ -33,8 +34,8 @@ ghost use Rattle.inference.specs.Inside.Inferring.{AcceptedTable};
 ghost use Rattle.answers.specs.Outcomes.{outcomeOf, leftBy};
 ghost use Rattle.answers.specs.Inside.Front.{WrittenInFront};
 
-// The equivalence of call 3: kind.
-const HOUSE_DEFAULT: u64 = 0;
+// The equivalence of call 3.
+const HOUSE_DEFAULT: u64 = BY_LABEL;
 
 // Whether the length of a table, of an arena or of its working buffer is wrong.
 fn bad_buffers(table: usize, arena: usize, work: usize) -> bool
@@ -68,13 +69,13 @@ fn infer_front(table: &[u8], equivalence: u64, arena: &mut [u8], work: &mut [u8]
     if bad_buffers(table.len(), arena.len(), work.len()) {
         return Answered::Refused(Refusal::Length, 0);
     }
-    if 1 < equivalence {
+    if BY_LABEL < equivalence {
         return Answered::Refused(Refusal::Equivalence, 0);
     }
     match judge(table) {
         Judged::Length => Answered::Refused(Refusal::Length, 0),
         Judged::Faulty(fault, place) => Answered::Refused(Refusal::Table(fault), place),
-        Judged::Accepted(_) => infer_checked(table, equivalence == 1, arena, work),
+        Judged::Accepted(_) => infer_checked(table, equivalence == BY_LABEL, arena, work),
     }
 }
 
@@ -105,10 +106,10 @@ pub fn judge_type(bytes: &[u8], equivalence: u64) -> Answered
     if bad_length(bytes.len()) {
         return Answered::Refused(Refusal::Length, 0);
     }
-    if 1 < equivalence {
+    if BY_LABEL < equivalence {
         return Answered::Refused(Refusal::Equivalence, 0);
     }
-    if well_formed(bytes, equivalence == 1) {
+    if well_formed(bytes, equivalence == BY_LABEL) {
         return Answered::Accepted(bytes.len() / type_record::SIZE);
     }
     Answered::Refused(Refusal::First, 0)

@@ -26,7 +26,7 @@ use Rattle.counting_theory.specs.Label.{Equivalence, CountingType}
 use Rattle.counting_theory.specs.Raw.{profileOf}
 use Rattle.counting_theory.specs.Encoding.{typeSize, encode, typeOf}
 use Rattle.counting_theory.specs.WellFormed.{badTypeLength, IsType}
-use Rattle.counting_theory.specs.Answers.{equivalenceNumber, houseDefault, Written, turnedDown, arenaWith, stored, inferredUnder, inferred, inferredDefault, largestArena}
+use Rattle.counting_theory.specs.Answers.{equivalenceNumber, Written, turnedDown, arenaWith, stored, inferredUnder, inferred, largestArena}
 use Rattle.answers.specs.declared.Answered.{Answered}
 use Rattle.answers.specs.declared.Answered.the-variants.{Accepted, Refused}
 use Rattle.answers.specs.declared.Refusal.the-variants as refusals
@@ -91,13 +91,16 @@ pub record Told (b arena : List ℕ) (answer : Answer) : Type 0 where
   pub room : typeSize * answer .count ≤ length arena
   pub whole : length arena ≡ largestArena
 
+abbrev programNumber : ℕ
+programNumber = equivalenceNumber programEquivalence
+
 pub told : (b : List ℕ) (n m : ℕ) (arena : List ℕ) (answer : Answer) → largestArena ≡ n → largestArena ≡ m → length arena ≡ n →
-    outcomeOfAnswer answer ≡ inferredDefault b n m .outcome → arena ≡ arenaWith n (inferredDefault b n m) → Told b arena answer
+    outcomeOfAnswer answer ≡ inferred b programNumber n m .outcome → arena ≡ arenaWith n (inferred b programNumber n m) → Told b arena answer
 told b n m arena answer l k whole outcome left =
     let w = profiled b in
     let o : outcomeOfAnswer answer ≡ w .outcome = rw (← l, ← k) at outcome in
     let a : arena ≡ arenaWith largestArena w = rw (← l, ← k) at left in
-    let e : length (w .bytes) ≡ typeSize * answer .count = exact-inferred b (equivalenceNumber houseDefault) largestArena largestArena ∙ ap (λ x. typeSize * x .count) (sym o) in
+    let e : length (w .bytes) ≡ typeSize * answer .count = exact-inferred b programNumber largestArena largestArena ∙ ap (λ x. typeSize * x .count) (sym o) in
     record {
       outcome = o;
       bytes = ap (take (typeSize * answer .count)) a ∙ take-at (w .bytes) _ (typeSize * answer .count) e;

@@ -5,10 +5,10 @@ use Prim.Native.Nat.{ℕ, zero, suc, max}
 use lib.Dec.{eqb}
 use Rattle.value_table.specs.Value.{recordKind}
 use Rattle.counting_theory.specs.Trie.{nil, node, total}
-use Rattle.counting_theory.specs.Label.{Equivalence, Label, Counting, CountingType}
+use Rattle.counting_theory.specs.Label.{Equivalence, byKind, Label, Counting, CountingType}
 use Rattle.counting_theory.specs.Encoding.{typeOf}
 use Rattle.counting_theory.specs.WellFormed.{depthInside}
-use Rattle.counting_theory.specs.Answers.{houseDefault, Written, largestArena, inferredDefault}
+use Rattle.counting_theory.specs.Answers.{equivalenceNumber, Written, largestArena, inferred}
 use Rattle.report.specs.Decimal.{digitCount}
 use Rattle.report.specs.Line.{share, lineOf, refusalLine}
 
@@ -32,19 +32,19 @@ largestCount (node l a inner next) = max (a .count) (max (largestCount inner) (l
 unfoldable pub report : CountingType → List ℕ
 report t = linesOf (digitCount (largestCount t)) 1 (total Counting t) t
 
--- the equivalence under which the program infers
+-- the equivalence under which the program infers, whatever the house default is
 abbrev pub programEquivalence : Equivalence
-programEquivalence = houseDefault
+programEquivalence = byKind
 
 -- the report of the type, or the line of the refusal, by the refusal number
 abbrev pub textOf : ℕ → Written → List ℕ
 textOf zero w = report (typeOf programEquivalence (w .bytes))
 textOf (suc n) w = refusalLine (suc n) (w .outcome .place)
 
--- The type of the program's input, inferred by the house default with the largest arena. Input above 65,536 bytes is refused by 1, as
--- is any other wrong length.
+-- The type of the program's input, inferred by call 2 under that equivalence with the largest arena. Input above 65,536 bytes is refused
+-- by 1, as is any other wrong length.
 abbrev pub profiled : List ℕ → Written
-profiled input = inferredDefault input largestArena largestArena
+profiled input = inferred input (equivalenceNumber programEquivalence) largestArena largestArena
 
 -- what the program prints for its input
 unfoldable pub printed : List ℕ → List ℕ

@@ -3,13 +3,14 @@ mod decimal;
 mod line;
 mod walk;
 
+use answers::Answered;
 use answers::answer_of;
-use counting_type::infer_default;
 use decimal::digit_count;
 use decimal::put_text;
 use line::LINE_LIMIT;
 use line::put_number_and;
 use type_arena::addend::union_total;
+use type_arena::equivalence::BY_KIND;
 use type_arena::type_record;
 use value_table::record;
 use walk::largest_count;
@@ -19,6 +20,8 @@ ghost use Prim.Native.Nat.{_*_, _≤_};
 ghost use lib.ListN.{length};
 ghost use Rattle.counting_theory.specs.Encoding.{typeRecords, typeOf};
 ghost use Rattle.counting_theory.specs.WellFormed.{maxTotal, IsType};
+ghost use Rattle.counting_theory.specs.Answers.{equivalenceNumber, leaves, inferred};
+ghost use Rattle.answers.specs.Outcomes.{leftBy};
 ghost use Rattle.report.specs.Decimal.{leavesText, textLeft};
 ghost use Rattle.report.specs.Line.{refusalLine};
 ghost use Rattle.report.specs.Inside.Room.{lineLimit, refusalLimit};
@@ -51,13 +54,22 @@ fn put_refusal(number: usize, place: usize, out: &mut [u8]) -> usize
     put_number_and(out, second, place, b'\n')
 }
 
+// Infers the type of the program's input, under kind.
+fn infer_input(input: &[u8], arena: &mut [u8], work: &mut [u8]) -> Answered
+    ensures { λ r. ⌜ leftBy r (now (arena .exit)) (now (work .exit))
+        ≡ leaves (inferred (now (input .entry)) (equivalenceNumber programEquivalence) (length (now (arena .entry))) (length (now (work .entry))))
+        (now (arena .entry)) (now (work .entry)) ⌝ }
+{
+    counting_type::infer(input, BY_KIND, arena, work)
+}
+
 // Stores what the profile program prints for its input at the front of the buffer, and answers its length.
 pub fn put_profile(input: &[u8], out: &mut [u8; TEXT_LIMIT]) -> usize
     ensures { λ r. ⌜ textLeft r (now (out .exit)) ≡ leavesText (printed (now (input .entry))) (now (out .entry)) ⌝ }
 {
     let mut arena = [0u8; ARENA_LENGTH];
     let mut work = [0u8; ARENA_LENGTH];
-    let answer = answer_of(infer_default(input, &mut arena, &mut work));
+    let answer = answer_of(infer_input(input, &mut arena, &mut work));
     if answer.number == 0 {
         let n = type_record::SIZE * (answer.count as usize);
         return put_report(&arena[..n], out);

@@ -1,6 +1,7 @@
 // Two types before a call that writes a third: the refusals that come before its work.
 use crate::well_formed;
 use answers::Refusal;
+use type_arena::equivalence::BY_LABEL;
 use type_arena::type_record::bad_length;
 ghost use mathlib.Core.Path.{_≡_};
 ghost use mathlib.Core.Bool.{_||_};
@@ -34,10 +35,10 @@ pub fn judge_pair(first: &[u8], second: &[u8], equivalence: u64, arena: usize) -
     if bad_lengths(first.len(), second.len(), arena) {
         return Pair::Refused(Refusal::Length);
     }
-    if 1 < equivalence {
+    if BY_LABEL < equivalence {
         return Pair::Refused(Refusal::Equivalence);
     }
-    let label = equivalence == 1;
+    let label = equivalence == BY_LABEL;
     if !well_formed(first, label) {
         return Pair::Refused(Refusal::First);
     }
