@@ -26,7 +26,7 @@ abbrev pub equivalenceNumber : Equivalence → ℕ
 equivalenceNumber byKind = 0
 equivalenceNumber byLabel = 1
 
--- the equivalence of call 3
+-- the equivalence of call 3: kind in document 01, label by change 5 of document 02
 abbrev pub houseDefault : Equivalence
 houseDefault = byLabel
 

@@ -32,7 +32,7 @@ largestCount (node l a inner next) = max (a .count) (max (largestCount inner) (l
 unfoldable pub report : CountingType → List ℕ
 report t = linesOf (digitCount (largestCount t)) 1 (total Counting t) t
 
--- the equivalence under which the program infers, whatever the house default is
+-- the equivalence under which the program infers: kind by name (change 5 of document 02), whatever the house default is
 abbrev pub programEquivalence : Equivalence
 programEquivalence = byKind
 
