@@ -196,6 +196,7 @@ def totals():
     yield "total-10^15+1-in-field", record(field(1, null(LIMIT), boolean()), count=LIMIT)
     yield "two-fields-of-10^15", record(field(1, null(LIMIT)), field(2, null(LIMIT)), count=LIMIT)
     yield "count-2^64-1", null(largest)
+    yield "count-2^56+1", null(2**56 + 1)
     yield "wrapped", null(largest) + boolean(2)
     yield "wrapped-last", null(2) + boolean(largest)
     yield "wrapped-in-array", array(null(largest), boolean(2))
@@ -325,6 +326,8 @@ def spans():
     yield "record-span-2^32-1", changed(record(), 0, span=largest)
     yield "element-span-2^32-1", changed(array(array()), 1, span=largest)
     yield "field-span-2^32-1", changed(with_keys(1), 1, span=largest)
+    for bits in 8, 16, 24:
+        yield f"span-2^{bits}+1", changed(array(), 0, span=2**bits + 1)
 
 
 def depths():

@@ -208,6 +208,8 @@ def field_257_and_more():
 def single_faults():
     yield "all-zero", [(0, 0, 0)]
     yield "null-span-2-alone", [(NULL, 0, 2)]
+    for bits in 8, 16, 24:
+        yield f"span-2^{bits}+1", [(ARRAY, 0, 2**bits + 1)]
     yield "key-in-array-in-record", record(array(null(1), key=1))
     yield "no-key-in-record-in-array", array(record(null()))
 
