@@ -55,7 +55,7 @@ fn infer_checked(table: &[u8], label: bool, arena: &mut [u8], work: &mut [u8]) -
     requires { ⌜ AcceptedTable (now table) × (length (now arena) ≤ maxLength) × (length (now arena) ≤ length (now work)) ⌝ }
     ensures { λ r. ⌜ WrittenInFront (stored (length (now (arena .entry))) (profileOf (byFlag label) (messages (now (table .entry))))) r (now (arena .exit)) ⌝ }
 {
-    match add_messages(arena, table, label, work) {
+    match add_messages(arena, table, label, false, work) {
         Inferred::Records(n) => Answered::Accepted(n),
         Inferred::Full => Answered::Refused(Refusal::Room, 0),
     }
