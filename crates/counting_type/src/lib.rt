@@ -16,19 +16,17 @@ use value_table::Judged;
 use value_table::judge;
 use value_table::record;
 ghost use mathlib.Core.Path.{_≡_};
-ghost use mathlib.Core.Bool.{not, _||_};
 ghost use mathlib.Core.List.{[]};
 ghost use Prim.Native.Nat.{_≤_};
-ghost use lib.Dec.{eqb};
 ghost use lib.ListN.{length};
 ghost use Rattle.value_table.specs.Value.{maxLength};
-ghost use Rattle.value_table.specs.Judged.{badLength, messages};
+ghost use Rattle.value_table.specs.Judged.{messages};
 ghost use Rattle.counting_theory.specs.Trie.{reduce};
 ghost use Rattle.counting_theory.specs.Label.{Counting};
 ghost use Rattle.counting_theory.specs.Raw.{profileOf};
 ghost use Rattle.counting_theory.specs.Encoding.{typeOf};
-ghost use Rattle.counting_theory.specs.WellFormed.{badTypeLength, IsType};
-ghost use Rattle.counting_theory.specs.Answers.{judgedType, leaves, stored, inferred, inferredDefault, merged, mergedTypes};
+ghost use Rattle.counting_theory.specs.WellFormed.{IsType};
+ghost use Rattle.counting_theory.specs.Answers.{judgedType, leaves, stored, badBuffers, inferred, inferredDefault, merged, mergedTypes};
 ghost use Rattle.type_arena.specs.Inside.Arena.{byFlag};
 ghost use Rattle.inference.specs.Inside.Inferring.{AcceptedTable};
 ghost use Rattle.answers.specs.Outcomes.{outcomeOf, leftBy};
@@ -38,8 +36,8 @@ ghost use Rattle.answers.specs.Inside.Front.{WrittenInFront};
 const HOUSE_DEFAULT: u64 = BY_LABEL;
 
 // Whether the length of a table, of an arena or of its working buffer is wrong.
-fn bad_buffers(table: usize, arena: usize, work: usize) -> bool
-    ensures { λ r. ⌜ r ≡ (badLength table || badTypeLength arena || not (eqb work arena)) ⌝ }
+pub fn bad_buffers(table: usize, arena: usize, work: usize) -> bool
+    ensures { λ r. ⌜ r ≡ badBuffers table arena work ⌝ }
 {
     if record::bad_length(table) {
         return true;
