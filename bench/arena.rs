@@ -1,4 +1,4 @@
-//! An arena that is written as far as there is room, for the plain merge, removal and inference.
+//! An arena that is written as far as there is room, for the plain merge, removal and inferences.
 
 use crate::type_validator::SIZE;
 

@@ -1,7 +1,7 @@
 //! Compares and times the calls of the library against plain Rust of the same rules.
 //!
-//! Arguments: the files with a log, as a value table and as text, and with its key book; then `texts` to time the reading of texts only, or
-//! `removals` for removal.
+//! Arguments: the files with a log, as a value table and as text, and with its key book; then `texts` to time the reading of texts only,
+//! `removals` for removal, or `tagbus` for the inference for the tag bus beside call 2.
 
 mod arena;
 mod comparing;
@@ -15,11 +15,13 @@ mod plain_inference;
 mod plain_merge;
 mod plain_reader;
 mod plain_removal;
+mod plain_tag_bus;
 mod plain_tokens;
 mod readings;
 mod removals;
 mod sequence;
 mod tables;
+mod tag_bus;
 mod texts;
 mod timing;
 mod type_validator;
@@ -69,6 +71,17 @@ fn types(all: impl Fn(usize) -> Vec<Workload>, growing: impl Fn(usize) -> Vec<Wo
     println!();
 }
 
+fn tag_bus(log: &[u8]) {
+    let largest = tag_bus::workloads(8192, log);
+    for (workloads, turns) in [(&tag_bus::workloads(100, log), 20_000), (&largest, 10)] {
+        for workload in workloads {
+            tag_bus::compare(workload, turns);
+        }
+    }
+    tag_bus::report(&largest);
+    println!();
+}
+
 fn texts(log: &[u8], book: &[u8]) {
     let log = std::str::from_utf8(log).expect("a text in UTF-8");
     let texts = readings::workloads(log, book);
@@ -88,8 +101,10 @@ fn main() {
             |n| removals(n, &log),
             |n| removals::workloads(n as u16 / 2, &log),
         ),
+        Some("tagbus") => tag_bus(&log),
         _ => {
             types(|n| workloads(n, &log), |n| writers(n, &log));
+            tag_bus(&log);
             texts(&file(1), &file(2));
         }
     }

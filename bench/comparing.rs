@@ -7,17 +7,18 @@ use crate::validator::{header, SIZE as VALUE_RECORD};
 use ct::raw::Answer;
 
 /// Buffers with something in them beforehand.
-fn used_buffers(arena: usize, work: usize) -> Buffers {
+pub fn used_buffers([arena, work, entries]: [usize; 3]) -> Buffers {
     Buffers {
         arena: (0..arena).map(|i| i as u8 | 1).collect(),
         work: (0..work).map(|i| i as u8 | 2).collect(),
+        entries: (0..entries).map(|i| i as u8 | 4).collect(),
     }
 }
 
-/// The answer of both.
-pub fn agree(pair: &Pair, name: &str, inputs: &Inputs, arena: usize, work: usize) -> Answer {
-    let mut of_proved = used_buffers(arena, work);
-    let mut of_plain = used_buffers(arena, work);
+/// The answer of both, with these lengths of the arena, of the working buffer and of the entries.
+pub fn agree(pair: &Pair, name: &str, inputs: &Inputs, lengths: [usize; 3]) -> Answer {
+    let mut of_proved = used_buffers(lengths);
+    let mut of_plain = used_buffers(lengths);
     let answer = (pair.proved)(inputs, &mut of_proved);
     assert_eq!(
         answer,
@@ -110,15 +111,16 @@ fn compare_rooms(workload: &Workload) -> [usize; 4] {
     let Workload {
         pair, name, inputs, ..
     } = workload;
-    let answer = agree(pair, name, inputs, workload.room, ROOM);
+    let entries = workload.entries;
+    let answer = agree(pair, name, inputs, [workload.room, ROOM, entries]);
     assert_eq!(answer.number, workload.number, "{} of {name}", pair.name);
     if !pair.writes {
         return [0; 4];
     }
     let rooms = rooms(workload, answer);
     for room in rooms {
-        agree(pair, name, inputs, room, room);
-        agree(pair, name, inputs, room, ROOM);
+        agree(pair, name, inputs, [room, room, entries]);
+        agree(pair, name, inputs, [room, ROOM, entries]);
     }
     rooms
 }
@@ -136,6 +138,6 @@ pub fn compare(workload: &Workload, turns: usize) {
             inputs.equivalence = sequence.below(3) as u64;
         }
         let room = rooms[sequence.below(3)];
-        agree(pair, name, &inputs, room, room);
+        agree(pair, name, &inputs, [room, room, workload.entries]);
     }
 }

@@ -1,30 +1,33 @@
 //! Calls 2 and 3, which infer types, beside a plain inference.
 
-use crate::pair::{accepted, refused, Buffers, Inputs, Pair, Workload, KIND, LABEL};
+use crate::pair::{answered_at, Buffers, Inputs, Pair, Workload, KIND, LABEL};
 use crate::plain_inference;
 use crate::sequence::{shuffled, Sequence};
 use crate::tables::{
     far_keys, far_shapes, fifty_shapes, fifty_varied, first_messages, many_keys, matrices,
     messages, nested, one_field_shapes, same_keys, varied,
 };
+use crate::validator::MAX_FIELDS;
 use ct::raw::{self, Answer};
 
-fn proved(inputs: &Inputs, buffers: &mut Buffers) -> Answer {
-    let Buffers { arena, work } = buffers;
+pub fn proved(inputs: &Inputs, buffers: &mut Buffers) -> Answer {
+    let Buffers { arena, work, .. } = buffers;
     raw::infer(&inputs.first, inputs.equivalence, arena, work)
 }
 
 fn proved_default(inputs: &Inputs, buffers: &mut Buffers) -> Answer {
-    let Buffers { arena, work } = buffers;
+    let Buffers { arena, work, .. } = buffers;
     raw::infer_default(&inputs.first, arena, work)
 }
 
 fn plain_under(equivalence: u64, inputs: &Inputs, buffers: &mut Buffers) -> Answer {
-    let Buffers { arena, work } = buffers;
-    match plain_inference::infer(&inputs.first, equivalence, arena, work) {
-        Ok(records) => accepted(records),
-        Err((number, place)) => refused(number, place),
-    }
+    let Buffers { arena, work, .. } = buffers;
+    answered_at(plain_inference::infer(
+        &inputs.first,
+        equivalence,
+        arena,
+        work,
+    ))
 }
 
 fn plain(inputs: &Inputs, buffers: &mut Buffers) -> Answer {
@@ -51,7 +54,7 @@ static INFER_DEFAULT: Pair = Pair {
     plain: plain_default,
 };
 
-fn workload(pair: &'static Pair, name: &str, equivalence: u64, first: &[u8]) -> Workload {
+pub fn workload(pair: &'static Pair, name: &str, equivalence: u64, first: &[u8]) -> Workload {
     let inputs = Inputs {
         first: first.to_vec(),
         second: Vec::new(),
@@ -68,18 +71,18 @@ pub fn workloads(n: usize, log: &[u8]) -> Vec<Workload> {
     let tables = [
         ("messages", messages(n / 13)),
         ("varied", varied(n / 13)),
-        ("fifty shapes", fifty_shapes(n / 11)),
-        ("fifty varied", fifty_varied(n / 11)),
+        ("fifty shapes", fifty_shapes(n / 11, 100)),
+        ("fifty varied", fifty_varied(n / 11, 100)),
         ("log", first_messages(log, n)),
         ("nested", nested(n / 32)),
         ("matrices", matrices(n / 21)),
-        ("fields ascending", same_keys(n, |keys| keys)),
-        ("fields descending", same_keys(n, descending)),
-        ("fields mixed", same_keys(n, mixed)),
+        ("fields ascending", same_keys(n, MAX_FIELDS, |keys| keys)),
+        ("fields descending", same_keys(n, MAX_FIELDS, descending)),
+        ("fields mixed", same_keys(n, MAX_FIELDS, mixed)),
         ("many fields", many_keys(n)),
         ("far fields", far_keys(n)),
-        ("many shapes", one_field_shapes((n / 6) as u16)),
-        ("far shapes", far_shapes(n)),
+        ("many shapes", one_field_shapes((n / 6) as u16, 3)),
+        ("far shapes", far_shapes(n, (n / 6 - 1) as u16)),
     ];
     let mut workloads = Vec::new();
     for (name, table) in &tables {

@@ -26,6 +26,14 @@ pub fn answered(result: Result<usize, u64>) -> Answer {
     }
 }
 
+/// The answer of a plain inference.
+pub fn answered_at(result: Result<usize, (u64, usize)>) -> Answer {
+    match result {
+        Ok(records) => accepted(records),
+        Err((number, place)) => refused(number, place),
+    }
+}
+
 pub const KIND: u64 = 0;
 pub const LABEL: u64 = 1;
 
@@ -38,11 +46,13 @@ pub struct Inputs {
     pub equivalence: u64,
 }
 
-/// What a call writes. Only an inference has a working buffer, and the judges have no arena; the reader's is a table.
+/// What a call writes. Only an inference has a working buffer, only that for the tag bus has entries, and the judges have no arena; the
+/// reader's is a table.
 #[derive(PartialEq)]
 pub struct Buffers {
     pub arena: Vec<u8>,
     pub work: Vec<u8>,
+    pub entries: Vec<u8>,
 }
 
 pub type Call = fn(&Inputs, &mut Buffers) -> Answer;
@@ -60,12 +70,13 @@ pub struct Pair {
 /// The length of the largest arena.
 pub const ROOM: usize = 65_536;
 
-/// A call on inputs, with an arena of a length.
+/// A call on inputs, with an arena and entries of a length.
 pub struct Workload {
     pub pair: &'static Pair,
     pub name: String,
     pub inputs: Inputs,
     pub room: usize,
+    pub entries: usize,
     /// What the call answers: 0, as it accepts most workloads, or a refusal number.
     pub number: u64,
 }
@@ -78,6 +89,7 @@ impl Workload {
             name: name.to_string(),
             inputs,
             room: ROOM,
+            entries: 0,
             number: 0,
         }
     }

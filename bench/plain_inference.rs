@@ -7,29 +7,42 @@ use crate::validator::{header, RECORD, SIZE};
 use crate::{type_validator, validator};
 use std::collections::BTreeMap;
 
-const LENGTH: u64 = 1;
+pub const LENGTH: u64 = 1;
 const EQUIVALENCE: u64 = 2;
 
-/// The kind of a value and, of a record under label, its keys in ascending order.
+/// The keys of a record, as they are kept. The order is that of ascending lists of them; the default has none.
+pub trait Keys: Ord + Default {
+    fn of(keys: impl Iterator<Item = u16>) -> Self;
+}
+
+impl Keys for Vec<u16> {
+    fn of(keys: impl Iterator<Item = u16>) -> Self {
+        let mut list: Vec<u16> = keys.collect();
+        list.sort_unstable();
+        list
+    }
+}
+
+/// The kind of a value and, of a record under label, its keys.
 #[derive(PartialEq, Eq, PartialOrd, Ord)]
-struct Class {
-    kind: u8,
-    keys: Vec<u16>,
+pub struct Class<K> {
+    pub kind: u8,
+    pub keys: K,
 }
 
-type Union = BTreeMap<Class, Addend>;
+pub type Union<K> = BTreeMap<Class<K>, Addend<K>>;
 
 #[derive(Default)]
-struct Addend {
+pub struct Addend<K> {
     count: u64,
-    fields: BTreeMap<u16, Field>,
-    elements: Union,
+    pub fields: BTreeMap<u16, Field<K>>,
+    pub elements: Union<K>,
 }
 
 #[derive(Default)]
-struct Field {
+pub struct Field<K> {
     count: u64,
-    union: Union,
+    pub union: Union<K>,
 }
 
 /// The values of a run, each with its key.
@@ -45,16 +58,16 @@ fn values(mut run: &[u8]) -> impl Iterator<Item = (u16, &[u8])> {
     })
 }
 
-fn class_of(kind: u8, content: &[u8], label: bool) -> Class {
-    let mut keys = Vec::new();
-    if kind == RECORD && label {
-        keys.extend(values(content).map(|(key, _)| key));
-        keys.sort_unstable();
-    }
+fn class_of<K: Keys>(kind: u8, content: &[u8], label: bool) -> Class<K> {
+    let keys = if kind == RECORD && label {
+        K::of(values(content).map(|(key, _)| key))
+    } else {
+        K::default()
+    };
     Class { kind, keys }
 }
 
-fn add_value(union: &mut Union, value: &[u8], label: bool) {
+fn add_value<K: Keys>(union: &mut Union<K>, value: &[u8], label: bool) {
     let kind = header(value, 0).kind;
     let content = &value[SIZE..];
     let addend = union.entry(class_of(kind, content, label)).or_default();
@@ -70,7 +83,16 @@ fn add_value(union: &mut Union, value: &[u8], label: bool) {
     }
 }
 
-fn write_union(union: &Union, arena: &mut Arena) {
+/// The union of a table's messages.
+pub fn union_of<K: Keys>(table: &[u8], label: bool) -> Union<K> {
+    let mut union = Union::new();
+    for (_, message) in values(table) {
+        add_value(&mut union, message, label);
+    }
+    union
+}
+
+pub fn write_union<K>(union: &Union<K>, arena: &mut Arena) {
     for (class, addend) in union {
         let at = arena.open();
         write_fields(&addend.fields, arena);
@@ -79,7 +101,7 @@ fn write_union(union: &Union, arena: &mut Arena) {
     }
 }
 
-fn write_fields(fields: &BTreeMap<u16, Field>, arena: &mut Arena) {
+fn write_fields<K>(fields: &BTreeMap<u16, Field<K>>, arena: &mut Arena) {
     for (key, field) in fields {
         let at = arena.open();
         write_union(&field.union, arena);
@@ -101,10 +123,7 @@ fn inferred(
         return Err((EQUIVALENCE, 0));
     }
     validator::validate(table)?;
-    let mut union = Union::new();
-    for (_, message) in values(table) {
-        add_value(&mut union, message, equivalence == LABEL);
-    }
+    let union: Union<Vec<u16>> = union_of(table, equivalence == LABEL);
     let mut arena = Arena::new(arena);
     write_union(&union, &mut arena);
     arena.records().map_err(|number| (number, 0))

@@ -77,15 +77,15 @@ fn damage(bytes: &mut Vec<u8>, sequence: &mut Sequence) {
 /// Both on a text, in tables around the one that just holds its records, and on damaged forms of the text and of the book; one of them has
 /// two records made one.
 fn compare_on(name: &str, inputs: &Inputs, turns: usize, sequence: &mut Sequence) {
-    let answer = agree(&READ, name, inputs, ROOM, 0);
+    let answer = agree(&READ, name, inputs, [ROOM, 0, 0]);
     assert_eq!(answer.number, 0, "{name} is not accepted");
     let exact = VALUE * answer.count as usize;
     for room in [exact, exact - VALUE, exact + 1, ROOM + VALUE] {
-        agree(&READ, name, inputs, room, 0);
+        agree(&READ, name, inputs, [room, 0, 0]);
     }
     let mut joined = inputs.clone();
     join(&mut joined.first);
-    agree(&READ, name, &joined, exact, 0);
+    agree(&READ, name, &joined, [exact, 0, 0]);
     for turn in 0..turns {
         let mut inputs = inputs.clone();
         let bytes = match turn % 8 {
@@ -93,7 +93,7 @@ fn compare_on(name: &str, inputs: &Inputs, turns: usize, sequence: &mut Sequence
             _ => &mut inputs.first,
         };
         damage(bytes, sequence);
-        agree(&READ, name, &inputs, exact, 0);
+        agree(&READ, name, &inputs, [exact, 0, 0]);
     }
 }
 
@@ -118,7 +118,7 @@ pub fn report(workloads: &[Workload]) {
             proved,
             plain,
             ratio,
-        } = measure(&READ, &workload.inputs, ROOM, TIME);
+        } = measure(&READ, &workload.inputs, [ROOM, 0], TIME);
         println!(
             "{:<20}{:<28}{bytes:>7.0}{:>14.0}{:>16.0}{ratio:>9.2}{:>10.3}{:>10.3}",
             READ.name,

@@ -124,10 +124,10 @@ pub fn wide(n: usize, step: u16) -> Vec<u8> {
     table
 }
 
-/// Messages with the same keys, as many as a record may have, in orders that `order` gives. The fields are now a null, now a string: equal
+/// Messages with the same keys, as many as are asked for, in orders that `order` gives. The fields are now a null, now a string: equal
 /// messages would be added at once.
-pub fn same_keys(n: usize, mut order: impl FnMut(Vec<u16>) -> Vec<u16>) -> Vec<u8> {
-    let fields = MAX_FIELDS.min(n / 4 - 1) as u16;
+pub fn same_keys(n: usize, fields: usize, mut order: impl FnMut(Vec<u16>) -> Vec<u16>) -> Vec<u8> {
+    let fields = fields.min(n / 4 - 1) as u16;
     let mut sequence = Sequence::new();
     let message = || {
         let keys = order((1..=fields).collect());
@@ -164,38 +164,54 @@ pub fn far_keys(n: usize) -> Vec<u8> {
     array(&filled(n - 1, all.map(|keys| with_kinds(keys, || ARRAY))))
 }
 
-/// n messages of ten fields with fifty different lists of keys, in a mixed order; `kind` gives the kinds of the fields.
-fn fifty(n: usize, mut kind: impl FnMut() -> u8) -> Vec<u8> {
+/// n messages of ten fields with fifty different lists of so many keys and two more, in a mixed order; `kind` gives the kinds of the
+/// fields.
+fn fifty(n: usize, keys: u16, mut kind: impl FnMut() -> u8) -> Vec<u8> {
     let shape = |i: usize| {
         let start = 7 * (i % 50) as u16;
-        let keys = (0..8).map(move |j| 3 + (start + 5 * j) % 100);
+        let keys = (0..8).map(move |j| 3 + (start + 5 * j) % keys);
         with_kinds((1..=2).chain(keys), &mut kind)
     };
-    shuffled(0..n, &mut Sequence::new()).into_iter().flat_map(shape).collect()
+    shuffled(0..n, &mut Sequence::new())
+        .into_iter()
+        .flat_map(shape)
+        .collect()
 }
 
 /// Such messages with numbers.
-pub fn fifty_shapes(n: usize) -> Vec<u8> {
-    fifty(n, || NUMBER)
+pub fn fifty_shapes(n: usize, keys: u16) -> Vec<u8> {
+    fifty(n, keys, || NUMBER)
 }
 
 /// Such messages whose fields are now a null, now a string.
-pub fn fifty_varied(n: usize) -> Vec<u8> {
+pub fn fifty_varied(n: usize, keys: u16) -> Vec<u8> {
     let mut sequence = Sequence::new();
-    fifty(n, || null_or_string(&mut sequence))
+    fifty(n, keys, || null_or_string(&mut sequence))
 }
 
-/// n messages of one field with different keys, three times each, in a mixed order.
-pub fn one_field_shapes(n: u16) -> Vec<u8> {
-    let keys = (1..=n).chain(1..=n).chain(1..=n);
-    let shapes = shuffled(keys, &mut Sequence::new()).into_iter().map(|key| with_keys([key]));
-    shapes.flatten().collect()
+/// Messages with each of these lists of keys, so many times each, in a mixed order.
+fn shapes<const N: usize>(lists: impl Iterator<Item = [u16; N]> + Clone, times: usize) -> Vec<u8> {
+    let all = std::iter::repeat_n(lists, times).flatten();
+    shuffled(all, &mut Sequence::new())
+        .into_iter()
+        .flat_map(with_keys)
+        .collect()
 }
 
-/// An array of arrays: the first has records of one field with different keys, each other one only the record with the largest key or
-/// the last but one. In each array the search begins with the smallest key.
-pub fn far_shapes(n: usize) -> Vec<u8> {
-    let last = (n / 6 - 1) as u16;
+/// Messages of one field with n different keys, so many times each.
+pub fn one_field_shapes(n: u16, times: usize) -> Vec<u8> {
+    shapes((1..=n).map(|key| [key]), times)
+}
+
+/// Messages of two fields with different pairs of keys up to 64, three times each. They fit a type of n / 2 records.
+pub fn two_field_shapes(n: usize) -> Vec<u8> {
+    let pairs = (1..=64).flat_map(|key| (1..key).map(move |other| [key, other]));
+    shapes(pairs.take(n / 10), 3)
+}
+
+/// An array of arrays: the first has records of one field with the keys up to the last, each other one only the record with the last key
+/// or the last but one. In each array the search begins with the smallest key.
+pub fn far_shapes(n: usize, last: u16) -> Vec<u8> {
     let all: Vec<u8> = (1..=last).rev().flat_map(|key| with_keys([key])).collect();
     let again = [last - 1, last].map(|key| with_keys([key]));
     let contents = std::iter::once(all).chain(again.into_iter().cycle());

@@ -50,11 +50,12 @@ fn turns(n: usize, mut run: impl FnMut() -> f64) -> u32 {
     (SAMPLE.as_nanos() as f64 / once).max(1.0) as u32
 }
 
-/// Takes rounds for a time, with an arena of a length.
-pub fn measure(pair: &Pair, inputs: &[Inputs], room: usize, time_for: Duration) -> Times {
+/// Takes rounds for a time, with these lengths of the arena and of the entries.
+pub fn measure(pair: &Pair, inputs: &[Inputs], lengths: [usize; 2], time_for: Duration) -> Times {
     let mut buffers = Buffers {
-        arena: vec![0; room],
+        arena: vec![0; lengths[0]],
         work: vec![0; ROOM],
+        entries: vec![0; lengths[1]],
     };
     let mut run = |call, turns| time(call, inputs, &mut buffers, turns);
     let (proved, plain) = (pair.proved, pair.plain);
@@ -81,7 +82,7 @@ pub fn measure(pair: &Pair, inputs: &[Inputs], room: usize, time_for: Duration) 
 impl Workload {
     pub fn measure(&self, time_for: Duration) -> Times {
         let inputs = std::slice::from_ref(&self.inputs);
-        measure(self.pair, inputs, self.room, time_for)
+        measure(self.pair, inputs, [self.room, self.entries], time_for)
     }
 }
 

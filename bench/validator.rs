@@ -1,14 +1,14 @@
 //! Call 1 of document 01 in plain Rust: what the proved judge is measured against.
 
 pub const RECORD: u8 = 5;
-const ARRAY: u8 = 6;
+pub const ARRAY: u8 = 6;
 pub const SIZE: usize = 8;
-const MAX_DEPTH: usize = 32;
+pub const MAX_DEPTH: usize = 32;
 pub const MAX_FIELDS: usize = 256;
 
 pub struct Header {
     pub kind: u8,
-    zero: u8,
+    pub zero: u8,
     pub key: u16,
     pub span: usize,
 }

@@ -11,8 +11,8 @@ extern "C" {
 
 /* Why a call refuses its input; CT_ACCEPTED where it does not. */
 #define CT_ACCEPTED 0
-#define CT_LENGTH 1      /* a length that is no multiple of its record size (8 in a table, 16 in a type, 32 in a key book; a text
-                            has none), or above 65,536; or a working buffer that is not as long as the arena */
+#define CT_LENGTH 1      /* a length that is no multiple of its record size (8 in a table, 16 in a type and in entries, 32 in a key
+                            book; a text has none), or above 65,536; or a working buffer that is not as long as the arena */
 #define CT_EQUIVALENCE 2 /* an equivalence that is neither 0 nor 1 */
 #define CT_KIND 3        /* kind not 1 to 6, or byte 1 not zero */
 #define CT_SPAN 4        /* span 0; beyond the end of the parent or of the table; over 1 for kinds 1 to 4 */
@@ -22,13 +22,14 @@ extern "C" {
 #define CT_FIRST_TYPE 8  /* the first or only type is not well formed */
 #define CT_SECOND_TYPE 9 /* the second type is not well formed */
 #define CT_TOTAL 10      /* a total of the merged type is above 1,000,000,000,000,000 */
-#define CT_ROOM 11       /* the resulting type has more records than the arena; in a text, at the first byte of a value for which the
-                            table has no room */
+#define CT_ROOM 11       /* the resulting type has more records than the arena, or more addends of kind 5 than there are entries; in a
+                            text, at the first byte of a value for which the table has no room */
 #define CT_GRAMMAR 12    /* a byte with which the text cannot go on, or the end of a text that is not finished */
 #define CT_UNLISTED 13   /* a key that the book does not have, or that is spelled with an escape, at its closing quote */
 #define CT_BOOK 14       /* the key book is a bad one */
 #define CT_FIELDS 15     /* the 257th field of one record; in a text, at the closing quote of its key */
 #define CT_NOT_PART 16   /* no well-formed type merged with the part gives the whole */
+#define CT_LARGE 17      /* a field's key above 64, where the table is one of the tag bus */
 
 /* The equivalences: the class of a record is its kind alone, or its kind with its keys. */
 #define CT_BY_KIND 0
@@ -128,6 +129,24 @@ struct ct_answer ct_read_text(const uint8_t *text, size_t text_length, const uin
  * None of the three is null, even for length 0. */
 struct ct_answer ct_remove(const uint8_t *whole, size_t whole_length, const uint8_t *part, size_t part_length, uint64_t equivalence,
                            uint8_t *arena, size_t arena_length);
+
+/* Infers for the tag bus, whose keys are 1 to 64: the type of a table's messages under CT_BY_LABEL into the arena, and the key sets of its
+ * records as words into the entries.
+ *
+ * Accepted, the count and the bytes of arena and working buffer are those of ct_infer. The entries have 16 bytes each, one for each
+ * addend of kind 5 in the order of the arena, those in fields and in arrays too: a word in which bit k - 1 is set exactly if the addend
+ * has field k (bit 0 is the lowest), then the number of its fields, both in eight bytes, little-endian. An addend without fields has
+ * sixteen zero bytes. Zeros follow the last entry. With no record in the messages, entries of length 0 are enough.
+ *
+ * Refused, arena, working buffer and entries are all zero, and the place is 0 unless the table has a fault: then it is the value record.
+ * The lengths come first, that of the entries too, then the table, and at last the room in the arena and in the entries. A field's key
+ * above 64 is CT_LARGE, and among the faults of one record it comes behind CT_KEY and before CT_REPEAT. What the three buffers held
+ * before makes no difference.
+ *
+ * `table` points to bytes that nobody writes during the call. The four buffers don't overlap. None of them is null, even for
+ * length 0. */
+struct ct_answer ct_infer_tag_bus(const uint8_t *table, size_t table_length, uint8_t *arena, size_t arena_length, uint8_t *work,
+                                  size_t work_length, uint8_t *entries, size_t entries_length);
 
 #ifdef __cplusplus
 }

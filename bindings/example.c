@@ -1,11 +1,11 @@
 /* Reads three messages, the example of document 01, from JSON text, infers their type, merges it with itself, takes one message out of it,
-   and prints the types. */
+   prints the types, and the key sets of the records as for the tag bus. */
 #include "ct.h"
 
 #include <inttypes.h>
 #include <stdio.h>
 
-enum { VALUE = 8, TABLE = 16 * VALUE, RECORD = 16, ARENA = 12 * RECORD };
+enum { VALUE = 8, TABLE = 16 * VALUE, RECORD = 16, ARENA = 12 * RECORD, ENTRY = 16, ENTRIES = 3 * ENTRY };
 
 /* A key's number is its place in the book, from 1; the keys ascend. */
 static const uint8_t book[][32] = {"lane", "weights"};
@@ -48,6 +48,20 @@ static void take_out(const uint8_t *table, const uint8_t *type, size_t used)
     print_answer("take all out of the second", ct_remove(part, part_used, type, used, CT_BY_LABEL, rest, ARENA));
 }
 
+/* The messages have three key sets, of keys below 65. */
+static void for_tag_bus(const uint8_t *table, size_t length)
+{
+    static const uint8_t key_65[] = {5, 0, 0, 0, 2, 0, 0, 0, 1, 0, 65, 0, 1, 0, 0, 0};
+    uint8_t type[ARENA], work[ARENA], entries[ENTRIES];
+
+    print_answer("infer for the tag bus", ct_infer_tag_bus(table, length, type, ARENA, work, ARENA, entries, ENTRIES));
+    for (const uint8_t *entry = entries; entry < entries + ENTRIES; entry += ENTRY)
+        printf("  word %#" PRIx64 " fields %" PRIu64 "\n", number(entry, 8), number(entry + 8, 8));
+
+    struct ct_answer answer = ct_infer_tag_bus(key_65, sizeof key_65, type, ARENA, work, ARENA, entries, ENTRIES);
+    print_answer("infer for the tag bus from a field with key 65", answer);
+}
+
 int main(void)
 {
     uint8_t table[TABLE], type[ARENA], work[ARENA], merged[ARENA];
@@ -78,6 +92,8 @@ int main(void)
     answer = ct_infer(table, length, CT_BY_KIND, type, ARENA, work, ARENA);
     print_answer("infer under kind", answer);
     print_type(type, answer.count);
+
+    for_tag_bus(table, length);
 
     /* The second key alone: `lane` is not listed, and its closing quote is byte 6. */
     print_answer("read with half of the book", ct_read_text((const uint8_t *)text, sizeof text - 1, book[1], sizeof book[1], table, TABLE));

@@ -1,5 +1,5 @@
 //! Reads a log from JSON text, brings its messages together in several ways, and says whether all of them end in the same bytes; then takes
-//! the first messages out again. `tests/ways.py` says which bytes.
+//! the first messages out again. At last infers the log's type for the tag bus. `tests/ways.py` says which bytes.
 //!
 //! Arguments: the files with the log, as a value table and as text, and with the key book.
 
@@ -208,6 +208,15 @@ fn compare(log: &[u8], fixed: Fixed) -> bool {
     same || refused
 }
 
+/// The log has seventeen keys, which the tag bus may have: its type is that under label, and the entries have the key sets.
+fn for_tag_bus(log: &[u8]) {
+    let [mut arena, mut work, mut entries] = [(); 3].map(|()| vec![0; LONGEST]);
+    let result = ct::infer_tag_bus(log, &mut arena, &mut work, &mut entries);
+    let written = result.map(|records| Written { arena, records });
+    print_line("for the tag bus", "", &written);
+    println!("{:<81}{:016x}", "its entries", digest(&entries));
+}
+
 /// The value table of a text.
 fn table(text: &[u8], book: &[u8]) -> Vec<u8> {
     let mut table = vec![0; LONGEST];
@@ -232,5 +241,6 @@ fn main() {
     ] {
         alike &= compare(&log, Fixed { equivalence, arena });
     }
+    for_tag_bus(&log);
     std::process::exit(if alike { 0 } else { 1 });
 }

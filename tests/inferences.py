@@ -41,17 +41,26 @@ def places(records, start, end, equivalence, around=(), fields=False):
         yield from places(records, i + 1, i + span, equivalence, place, kind == RECORD)
 
 
+def counts_of(table, equivalence):
+    """How many values of a table have each place."""
+    records = list(struct.iter_unpack("<BBHI", table))
+    return Counter(places(records, 0, len(records), equivalence))
+
+
+def bad_length(length):
+    return length % 16 or length > LARGEST
+
+
 def infer(table, equivalence, arena, work):
     """Refusal number, place, and the rows of the inferred type, none if it is refused."""
     refusal, place, _ = judge(table)
-    if refusal == 1 or arena % 16 or arena > LARGEST or work != arena:
+    if refusal == 1 or bad_length(arena) or work != arena:
         return 1, 0, []
     if equivalence not in KNOWN.values():
         return 2, 0, []
     if refusal:
         return refusal, place, []
-    records = list(struct.iter_unpack("<BBHI", table))
-    rows = rows_of(Counter(places(records, 0, len(records), equivalence)))
+    rows = rows_of(counts_of(table, equivalence))
     if 16 * len(rows) > arena:
         return 11, 0, []
     return 0, 0, rows

@@ -3,24 +3,25 @@ import struct
 
 NULL, BOOLEAN, NUMBER, STRING, RECORD, ARRAY = range(1, 7)
 MOST_FIELDS = 256
+LARGEST_KEY = 65535
 
 
 class Refused(Exception):
     pass
 
 
-def judge(table):
-    """Refusal number, place and count."""
+def judge(table, largest=LARGEST_KEY):
+    """Refusal number, place and count, where no field has a key above the largest."""
     if len(table) % 8 or len(table) > 65536:
         return 1, 0, 0
     records = list(struct.iter_unpack("<BBHI", table))
     try:
-        return 0, 0, run(records, 0, len(records), 1, False)
+        return 0, 0, run(records, 0, len(records), 1, False, largest)
     except Refused as refusal:
         return *refusal.args, 0
 
 
-def run(records, place, end, depth, fields):
+def run(records, place, end, depth, fields, largest):
     """How many values stand from a place to the end of their parent, or of the table."""
     seen, count = set(), 0
     while place < end:
@@ -30,6 +31,7 @@ def run(records, place, end, depth, fields):
             3: kind not in range(1, 7) or zero != 0,
             4: span == 0 or place + span > end or (kind <= STRING and span > 1),
             5: (key == 0) if fields else (key != 0),
+            17: fields and key > largest,
             6: fields and key in seen,
             15: fields and count == MOST_FIELDS,
             7: depth > 32,
@@ -37,7 +39,7 @@ def run(records, place, end, depth, fields):
         for number, found in faults.items():
             if found:
                 raise Refused(number, place)
-        run(records, place + 1, place + span, depth + 1, kind == RECORD)
+        run(records, place + 1, place + span, depth + 1, kind == RECORD, largest)
         seen.add(key)
         count += 1
         place += span

@@ -1,5 +1,5 @@
 """What sample/ways.rs must print for a log, from the map of places to counts (inferences.py): every way ends in the log's profile, and
-without some messages that is the profile of the others.
+without some messages that is the profile of the others. The entries for the tag bus are those of tag_bus.py.
 
 Run by tests/run: python3 tests/ways.py sample/log.table sample/log.json
 """
@@ -7,6 +7,7 @@ import struct
 import sys
 from pathlib import Path
 
+import tag_bus
 from counting_types import KIND, LABEL, bytes_of
 from inferences import infer, runs
 from merges import LARGEST
@@ -52,6 +53,12 @@ def lines(log, starts, name, equivalence, arena):
     yield ""
 
 
+def tag_bus_lines(log):
+    number, _, rows, entries = tag_bus.infer(log, LARGEST, LARGEST, LARGEST)
+    yield line("for the tag bus", "", number, rows, LARGEST)
+    yield f"{'its entries':<81}{digest(tag_bus.bytes_of_entries(entries).ljust(LARGEST, bytes(1))):016x}"
+
+
 if __name__ == "__main__":
     path, text = sys.argv[1:]
     log = Path(path).read_bytes()
@@ -61,3 +68,4 @@ if __name__ == "__main__":
     print(f"{text}: {Path(text).stat().st_size} bytes, the same table\n")
     for name, equivalence, arena in ("Kind", KIND, LARGEST), ("Label", LABEL, LARGEST), ("Label", LABEL, 16 * 64):
         print("\n".join(lines(log, starts, name, equivalence, arena)))
+    print("\n".join(tag_bus_lines(log)))

@@ -5,7 +5,10 @@ use crate::profile::{difference, passes_limit, profile, sum, Equivalence, Profil
 use crate::types;
 use crate::value::{self, is_length, Fault};
 
-/// A call with its inputs. `arena` and `work` are the lengths of the buffers, and so is the `table` that a text is read into.
+/// The largest key on the tag bus.
+pub const ON_BUS: u16 = 64;
+
+/// A call with its inputs. `arena`, `work` and `entries` are the lengths of the buffers, and so is the `table` that a text is read into.
 pub enum Call<'a> {
     JudgeTable {
         table: &'a [u8],
@@ -42,6 +45,12 @@ pub enum Call<'a> {
         equivalence: u64,
         arena: usize,
     },
+    InferTagBus {
+        table: &'a [u8],
+        arena: usize,
+        work: usize,
+        entries: usize,
+    },
 }
 
 /// The answer, and every byte of the buffers. A text is read into the arena.
@@ -52,10 +61,16 @@ pub struct Outcome {
     pub count: u64,
     pub arena: Vec<u8>,
     pub work: Vec<u8>,
+    pub entries: Vec<u8>,
 }
 
-/// The number that an accepted call answers and the type that it writes.
-type Accepted = (usize, Vec<u8>);
+/// The number that an accepted call answers, and the type and the entries that it writes.
+#[derive(Default)]
+struct Accepted {
+    count: usize,
+    bytes: Vec<u8>,
+    entries: Vec<u8>,
+}
 
 impl Call<'_> {
     /// The number of the call: 1 to 5 are document 01's.
@@ -68,6 +83,7 @@ impl Call<'_> {
             Call::Merge { .. } => 5,
             Call::ReadText { .. } => 6,
             Call::Remove { .. } => 7,
+            Call::InferTagBus { .. } => 8,
         }
     }
 
@@ -75,46 +91,67 @@ impl Call<'_> {
         match *self {
             Call::JudgeTable { table } => {
                 let messages = value::read(table);
-                settle(messages.map(|m| (m.len(), Vec::new())), 0, 0)
+                settle(messages.map(|m| counted(m.len())), [0; 3])
             }
             Call::Infer {
                 table,
                 equivalence,
                 arena,
                 work,
-            } => settle(infer(table, equivalence, arena, work), arena, work),
+            } => settle(infer(table, equivalence, arena, work), [arena, work, 0]),
             Call::InferDefault { table, arena, work } => {
                 let default = Equivalence::Label as u64;
-                settle(infer(table, default, arena, work), arena, work)
+                settle(infer(table, default, arena, work), [arena, work, 0])
             }
-            Call::JudgeType { bytes, equivalence } => settle(judge_type(bytes, equivalence), 0, 0),
+            Call::JudgeType { bytes, equivalence } => {
+                settle(judge_type(bytes, equivalence), [0; 3])
+            }
             Call::Merge {
                 first,
                 second,
                 equivalence,
                 arena,
-            } => settle(merge(first, second, equivalence, arena), arena, 0),
+            } => settle(merge(first, second, equivalence, arena), [arena, 0, 0]),
             Call::ReadText { text, book, table } => read_text(text, book, table),
             Call::Remove {
                 whole,
                 part,
                 equivalence,
                 arena,
-            } => settle(remove(whole, part, equivalence, arena), arena, 0),
+            } => settle(remove(whole, part, equivalence, arena), [arena, 0, 0]),
+            Call::InferTagBus {
+                table,
+                arena,
+                work,
+                entries,
+            } => {
+                let lengths = [arena, work, entries];
+                settle(infer_tag_bus(table, lengths), lengths)
+            }
         }
     }
 }
 
-fn settle(result: Result<Accepted, Fault>, arena: usize, work: usize) -> Outcome {
+fn counted(count: usize) -> Accepted {
+    Accepted {
+        count,
+        ..Accepted::default()
+    }
+}
+
+/// The lengths are those of the arena, of the working buffer and of the entries.
+fn settle(result: Result<Accepted, Fault>, lengths: [usize; 3]) -> Outcome {
     let (number, place) = *result.as_ref().err().unwrap_or(&(0, 0));
-    let (count, mut bytes) = result.unwrap_or_default();
-    bytes.resize(arena, 0);
+    let mut accepted = result.unwrap_or_default();
+    accepted.bytes.resize(lengths[0], 0);
+    accepted.entries.resize(lengths[2], 0);
     Outcome {
         number,
         place,
-        count: count as u64,
-        arena: bytes,
-        work: vec![0; work],
+        count: accepted.count as u64,
+        arena: accepted.bytes,
+        work: vec![0; lengths[1]],
+        entries: accepted.entries,
     }
 }
 
@@ -127,12 +164,30 @@ fn infer(table: &[u8], number: u64, arena: usize, work: usize) -> Result<Accepte
     fit(types::write(&profile(&messages, equivalence)), arena)
 }
 
+/// The lengths are those of the arena, of the working buffer and of the entries.
+fn infer_tag_bus(table: &[u8], [arena, work, room]: [usize; 3]) -> Result<Accepted, Fault> {
+    let bad_entries = !is_length(room, types::ENTRY);
+    if bad_entries || !is_length(arena, types::SIZE) || work != arena {
+        return Err((1, 0));
+    }
+    let profile = profile(&value::read_up_to(ON_BUS, table)?, Equivalence::Label);
+    let entries = types::entries(&profile);
+    if entries.len() > room {
+        return Err((11, 0));
+    }
+    let accepted = fit(types::write(&profile), arena)?;
+    Ok(Accepted {
+        entries,
+        ..accepted
+    })
+}
+
 fn judge_type(bytes: &[u8], number: u64) -> Result<Accepted, Fault> {
     if !is_length(bytes.len(), types::SIZE) {
         return Err((1, 0));
     }
     match types::read(bytes, equivalence(number)?) {
-        Some(profile) => Ok((profile.len(), Vec::new())),
+        Some(profile) => Ok(counted(profile.len())),
         None => Err((8, 0)),
     }
 }
@@ -181,7 +236,11 @@ fn fit(bytes: Vec<u8>, arena: usize) -> Result<Accepted, Fault> {
     if bytes.len() > arena {
         return Err((11, 0));
     }
-    Ok((bytes.len() / types::SIZE, bytes))
+    Ok(Accepted {
+        count: bytes.len() / types::SIZE,
+        bytes,
+        entries: Vec::new(),
+    })
 }
 
 fn read_text(text: &[u8], book: &[u8], table: usize) -> Outcome {
@@ -192,5 +251,6 @@ fn read_text(text: &[u8], book: &[u8], table: usize) -> Outcome {
         count: read.count,
         arena: read.table,
         work: Vec::new(),
+        entries: Vec::new(),
     }
 }

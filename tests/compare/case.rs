@@ -93,17 +93,27 @@ fn show_call(call: &Call) -> String {
             hex(whole),
             hex(part)
         ),
+        Call::InferTagBus {
+            table,
+            arena,
+            work,
+            entries,
+        } => format!(
+            "table {}\narena {arena}, working buffer {work}, entries {entries}\n",
+            hex(table)
+        ),
     };
     format!("call {}\n{inputs}", call.number())
 }
 
 fn show_outcome(outcome: &Outcome) -> String {
     format!(
-        " {} {} {}\narena {}\nworking buffer {}\n",
+        " {} {} {}\narena {}\nworking buffer {}\nentries {}\n",
         outcome.number,
         outcome.place,
         outcome.count,
         hex(&outcome.arena),
-        hex(&outcome.work)
+        hex(&outcome.work),
+        hex(&outcome.entries)
     )
 }

@@ -97,6 +97,12 @@ pub fn run(call: &Call, random: &mut Random) -> Result<Outcome, &'static str> {
             let call = (ct::remove as Safe, raw::remove as Raw);
             combine(call, [whole, part], equivalence, arena, random)
         }
+        Call::InferTagBus {
+            table,
+            arena,
+            work,
+            entries,
+        } => infer_tag_bus(table, [arena, work, entries], random),
     }
 }
 
@@ -130,6 +136,27 @@ fn infer(
     };
     table.kept()?;
     Ok(outcome(answer, arena.written()?, work.written()?))
+}
+
+fn infer_tag_bus(
+    table: &[u8],
+    lengths: [usize; 3],
+    random: &mut Random,
+) -> Result<Outcome, &'static str> {
+    let table = Lent::holding(random, table);
+    let [mut arena, mut work, mut entries] = lengths.map(|length| Lent::random(random, length));
+    let (t, a, w) = (table.content(), arena.content_mut(), work.content_mut());
+    let e = entries.content_mut();
+    let answer = if random.one_in(2) {
+        answer(ct::infer_tag_bus(t, a, w, e))
+    } else {
+        raw::infer_tag_bus(t, a, w, e)
+    };
+    table.kept()?;
+    Ok(Outcome {
+        entries: entries.written()?,
+        ..outcome(answer, arena.written()?, work.written()?)
+    })
 }
 
 fn judge_type(
@@ -221,5 +248,6 @@ fn outcome(answer: Answer, arena: Vec<u8>, work: Vec<u8>) -> Outcome {
         count: answer.count,
         arena,
         work,
+        entries: Vec::new(),
     }
 }

@@ -18,8 +18,11 @@ mod parts;
 mod profile;
 mod random;
 mod removals;
+mod runs;
 mod single;
+mod small_tables;
 mod small_types;
+mod tag_bus;
 mod tally;
 mod text_damage;
 mod texts;
@@ -57,11 +60,12 @@ fn main() {
     full_records::compare(&mut case);
     extremes::compare(&mut case);
     small_types::compare(&mut case);
+    small_tables::compare(&mut case);
     println!("{} calls tried once each: no difference", once.calls());
 }
 
 fn run(case: &mut Case) {
-    match case.random.below(15) {
+    match case.random.below(17) {
         0..=2 => single::table(case),
         3..=4 => single::one_type(case),
         5..=7 => single::two_types(case),
@@ -69,6 +73,7 @@ fn run(case: &mut Case) {
         9 => ways::merges(case),
         10 => ways::former_defaults(case),
         11 => removals::apart(case),
+        12..=13 => tag_bus::table(case),
         _ => removals::whole_and_part(case),
     }
     if case.index % 2 == 0 {

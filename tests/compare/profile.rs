@@ -30,6 +30,12 @@ pub type Place = Vec<Step>;
 
 pub type Profile = BTreeMap<Place, u64>;
 
+impl Keys {
+    pub fn list(&self) -> &[u16] {
+        &self.0
+    }
+}
+
 impl Ord for Keys {
     fn cmp(&self, other: &Keys) -> Ordering {
         if Rc::ptr_eq(&self.0, &other.0) {

@@ -105,21 +105,26 @@ pub fn number(equivalence: Equivalence, random: &mut Random) -> u64 {
 
 /// The length of an arena about a type of so many records.
 pub fn arena_length(records: usize, random: &mut Random) -> usize {
-    let exact = types::SIZE * records;
+    length_about(records, types::SIZE, random)
+}
+
+/// The length of a buffer about so many records of a size.
+pub fn length_about(records: usize, size: usize, random: &mut Random) -> usize {
+    let exact = size * records;
     match random.below(20) {
         0..=6 => exact,
-        7..=9 => exact.saturating_sub(types::SIZE),
-        10 => exact + types::SIZE,
+        7..=9 => exact.saturating_sub(size),
+        10 => exact + size,
         11 => 0,
         12..=14 => LONGEST,
-        15 => types::SIZE * random.below(records + 1),
-        16 => exact + 1 + random.below(types::SIZE - 1),
-        17 => LONGEST + random.pick(&[1, types::SIZE]),
-        _ => exact + types::SIZE * random.below(8),
+        15 => size * random.below(records + 1),
+        16 => exact + 1 + random.below(size - 1),
+        17 => LONGEST + random.pick(&[1, size]),
+        _ => exact + size * random.below(8),
     }
 }
 
-fn work_length(arena: usize, random: &mut Random) -> usize {
+pub fn work_length(arena: usize, random: &mut Random) -> usize {
     match random.below(30) {
         0 => arena + types::SIZE,
         1 => arena.saturating_sub(types::SIZE),

@@ -4,6 +4,7 @@
 use crate::calls::{Call, Outcome};
 use crate::case::{hex, Case};
 use crate::profile::{sum, Equivalence, Profile};
+use crate::runs::runs;
 use crate::single::EQUIVALENCES;
 use crate::types::{self, SIZE};
 use crate::value::{ARRAY, RECORD};
@@ -57,31 +58,21 @@ fn every_pair(case: &mut Case, types: &Types, equivalence: Equivalence) {
 
 impl Small {
     fn types(&self, equivalence: Equivalence) -> Types {
-        let bytes = (0..=self.records).flat_map(|records| self.runs(records, Small::addends));
+        let bytes = (0..=self.records).flat_map(|records| self.unions(records));
         let read = |bytes: Vec<u8>| Some((types::read(&bytes, equivalence)?, bytes));
         let types = bytes.filter_map(read);
         types.map(|(profile, bytes)| (bytes, profile)).collect()
     }
 
-    /// Runs of so many records in all, well formed or not.
-    fn runs(&self, records: usize, items: fn(&Small, usize) -> Vec<Vec<u8>>) -> Vec<Vec<u8>> {
-        if records == 0 {
-            return vec![Vec::new()];
-        }
-        let mut runs = Vec::new();
-        for first in 1..=records {
-            let rests = self.runs(records - first, items);
-            for item in items(self, first) {
-                runs.extend(rests.iter().map(|rest| [&item[..], rest].concat()));
-            }
-        }
-        runs
+    /// Unions of so many records, well formed or not.
+    fn unions(&self, records: usize) -> Vec<Vec<u8>> {
+        runs(records, &|n| self.addends(n))
     }
 
     fn addends(&self, records: usize) -> Vec<Vec<u8>> {
         let of_kind = |kind: &u8| match *kind {
-            RECORD => self.with_head(RECORD, 0, self.runs(records - 1, Small::fields)),
-            ARRAY => self.with_head(ARRAY, 0, self.runs(records - 1, Small::addends)),
+            RECORD => self.with_head(RECORD, 0, runs(records - 1, &|n| self.fields(n))),
+            ARRAY => self.with_head(ARRAY, 0, self.unions(records - 1)),
             _ if records == 1 => self.with_head(*kind, 0, vec![Vec::new()]),
             _ => Vec::new(),
         };
@@ -89,7 +80,7 @@ impl Small {
     }
 
     fn fields(&self, records: usize) -> Vec<Vec<u8>> {
-        let unions = self.runs(records - 1, Small::addends);
+        let unions = self.unions(records - 1);
         let fields = KEYS.map(|key| self.with_head(FIELD, key, unions.clone()));
         fields.concat()
     }

@@ -2,15 +2,15 @@
 
 /// The rows of ways over tables, of merge trees over types, of merges taken apart and of merges of former default types; a call's row has
 /// its number.
-pub const WAY: usize = 8;
-pub const MERGES: usize = 9;
-pub const APART: usize = 10;
-pub const FORMER: usize = 11;
+pub const WAY: usize = 9;
+pub const MERGES: usize = 10;
+pub const APART: usize = 11;
+pub const FORMER: usize = 12;
 
 /// One more than the largest number that a call answers.
-const NUMBERS: usize = 17;
+const NUMBERS: usize = 18;
 
-const ROWS: [(&str, &[u64]); 11] = [
+const ROWS: [(&str, &[u64]); 12] = [
     ("1 judge a table", &[0, 1, 3, 4, 5, 6, 7, 15]),
     ("2 infer", &[0, 1, 2, 3, 4, 5, 6, 7, 11, 15]),
     ("3 infer, default", &[0, 1, 3, 4, 5, 6, 7, 11, 15]),
@@ -18,6 +18,7 @@ const ROWS: [(&str, &[u64]); 11] = [
     ("5 merge", &[0, 1, 2, 8, 9, 10, 11]),
     ("6 read a text", &[0, 1, 6, 7, 11, 12, 13, 14, 15]),
     ("7 remove", &[0, 1, 2, 8, 9, 11, 16]),
+    ("8 infer, tag bus", &[0, 1, 3, 4, 5, 6, 7, 11, 17]),
     ("ways", &[0, 11]),
     ("merge trees", &[0, 10, 11]),
     ("merges apart", &[0, 1, 11]),

@@ -4,6 +4,7 @@ use crate::profile::{class, passes_limit, totals, Equivalence, Place, Profile, S
 use crate::value::{ARRAY, DEEPEST, RECORD, STRING};
 
 pub const SIZE: usize = 16;
+pub const ENTRY: usize = 16;
 const FIELD: u8 = 7;
 
 pub fn write(profile: &Profile) -> Vec<u8> {
@@ -23,6 +24,25 @@ pub fn write(profile: &Profile) -> Vec<u8> {
         bytes.extend(count.to_le_bytes());
     }
     bytes
+}
+
+/// The entries of a type under label: of each record the word of its keys, key k at bit k - 1, and their number.
+pub fn entries(profile: &Profile) -> Vec<u8> {
+    let mut bytes = Vec::new();
+    for keys in key_lists(profile) {
+        let word: u64 = keys.iter().map(|key| 1 << (key - 1)).sum();
+        bytes.extend(word.to_le_bytes());
+        bytes.extend((keys.len() as u64).to_le_bytes());
+    }
+    bytes
+}
+
+/// The keys of each record of a type under label.
+pub fn key_lists(profile: &Profile) -> impl Iterator<Item = &[u16]> {
+    profile.keys().filter_map(|place| match place.last() {
+        Some(Step::Class(RECORD, keys)) => Some(keys.list()),
+        _ => None,
+    })
 }
 
 /// The type of some whole records, if it is well formed under the equivalence.

@@ -6,6 +6,7 @@ pub const SIZE: usize = 8;
 pub const LONGEST: usize = 65_536;
 pub const DEEPEST: usize = 32;
 pub const MOST_FIELDS: usize = 256;
+const LARGEST_KEY: u16 = u16::MAX;
 pub const STRING: u8 = 4;
 pub const RECORD: u8 = 5;
 pub const ARRAY: u8 = 6;
@@ -37,15 +38,22 @@ fn row(bytes: &[u8]) -> Row {
     }
 }
 
-/// The values around a record: where they end, how deep they stand, and which keys came before if they are fields.
+/// The values around a record: where they end, how deep they stand, which keys came before if they are fields, and which is the largest
+/// that a field may have.
 struct Siblings {
     end: usize,
     depth: usize,
     keys: Option<BTreeSet<u16>>,
+    largest: u16,
 }
 
 /// The messages of a table.
 pub fn read(table: &[u8]) -> Result<Vec<Value>, Fault> {
+    read_up_to(LARGEST_KEY, table)
+}
+
+/// The messages of a table in which no field may have a key above the largest.
+pub fn read_up_to(largest: u16, table: &[u8]) -> Result<Vec<Value>, Fault> {
     if !is_length(table.len(), SIZE) {
         return Err((1, 0));
     }
@@ -54,6 +62,7 @@ pub fn read(table: &[u8]) -> Result<Vec<Value>, Fault> {
         end: rows.len(),
         depth: 1,
         keys: None,
+        largest,
     };
     values(&rows, 0, messages)
 }
@@ -77,6 +86,7 @@ fn values(rows: &[Row], start: usize, mut around: Siblings) -> Result<Vec<Value>
             end: place + row.span as usize,
             depth: around.depth + 1,
             keys: (row.kind == RECORD).then(BTreeSet::new),
+            largest: around.largest,
         };
         let next = inside.end;
         let inner = self::values(rows, place + 1, inside)?;
@@ -100,6 +110,7 @@ fn fault(row: &Row, place: usize, around: &Siblings) -> Option<u64> {
         (4, row.span == 0 || row.span as usize > room),
         (4, row.kind <= STRING && row.span > 1),
         (5, (row.key != 0) != around.keys.is_some()),
+        (17, around.keys.is_some() && row.key > around.largest),
         (6, around.keys.as_ref().is_some_and(repeats)),
         (15, around.keys.as_ref().is_some_and(full)),
         (7, around.depth > DEEPEST),

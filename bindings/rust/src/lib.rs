@@ -20,8 +20,8 @@ pub enum Equivalence {
 /// Why a call refuses its input. A `place` is the value record with the fault, counted from 0, or for [`read_text`] the byte.
 #[derive(Clone, Copy, Debug, PartialEq, Eq)]
 pub enum Refusal {
-    /// A length is no multiple of its record size (8 in a table, 16 in a type, 32 in a key book) or is above 65,536, or the
-    /// working buffer's length is not the arena's.
+    /// A length is no multiple of its record size (8 in a table, 16 in a type and in entries, 32 in a key book) or is above 65,536,
+    /// or the working buffer's length is not the arena's.
     Length,
     /// The equivalence is neither 0 nor 1; only the forms in [`raw`] can be given such a number.
     Equivalence,
@@ -31,6 +31,8 @@ pub enum Refusal {
     Span { place: usize },
     /// A field has key 0, or another value has a key.
     Key { place: usize },
+    /// A field's key is above 64, which [`infer_tag_bus`] alone refuses.
+    Large { place: usize },
     /// An earlier field of the same record has this key. In a text the place is its closing quote.
     Repeat { place: usize },
     /// It is the 257th field of one record. In a text the place is the closing quote of its key.
@@ -45,7 +47,7 @@ pub enum Refusal {
     Total,
     /// No well-formed type merged with the part gives the whole.
     NotPart,
-    /// The resulting type has more records than the arena.
+    /// The resulting type has more records than the arena, or more addends of kind 5 than there are entries.
     Room,
     /// The table is full where a value of the text starts.
     Full { place: usize },
@@ -58,7 +60,7 @@ pub enum Refusal {
 }
 
 impl Refusal {
-    /// The number of documents 01 and 02, 1 to 16.
+    /// The number of documents 01 and 02, 1 to 17.
     pub fn number(self) -> u64 {
         match self {
             Refusal::Length => 1,
@@ -77,6 +79,7 @@ impl Refusal {
             Refusal::Book => 14,
             Refusal::Fields { .. } => 15,
             Refusal::NotPart => 16,
+            Refusal::Large { .. } => 17,
         }
     }
 
@@ -86,6 +89,7 @@ impl Refusal {
             Refusal::Kind { place }
             | Refusal::Span { place }
             | Refusal::Key { place }
+            | Refusal::Large { place }
             | Refusal::Repeat { place }
             | Refusal::Fields { place }
             | Refusal::Depth { place }
@@ -208,4 +212,40 @@ pub fn remove(
     arena: &mut [u8],
 ) -> Result<usize, Refusal> {
     raw::remove(whole, part, equivalence as u64, arena).result()
+}
+
+/// Call 8. Infers for the tag bus, whose keys are 1 to 64: writes the profile of a table's messages under [`Equivalence::Label`] at the
+/// front of the arena, and gives its number of records. Writes the key sets of its records as words at the front of the entries.
+///
+/// An entry is 16 bytes: a word in which bit k - 1 is set exactly if the addend has field k, then the number of its fields, both in
+/// eight bytes, little-endian. There is one for each addend of kind 5 in the order of the arena, those in fields and in arrays too;
+/// that of an addend without fields is all zero. The arena and the working buffer have one length. The entries may have another, 0 where
+/// the messages have no record.
+///
+/// All three buffers may hold any bytes. Accepted, arena and working buffer are as [`infer`] leaves them, and the entries zero behind the
+/// last; refused, all three are zero. A table is refused as by [`judge_table`], with `Large` behind `Key` and before `Repeat`; a
+/// profile that the arena or the entries have no room for, by [`Refusal::Room`].
+///
+/// ```
+/// use ct::{infer_tag_bus, Refusal};
+///
+/// // A record with a null at this key.
+/// let with_null = |key| [5, 0, 0, 0, 2, 0, 0, 0, 1, 0, key, 0, 1, 0, 0, 0];
+/// let [mut arena, mut work] = [[0; 48]; 2];
+/// let mut entries = [0; 16];
+/// assert_eq!(infer_tag_bus(&with_null(64), &mut arena, &mut work, &mut entries), Ok(3));
+/// assert_eq!(entries[..8], (1u64 << 63).to_le_bytes());
+/// assert_eq!(entries[8..], 1u64.to_le_bytes());
+///
+/// let refused = infer_tag_bus(&with_null(65), &mut arena, &mut work, &mut entries);
+/// assert_eq!(refused, Err(Refusal::Large { place: 1 }));
+/// assert_eq!(entries, [0; 16]);
+/// ```
+pub fn infer_tag_bus(
+    table: &[u8],
+    arena: &mut [u8],
+    work: &mut [u8],
+    entries: &mut [u8],
+) -> Result<usize, Refusal> {
+    raw::infer_tag_bus(table, arena, work, entries).result()
 }

@@ -58,10 +58,20 @@ extern "C" {
         arena: *mut u8,
         arena_length: usize,
     ) -> Answer;
+    fn ct_infer_tag_bus(
+        table: *const u8,
+        table_length: usize,
+        arena: *mut u8,
+        arena_length: usize,
+        work: *mut u8,
+        work_length: usize,
+        entries: *mut u8,
+        entries_length: usize,
+    ) -> Answer;
 }
 
 // The library asks for pointers that are not null, to bytes that nobody else writes during the call, and for an arena, a
-// working buffer and a table to fill that overlap nothing: slices borrowed for the call are that.
+// working buffer, entries and a table to fill that overlap nothing: slices borrowed for the call are that.
 
 pub fn judge_table(table: &[u8]) -> Answer {
     unsafe { ct_judge_table(table.as_ptr(), table.len()) }
@@ -139,6 +149,26 @@ pub fn remove(whole: &[u8], part: &[u8], equivalence: u64, arena: &mut [u8]) -> 
     }
 }
 
+pub fn infer_tag_bus(
+    table: &[u8],
+    arena: &mut [u8],
+    work: &mut [u8],
+    entries: &mut [u8],
+) -> Answer {
+    unsafe {
+        ct_infer_tag_bus(
+            table.as_ptr(),
+            table.len(),
+            arena.as_mut_ptr(),
+            arena.len(),
+            work.as_mut_ptr(),
+            work.len(),
+            entries.as_mut_ptr(),
+            entries.len(),
+        )
+    }
+}
+
 impl Answer {
     /// The count, or the refusal.
     pub fn result(self) -> Result<usize, Refusal> {
@@ -161,6 +191,7 @@ impl Answer {
             14 => Refusal::Book,
             15 => Refusal::Fields { place },
             16 => Refusal::NotPart,
+            17 => Refusal::Large { place },
             number => unreachable!("no call answers {number}"),
         })
     }

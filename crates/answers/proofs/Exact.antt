@@ -4,16 +4,16 @@ use mathlib.Core.Bool.{Bool, true, false, cond, not, _||_}
 use mathlib.Core.List.{List}
 use mathlib.Core.Option.{Option, none, some}
 use Prim.Native.Nat.{ℕ, zero, suc, _*_}
-use lib.Dec.{eqb, ltb}
+use lib.Dec.{ltb}
 use lib.ListN.{length, take}
 use Rattle.value_table.specs.Outcome.{Outcome}
-use Rattle.value_table.specs.Judged.{badLength, judged, messages}
+use Rattle.value_table.specs.Judged.{judged, messages}
 use Rattle.counting_theory.specs.Trie.{size, reduce}
 use Rattle.counting_theory.specs.Label.{Equivalence, Counting, CountingType}
 use Rattle.counting_theory.specs.Raw.{profileOf}
 use Rattle.counting_theory.specs.Encoding.{typeSize, typeOf}
 use Rattle.counting_theory.specs.WellFormed.{withinLimit, wellFormed, badTypeLength}
-use Rattle.counting_theory.specs.Answers.{equivalenceOf, Written, turnedDown, arenaWith, stored, inferredFrom, inferredUnder, inferred, mergedUnder, merged}
+use Rattle.counting_theory.specs.Answers.{equivalenceOf, Written, turnedDown, arenaWith, stored, badBuffers, inferredFrom, inferredUnder, inferred, mergedUnder, merged}
 use Rattle.counting_theory.proofs.Encoding.Header.{length-encode}
 use Rattle.byte_records.proofs.Clear.{clearedFrom}
 
@@ -51,7 +51,7 @@ exact-from o e table n = go (o .number)
 pub exact-inferred : (table : List ℕ) (equivalence arena work : ℕ) → Exact (inferred table equivalence arena work)
 unfolding inferred
 exact-inferred table equivalence arena work =
-    exact-cond (badLength (length table) || badTypeLength arena || not (eqb work arena)) (turnedDown 1 0) (inferredUnder (equivalenceOf equivalence) table arena) refl
+    exact-cond (badBuffers (length table) arena work) (turnedDown 1 0) (inferredUnder (equivalenceOf equivalence) table arena) refl
     (go (equivalenceOf equivalence))
   where
     go : (e : Option Equivalence) → Exact (inferredUnder e table arena)

@@ -2,7 +2,7 @@
 use mathlib.Core.Path.{_≡_, refl, ap, _∙_}
 use mathlib.Core.Bool.{true, false, not}
 use mathlib.Core.List.{List}
-use Prim.Native.Nat.{ℕ, _*_, _/_, _≤_, _<_}
+use Prim.Native.Nat.{ℕ, suc, _-_, _*_, _/_, _≤_, _<_}
 use native.Mathlib.Omega.{arith}
 use lib.ListN.{length, take, length-take}
 use lib.Seq.{sets, sets-eq, take-at}
@@ -30,15 +30,20 @@ use Rattle.answers.proofs.Exact.{Exact, cleared-arena}
 pub front-refused : {w : Written} (why : Refusal) (place : ℕ) (arena : List ℕ) → w ≡ turnedDown (numberOfRefusal why) place → WrittenInFront w (Refused why place) arena
 front-refused why place arena e = rw e (record { outcome = refl; bytes = refl })
 
+-- the number of a fault is not 0
+pub fault-suc : (fault : Fault) → table.numberOfFault fault ≡ suc (table.numberOfFault fault - 1)
+fault-suc faults.Kind = refl
+fault-suc faults.Span = refl
+fault-suc faults.Key = refl
+fault-suc faults.Large = refl
+fault-suc faults.Repeat = refl
+fault-suc faults.Fields = refl
+fault-suc faults.Depth = refl
+
 -- a table with a fault is refused to the inference as well
 pub refused-from : (fault : Fault) (place : ℕ) (e : Equivalence) (b : List ℕ) (n : ℕ) →
     inferredFrom (refused (table.numberOfFault fault) place) e b n ≡ turnedDown (table.numberOfFault fault) place
-refused-from faults.Kind place e b n = refl
-refused-from faults.Span place e b n = refl
-refused-from faults.Key place e b n = refl
-refused-from faults.Repeat place e b n = refl
-refused-from faults.Fields place e b n = refl
-refused-from faults.Depth place e b n = refl
+refused-from fault place e b n = rw (fault-suc fault) refl
 
 module _ (f : CountingType) (n : ℕ) where
   pub front-room : (arena : List ℕ) → n < length (encode f) → WrittenInFront (stored n f) (Refused Room 0) arena

@@ -1,6 +1,6 @@
 -- 'The five calls' and 'When a call is turned down' of document 01: for each call on types its outcome, and every byte that it
 -- leaves in the buffers lent to it, for every input.
-use mathlib.Core.Bool.{cond, not, _||_}
+use mathlib.Core.Bool.{Bool, cond, not, _||_}
 use mathlib.Core.List.{List, [], _++_}
 use mathlib.Core.Option.{Option, none, some}
 use Prim.Native.Nat.{ℕ, zero, suc, _*_, _-_, _/_}
@@ -67,6 +67,10 @@ judgedUnder (some e) b = cond (wellFormed e b) (accepted (typeRecords b)) (refus
 unfoldable pub judgedType : List ℕ → ℕ → Outcome
 judgedType b equivalence = cond (badTypeLength (length b)) (refused 1 0) (judgedUnder (equivalenceOf equivalence) b)
 
+-- 1: a table or an arena of a wrong length, or a working buffer that is not as long as the arena
+abbrev pub badBuffers : ℕ → ℕ → ℕ → Bool
+badBuffers table arena work = badLength table || badTypeLength arena || not (eqb work arena)
+
 -- Call 2: 1, 2, the table's own refusal with its place, then 11. n is the arena's length.
 abbrev pub inferredFrom : Outcome → Equivalence → List ℕ → ℕ → Written
 inferredFrom o e table n = elim (o .number) [ zero ↦ stored n (profileOf e (messages table)) | suc k ↦ turnedDown (suc k) (o .place) ]
@@ -77,7 +81,7 @@ inferredUnder (some e) table n = inferredFrom (judged table) e table n
 
 unfoldable pub inferred : List ℕ → ℕ → ℕ → ℕ → Written
 inferred table equivalence arena work =
-    cond (badLength (length table) || badTypeLength arena || not (eqb work arena)) (turnedDown 1 0) (inferredUnder (equivalenceOf equivalence) table arena)
+    cond (badBuffers (length table) arena work) (turnedDown 1 0) (inferredUnder (equivalenceOf equivalence) table arena)
 
 -- Call 3
 abbrev pub inferredDefault : List ℕ → ℕ → ℕ → Written

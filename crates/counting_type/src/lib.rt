@@ -16,19 +16,17 @@ use value_table::Judged;
 use value_table::judge;
 use value_table::record;
 ghost use mathlib.Core.Path.{_≡_};
-ghost use mathlib.Core.Bool.{not, _||_};
 ghost use mathlib.Core.List.{[]};
 ghost use Prim.Native.Nat.{_≤_};
-ghost use lib.Dec.{eqb};
 ghost use lib.ListN.{length};
 ghost use Rattle.value_table.specs.Value.{maxLength};
-ghost use Rattle.value_table.specs.Judged.{badLength, messages};
+ghost use Rattle.value_table.specs.Judged.{messages};
 ghost use Rattle.counting_theory.specs.Trie.{reduce};
 ghost use Rattle.counting_theory.specs.Label.{Counting};
 ghost use Rattle.counting_theory.specs.Raw.{profileOf};
 ghost use Rattle.counting_theory.specs.Encoding.{typeOf};
-ghost use Rattle.counting_theory.specs.WellFormed.{badTypeLength, IsType};
-ghost use Rattle.counting_theory.specs.Answers.{judgedType, leaves, stored, inferred, inferredDefault, merged, mergedTypes};
+ghost use Rattle.counting_theory.specs.WellFormed.{IsType};
+ghost use Rattle.counting_theory.specs.Answers.{judgedType, leaves, stored, badBuffers, inferred, inferredDefault, merged, mergedTypes};
 ghost use Rattle.type_arena.specs.Inside.Arena.{byFlag};
 ghost use Rattle.inference.specs.Inside.Inferring.{AcceptedTable};
 ghost use Rattle.answers.specs.Outcomes.{outcomeOf, leftBy};
@@ -38,8 +36,8 @@ ghost use Rattle.answers.specs.Inside.Front.{WrittenInFront};
 const HOUSE_DEFAULT: u64 = BY_LABEL;
 
 // Whether the length of a table, of an arena or of its working buffer is wrong.
-fn bad_buffers(table: usize, arena: usize, work: usize) -> bool
-    ensures { λ r. ⌜ r ≡ (badLength table || badTypeLength arena || not (eqb work arena)) ⌝ }
+pub fn bad_buffers(table: usize, arena: usize, work: usize) -> bool
+    ensures { λ r. ⌜ r ≡ badBuffers table arena work ⌝ }
 {
     if record::bad_length(table) {
         return true;
@@ -55,7 +53,7 @@ fn infer_checked(table: &[u8], label: bool, arena: &mut [u8], work: &mut [u8]) -
     requires { ⌜ AcceptedTable (now table) × (length (now arena) ≤ maxLength) × (length (now arena) ≤ length (now work)) ⌝ }
     ensures { λ r. ⌜ WrittenInFront (stored (length (now (arena .entry))) (profileOf (byFlag label) (messages (now (table .entry))))) r (now (arena .exit)) ⌝ }
 {
-    match add_messages(arena, table, label, work) {
+    match add_messages(arena, table, label, false, work) {
         Inferred::Records(n) => Answered::Accepted(n),
         Inferred::Full => Answered::Refused(Refusal::Room, 0),
     }

@@ -9,7 +9,8 @@ ghost use lib.ListN.{length};
 ghost use Rattle.counting_theory.specs.Answers.{judgedType, leaves, inferred, inferredDefault, merged};
 ghost use Rattle.json_theory.specs.Reader.{read};
 ghost use Rattle.removal.specs.Removed.{removed};
-ghost use Rattle.ct.specs.Left.{answerLeft, answerRead};
+ghost use Rattle.tag_bus.specs.TagBus.{inferredTagBus, leavesTagBus};
+ghost use Rattle.ct.specs.Left.{answerLeft, answerLeftWithEntries, answerRead};
 
 // Call 1: judges a table.
 #[no_mangle]
@@ -80,4 +81,20 @@ pub extern "C" fn ct_remove(whole: &[u8], part: &[u8], equivalence: u64, arena: 
         ≡ leaves (removed (now (whole .entry)) (now (part .entry)) equivalence (length (now (arena .entry)))) (now (arena .entry)) [] ⌝ }
 {
     answers::answer_of(removal::remove(whole, part, equivalence, arena))
+}
+
+// Call 8: infers the type of a table's messages under label, with keys 1 to 64, into the arena, and writes the key sets of its records into
+// the entries.
+#[no_mangle]
+pub extern "C" fn ct_infer_tag_bus(
+    table: &[u8],
+    arena: &mut [u8],
+    work: &mut [u8],
+    entries: &mut [u8],
+) -> Answer
+    ensures { λ r. ⌜ answerLeftWithEntries r (now (arena .exit)) (now (work .exit)) (now (entries .exit))
+        ≡ leavesTagBus (inferredTagBus (now (table .entry)) (length (now (arena .entry))) (length (now (work .entry))) (length (now (entries .entry))))
+        (now (arena .entry)) (now (work .entry)) (now (entries .entry)) ⌝ }
+{
+    answers::answer_of(tag_bus::infer_tag_bus(table, arena, work, entries))
 }

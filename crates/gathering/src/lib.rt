@@ -25,7 +25,7 @@ ghost use Rattle.counting_theory.specs.Label.{Counting, CountingType};
 ghost use Rattle.counting_theory.specs.Raw.{profileOf};
 ghost use Rattle.counting_theory.specs.Encoding.{typeSize};
 ghost use Rattle.type_arena.specs.Inside.Arena.{byFlag};
-ghost use Rattle.inference.specs.Inside.Inferring.{AcceptedTable, ArenaHolds, HeldRun, Added};
+ghost use Rattle.inference.specs.Inside.Inferring.{AcceptedTable, KeysFit, ArenaHolds, HeldRun, Added};
 ghost use Rattle.gathering.specs.Inside.Gathering.{slotsOf, slotRaw, SameMessage, Slot, Roomy, Gathering, GatheredTo};
 
 // How many records of a message are hashed.
@@ -83,10 +83,11 @@ fn add_waiting(
     t: &[u8],
     slot: usize,
     label: bool,
+    words: bool,
     work: &mut [u8],
 ) -> Inferred
     requires { ⌜ HeldRun (byFlag label) false (now a) m 0 × Slot (now t) (records (now t)) slot × (length (now t) ≤ maxLength) ×
-        (length (now a) ≤ length (now work)) ⌝ }
+        (length (now a) ≤ length (now work)) × KeysFit words (now t) ⌝ }
     ensures { λ r. ⌜ ((f : CountingType) (free : List ℕ) → ArenaHolds (byFlag label) false (now (a .entry)) m 0 f [] free →
         Added (add Counting (slotRaw (byFlag label) (now (t .entry)) slot) f) [] 0 r (now (a .exit))) ×
         ((n : ℕ) → slotsOf n (now (work .exit)) ≡ slotsOf n (now (work .entry))) ⌝ }
@@ -106,6 +107,7 @@ fn add_waiting(
         &t[from..stop],
         false,
         label,
+        words,
         &mut work[..half],
     )
 }
@@ -118,10 +120,11 @@ fn take_message(
     i: usize,
     slots: usize,
     label: bool,
+    words: bool,
     work: &mut [u8],
 ) -> Inferred
     requires { ⌜ Gathering (byFlag label) (now t) (now a) m i (slotsOf slots (now work)) × (recordSize * i < length (now t)) ×
-        (length (now t) ≤ maxLength) × Roomy slots (now a) (now work) ⌝ }
+        (length (now t) ≤ maxLength) × Roomy slots (now a) (now work) × KeysFit words (now t) ⌝ }
     ensures { λ r. ⌜ GatheredTo (byFlag label) (now (t .entry)) (i + spanAt (now (t .entry)) i) r (now (a .exit)) (slotsOf slots (now (work .exit))) ⌝ }
 {
     let k = slot_of(t, i, i + first_records(span_at(t, i)), slots);
@@ -131,19 +134,27 @@ fn take_message(
         return Inferred::Records(m);
     }
     put_slot(work, k, i + ONE);
-    add_waiting(a, m, t, slot, label, work)
+    add_waiting(a, m, t, slot, label, words, work)
 }
 
 // Takes all messages of a table into slots.
-fn gather(a: &mut [u8], t: &[u8], slots: usize, label: bool, work: &mut [u8]) -> Inferred
-    requires { ⌜ AcceptedTable (now t) × (length (now a) ≤ maxLength) × Roomy slots (now a) (now work) × (slotsOf slots (now work) ≡ replicate slots 0) ⌝ }
+fn gather(
+    a: &mut [u8],
+    t: &[u8],
+    slots: usize,
+    label: bool,
+    words: bool,
+    work: &mut [u8],
+) -> Inferred
+    requires { ⌜ AcceptedTable (now t) × (length (now a) ≤ maxLength) × Roomy slots (now a) (now work) × (slotsOf slots (now work) ≡ replicate slots 0) ×
+        KeysFit words (now t) ⌝ }
     ensures { λ r. ⌜ GatheredTo (byFlag label) (now (t .entry)) (records (now (t .entry))) r (now (a .exit)) (slotsOf slots (now (work .exit))) ⌝ }
 {
     let end = t.len() / record::SIZE;
     let mut m = 0;
     let mut i = 0;
     while i < end {
-        let Inferred::Records(size) = take_message(a, m, t, i, slots, label, work) else {
+        let Inferred::Records(size) = take_message(a, m, t, i, slots, label, words, work) else {
             return Inferred::Full;
         };
         m = size;
@@ -153,16 +164,24 @@ fn gather(a: &mut [u8], t: &[u8], slots: usize, label: bool, work: &mut [u8]) ->
 }
 
 // Adds what waits in all slots.
-fn settle(a: &mut [u8], m: usize, t: &[u8], slots: usize, label: bool, work: &mut [u8]) -> Inferred
+fn settle(
+    a: &mut [u8],
+    m: usize,
+    t: &[u8],
+    slots: usize,
+    label: bool,
+    words: bool,
+    work: &mut [u8],
+) -> Inferred
     requires { ⌜ AcceptedTable (now t) × Gathering (byFlag label) (now t) (now a) m (records (now t)) (slotsOf slots (now work)) ×
-        Roomy slots (now a) (now work) ⌝ }
+        Roomy slots (now a) (now work) × KeysFit words (now t) ⌝ }
     ensures { λ r. ⌜ Added (profileOf (byFlag label) (messages (now (t .entry)))) [] 0 r (now (a .exit)) ⌝ }
 {
     let mut n = m;
     let mut k = 0;
     while k < slots {
         let slot = read_slot(work, k);
-        let Inferred::Records(size) = add_waiting(a, n, t, slot, label, work) else {
+        let Inferred::Records(size) = add_waiting(a, n, t, slot, label, words, work) else {
             return Inferred::Full;
         };
         n = size;
@@ -180,19 +199,20 @@ fn slots_for(arena: usize, table: usize) -> usize
     if records < most { records } else { most }
 }
 
-// Adds the messages of an accepted table to an empty arena. Without slots they are added one by one.
+// Adds the messages of an accepted table to an empty arena. Without slots they are added one by one. Key lists come from words where
+// `words` says so.
 // The contract leaves free what a full arena, the bytes behind the type and the working buffer hold: `infer` clears them.
-pub fn add_messages(a: &mut [u8], t: &[u8], label: bool, work: &mut [u8]) -> Inferred
-    requires { ⌜ AcceptedTable (now t) × (length (now a) ≤ maxLength) × (length (now a) ≤ length (now work)) ⌝ }
+pub fn add_messages(a: &mut [u8], t: &[u8], label: bool, words: bool, work: &mut [u8]) -> Inferred
+    requires { ⌜ AcceptedTable (now t) × (length (now a) ≤ maxLength) × (length (now a) ≤ length (now work)) × KeysFit words (now t) ⌝ }
     ensures { λ r. ⌜ Added (profileOf (byFlag label) (messages (now (t .entry)))) [] 0 r (now (a .exit)) ⌝ }
 {
     let slots = slots_for(a.len(), t.len());
     if slots == 0 {
-        return add_run(a, 0, 0, 1, t, false, label, work);
+        return add_run(a, 0, 0, 1, t, false, label, words, work);
     }
     clear_slots(work);
-    let Inferred::Records(m) = gather(a, t, slots, label, work) else {
+    let Inferred::Records(m) = gather(a, t, slots, label, words, work) else {
         return Inferred::Full;
     };
-    settle(a, m, t, slots, label, work)
+    settle(a, m, t, slots, label, words, work)
 }

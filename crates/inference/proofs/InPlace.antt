@@ -14,6 +14,7 @@ pub mod Material
 pub mod Items
 pub mod AddItem
 pub mod Repeats
+pub mod Words
 pub mod RunLoop
 pub mod Scalars
 pub mod TableRun

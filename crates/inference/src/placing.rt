@@ -18,7 +18,7 @@ ghost use Rattle.counting_theory.specs.Trie.{size};
 ghost use Rattle.counting_theory.specs.Label.{CountingType};
 ghost use Rattle.type_arena.specs.Inside.Arena.{byFlag};
 ghost use Rattle.type_arena.specs.Inside.Payload.{payloadOf, itemPayload};
-ghost use Rattle.inference.specs.Inside.Inferring.{keySize, keysPerRecord, TableRun, SomeRun, wanted, ArenaHolds, Starts, HeldFrom, split, CountedWithin, PlacedAt, labelFor, withItem};
+ghost use Rattle.inference.specs.Inside.Inferring.{keySize, keysPerRecord, TableRun, SomeRun, KeysFit, wanted, ArenaHolds, Starts, HeldFrom, split, CountedWithin, PlacedAt, labelFor, withItem};
 
 // The record where a label stands, and the number of records of its siblings; or that there is no room.
 pub enum Put {
@@ -71,16 +71,17 @@ pub fn locate(
     weight: usize,
     t: &[u8],
     label: bool,
+    words: bool,
     work: &mut [u8],
 ) -> Put
     requires { ⌜ HeldFrom (byFlag label) (now a) n rest from × SomeRun (eqb kind recordKind) (now t) ×
-        (length (now a) ≤ keysPerRecord * length (now work)) × (1 ≤ weight) ⌝ }
+        (length (now a) ≤ keysPerRecord * length (now work)) × (1 ≤ weight) × KeysFit words (now t) ⌝ }
     ensures { λ r. ⌜ ((field : Bool) (f : CountingType) (q free : List ℕ) (vs : Values) →
         ArenaHolds (byFlag label) field (now (a .entry)) n rest f q free → Starts from f → TableRun (eqb kind recordKind) (now (t .entry)) vs →
         CountedWithin (size (withItem (byFlag label) kind key weight vs f) + rest) (split (labelFor (byFlag label) kind key vs) f)
         (labelFor (byFlag label) kind key vs) (itemPayload weight kind vs) q r (now (a .exit))) ⌝ }
 {
-    match list_label(t, kind, label, work) {
+    match list_label(t, kind, label, words, work) {
         Listed::TooMany => Put::NoRoom,
         Listed::Keys(keys) => {
             let more = given(kind, weight);

@@ -134,13 +134,14 @@ module _ {b arena : List ℕ} {answer : Answer} (t : Told b arena answer) where
       go (suc k) z = (λ i. refusalLine (z i) (t .outcome i .place)) ∙ ap (λ j. textOf j (profiled b)) (sym (number-of (suc k) z))
 
 -- a refusal number has two digits at most
-pub small-number : (answered : Answered) → outcomeOf answered .number ≤ 16
+pub small-number : (answered : Answered) → outcomeOf answered .number ≤ 17
 small-number (Accepted records) = omega arith
 small-number (Refused refusals.Length place) = omega arith
 small-number (Refused refusals.Equivalence place) = omega arith
 small-number (Refused (refusals.Table faults.Kind) place) = omega arith
 small-number (Refused (refusals.Table faults.Span) place) = omega arith
 small-number (Refused (refusals.Table faults.Key) place) = omega arith
+small-number (Refused (refusals.Table faults.Large) place) = omega arith
 small-number (Refused (refusals.Table faults.Repeat) place) = omega arith
 small-number (Refused (refusals.Table faults.Fields) place) = omega arith
 small-number (Refused (refusals.Table faults.Depth) place) = omega arith

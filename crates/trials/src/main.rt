@@ -1,4 +1,5 @@
 // Trials of the calls by documents 01 and 02, and every refusal of them: reads the trials, and prints the answer to each as a line.
+mod entries;
 mod lines;
 mod output;
 mod texts;

@@ -13,8 +13,8 @@ ghost use Prim.Native.Nat.{_+_, _*_, _≤_, _<_};
 ghost use lib.ListN.{length};
 ghost use Rattle.counting_theory.specs.Encoding.{typeSize};
 
-// A longer type is printed as its checksum.
-const LONGEST: usize = 64;
+// A longer run of records is printed as its checksum.
+pub const LONGEST: usize = 64;
 
 pub fn print(number: u64) {
     io::write_all(1, b" ");
@@ -57,6 +57,11 @@ fn checksum(bytes: &[u8]) -> u64 {
     high * 65536 + low
 }
 
+pub fn print_checksum(bytes: &[u8]) {
+    io::write_all(1, b" adler32");
+    print(checksum(bytes));
+}
+
 // The numbers of record i, written as in the trials: byte 1 is the high byte of the kind.
 fn print_record(bytes: &[u8], i: usize)
     requires { ⌜ typeSize * i + typeSize ≤ length (now bytes) ⌝ }
@@ -86,8 +91,7 @@ pub fn print_type(bytes: &[u8]) {
     if bytes.len() / type_record::SIZE <= LONGEST {
         print_records(bytes);
     } else {
-        io::write_all(1, b" adler32");
-        print(checksum(bytes));
+        print_checksum(bytes);
     }
 }
 

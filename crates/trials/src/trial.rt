@@ -1,5 +1,6 @@
 // A trial builds tables or types, has a call work on them, and prints the answer as a line: name, refusal number, place, count. A call
 // that writes a type adds how many bytes behind it and in its working buffer are not zero, and the type.
+use crate::entries::try_tag_bus;
 use crate::output::behind_type;
 use crate::output::nonzero;
 use crate::output::print;
@@ -20,7 +21,7 @@ use type_arena::type_record;
 use value_table::record;
 
 // The largest arena, which is lent where a line names none.
-const LARGEST: usize = record::MAX_LENGTH / type_record::SIZE * type_record::SIZE;
+pub const LARGEST: usize = record::MAX_LENGTH / type_record::SIZE * type_record::SIZE;
 
 // One type record more than a type may have.
 pub const ROOM: usize = LARGEST + type_record::SIZE;
@@ -129,7 +130,7 @@ fn try_two_types(call: u8, equivalence: u64, head: &[u8], records: &[u8]) {
 
 fn takes_equivalence(call: u8) -> bool {
     match call {
-        b'1' | b'3' | b'6' => false,
+        b'1' | b'3' | b'6' | b'8' => false,
         _ => true,
     }
 }
@@ -154,6 +155,7 @@ fn try_under(call: u8, equivalence: u64, head: &[u8], records: &[u8]) {
         b'4' => try_type(equivalence, head, records),
         b'5' | b'7' => try_two_types(call, equivalence, head, records),
         b'6' => try_text(head, records),
+        b'8' => try_tag_bus(head, records),
         _ => try_inference(call, equivalence, head, records),
     }
     io::write_all(1, b"\n");

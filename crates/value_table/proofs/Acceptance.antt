@@ -6,10 +6,10 @@ use mathlib.Core.List.{List, [], append-nil}
 use Prim.Native.Nat.{ℕ, zero, suc, _+_, _*_, _%_, _≤_, _<_}
 use native.Mathlib.Omega.{arith}
 use lib.ListN.{length, drop, drop-of-length-le}
-use Rattle.value_table.specs.Value.{maxLength, recordSize, records, Values, encode, size, count}
+use Rattle.value_table.specs.Value.{maxLength, maxKey, recordSize, records, Values, encode, size, count}
 use Rattle.value_table.specs.Outcome.{Outcome, accepted, refused}
-use Rattle.value_table.specs.Judged.{Open, badLength, faultIn, close, enter, messagesIn, decide, walk, judged, messages}
-use Rattle.value_table.specs.Acceptance.{Table, Accepts, Unique, PlaceInTable}
+use Rattle.value_table.specs.Judged.{Open, badLength, faultIn, close, enter, messagesIn, decide, walk, judgedUpTo, judged, messages}
+use Rattle.value_table.specs.Acceptance.{Table, Accepts, Unique, PlaceInTable, PlaceUpTo}
 use Rattle.value_table.proofs.TableLayout.{length-fits, length-encode}
 use Rattle.value_table.proofs.Run.{Run}
 use Rattle.value_table.proofs.Decode.{decode-run}
@@ -46,7 +46,7 @@ pub unique : Unique
 unique b ms n t = sym (read-back b ms (omega (arith, t .room, table-length b ms n t)) (table-run b ms n t))
 
 pub accepts : Accepts
-unfolding judged
+unfolding judged judgedUpTo
 accepts b n bytes = go (badLength (length b)) refl
   where
     rest-table : length b % recordSize ≡ 0 → length b ≤ maxLength → Rest b 0 [] 0 n ↔ Table b (messages b) n
@@ -55,7 +55,7 @@ accepts b n bytes = go (badLength (length b)) refl
       λ t. (messages b, table-run b (messages b) n t, omega (arith, t .counted)),
     )
 
-    go : (t : Bool) → badLength (length b) ≡ t → (cond t (refused 1 0) (walk b (records b) 0 [] 0) ≡ accepted n) ↔ Table b (messages b) n
+    go : (t : Bool) → badLength (length b) ≡ t → (cond t (refused 1 0) (walk maxKey b (records b) 0 [] 0) ≡ accepted n) ↔ Table b (messages b) n
     go true e = (
       λ q. absurd (omega (arith, ap (λ x. x .number) q)),
       λ t. absurd (true≢false (sym e ∙ length-fits (length b) .1 (omega (arith, t .room, table-length b (messages b) n t)))),
@@ -72,16 +72,20 @@ within-decide : (f i end : ℕ) (later : Outcome) → i < end → Within end lat
 within-decide zero i end later h r = r
 within-decide (suc f) i end later h r = (λ e. absurd (omega arith), inr h)
 
-within-walk : (b : List ℕ) (k i end : ℕ) (around : List Open) (n : ℕ) → i + k ≤ end → Within end (walk b k i around n)
+within-walk : (largest : ℕ) (b : List ℕ) (k i end : ℕ) (around : List Open) (n : ℕ) → i + k ≤ end → Within end (walk largest b k i around n)
 unfolding walk
-within-walk b zero i end around n h = (λ e. refl, inl refl)
-within-walk b (suc k) i end around n h =
-    within-decide (faultIn b i (close i around)) i end _ (omega arith) (within-walk b k (i + 1) end (enter b i (close i around)) (n + messagesIn (close i around)) (omega arith))
+within-walk largest b zero i end around n h = (λ e. refl, inl refl)
+within-walk largest b (suc k) i end around n h =
+    within-decide (faultIn largest b i (close i around)) i end _ (omega arith) (within-walk largest b k (i + 1) end (enter b i (close i around)) (n + messagesIn (close i around)) (omega arith))
+
+pub placed-up-to : PlaceUpTo
+unfolding judgedUpTo
+placed-up-to largest b = go (badLength (length b))
+  where
+    go : (t : Bool) → Within (records b) (cond t (refused 1 0) (walk largest b (records b) 0 [] 0))
+    go true = (λ e. refl, inl refl)
+    go false = within-walk largest b (records b) 0 (records b) [] 0 (omega arith)
 
 pub placed : PlaceInTable
 unfolding judged
-placed b = go (badLength (length b))
-  where
-    go : (t : Bool) → Within (records b) (cond t (refused 1 0) (walk b (records b) 0 [] 0))
-    go true = (λ e. refl, inl refl)
-    go false = within-walk b (records b) 0 (records b) [] 0 (omega arith)
+placed b = placed-up-to maxKey b

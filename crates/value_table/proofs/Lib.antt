@@ -14,3 +14,4 @@ pub mod Levels
 pub mod WalkLoop
 pub mod Acceptance
 pub mod Stores
+pub mod LargestKey

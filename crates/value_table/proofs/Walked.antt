@@ -6,7 +6,7 @@ use Prim.Native.Nat.{ℕ, zero, suc, _+_, _≤_, _<_}
 use native.Mathlib.Omega.{arith}
 use lib.ListN.{length}
 use Rattle.byte_records.specs.Number.{Bytes}
-use Rattle.value_table.specs.Value.{maxLength, records}
+use Rattle.value_table.specs.Value.{maxLength, maxKey, records, keyAt}
 use Rattle.value_table.specs.Outcome.{Outcome, accepted}
 use Rattle.value_table.specs.Judged.{Open, faultIn, close, enter, messagesIn, decide, walk}
 use Rattle.value_table.proofs.Header.{keyAt-below}
@@ -18,18 +18,18 @@ module _ (b : List ℕ) (bytes : Bytes b) (short : length b ≤ maxLength) where
   -- one record, with the outcome o of the walk behind it
   step : (i c m : ℕ) (around : List Open) (o : Outcome) → Nested (records b) (i + 1) around → i < records b →
       (Nested (records b) (i + 1) (enter b i around) → (o ≡ accepted m) ↔ Rest b (i + 1) (enter b i around) (c + messagesIn around) m) →
-      (f : ℕ) → faultIn b i around ≡ f → (decide f i o ≡ accepted m) ↔ Rest b i around c m
+      (f : ℕ) → faultIn maxKey b i around ≡ f → (decide f i o ≡ accepted m) ↔ Rest b i around c m
   unfolding faultIn
   step i c m around o h some ih zero e =
-      let f : FaultlessIn b i around = faultless b i _ _ _ _ (keyAt-below b i bytes (omega arith)) e in
+      let f : FaultlessIn b i around = faultless maxKey b i _ _ _ _ (keyAt-below b i bytes (omega arith)) e .0 in
       Iff·trans (ih (nested-enter b i around f h)) (rest-enter b c m i around bytes some f, λ r. rest-first b c m i around short h r .1)
   step i c m around o h some ih (suc g) e = (
     λ q. absurd (omega (arith, ap (λ x. x .number) q)),
-    λ r. absurd (omega (arith, faultless-zero b i _ _ _ _ (rest-first b c m i around short h r .0))),
+    λ r. absurd (omega (arith, faultless-zero maxKey b i _ _ _ _ (rest-first b c m i around short h r .0) (omega (arith, keyAt-below b i bytes (omega arith))))),
   )
 
   pub walked : (k i c m : ℕ) (around : List Open) → i + k ≡ records b → Nested (records b) i around →
-      (walk b k i around c ≡ accepted m) ↔ Rest b i around c m
+      (walk maxKey b k i around c ≡ accepted m) ↔ Rest b i around c m
   unfolding walk
   walked zero i c m around e h =
       let last : i ≡ records b = omega arith in

@@ -1,11 +1,11 @@
--- Call 1 of document 01, with refusals 1 and 3 to 7, and 15 of document 02: a table is judged from record 0 upward, the first
--- record with a fault decides, and at one record the first of 3, 4, 5, 6, 15 and 7.
+-- Call 1 of document 01, with refusals 1 and 3 to 7, and 15 and 17 of document 02: a table is judged from record 0 upward, the first
+-- record with a fault decides, and at one record the first of 3, 4, 5, 17, 6, 15 and 7.
 use mathlib.Core.Bool.{Bool, true, false, cond, not, _&&_, _||_}
 use mathlib.Core.List.{List, [], _∷_, _++_}
 use Prim.Native.Nat.{ℕ, zero, suc, _+_, _%_}
 use lib.ListN.{length}
 use lib.Dec.{eqb, leb, ltb}
-use Rattle.value_table.specs.Value.{recordSize, maxLength, maxDepth, maxFields, recordKind, arrayKind, lastScalar, records, headAt, kindAt, zeroAt, keyAt, spanAt, member, Values, none, value}
+use Rattle.value_table.specs.Value.{recordSize, maxLength, maxDepth, maxKey, maxFields, recordKind, arrayKind, lastScalar, records, headAt, kindAt, zeroAt, keyAt, spanAt, member, Values, none, value}
 use Rattle.value_table.specs.Outcome.{Outcome, accepted, refused}
 
 -- A value whose content is being passed: its kind, the record after its last, and the keys of its fields or elements so far.
@@ -44,6 +44,10 @@ badSpan b i end = eqb (spanAt b i) 0 || ltb end (i + spanAt b i) || (leb (kindAt
 unfoldable pub badKey : List ℕ → ℕ → Bool → Bool
 badKey b i field = cond field (eqb (keyAt b i) 0) (not (eqb (keyAt b i) 0))
 
+-- 17: the key of a field above the largest one, where a call sets one
+unfoldable pub tooLarge : ℕ → List ℕ → ℕ → Bool → Bool
+tooLarge largest b i field = field && ltb largest (keyAt b i)
+
 -- 6: a key seen earlier in the same record
 unfoldable pub repeated : List ℕ → ℕ → Bool → List ℕ → Bool
 repeated b i field before = field && member (keyAt b i) before
@@ -57,19 +61,20 @@ unfoldable pub tooDeep : ℕ → Bool
 tooDeep depth = ltb maxDepth depth
 
 -- the first of these whose condition holds of record i, or 0
-unfoldable pub fault : List ℕ → ℕ → ℕ → Bool → List ℕ → ℕ → ℕ
-fault b i end field before depth =
+unfoldable pub fault : ℕ → List ℕ → ℕ → ℕ → Bool → List ℕ → ℕ → ℕ
+fault largest b i end field before depth =
     cond (badKind b i) 3
     (cond (badSpan b i end) 4
     (cond (badKey b i field) 5
+    (cond (tooLarge largest b i field) 17
     (cond (repeated b i field before) 6
     (cond (tooMany field (length before)) 15
     (cond (tooDeep depth) 7
-    0)))))
+    0))))))
 
 -- the same inside the open values around record i
-unfoldable pub faultIn : List ℕ → ℕ → List Open → ℕ
-faultIn b i around = fault b i (endOf (records b) around) (inRecord around) (seen around) (suc (length around))
+unfoldable pub faultIn : ℕ → List ℕ → ℕ → List Open → ℕ
+faultIn largest b i around = fault largest b i (endOf (records b) around) (inRecord around) (seen around) (suc (length around))
 
 -- the values that are still open at record i
 unfoldable pub close : ℕ → List Open → List Open
@@ -94,13 +99,18 @@ decide zero i later = later
 decide (suc f) i later = refused (suc f) i
 
 -- The last k records of b, from record i on, after `messages` messages.
-unfoldable pub walk : List ℕ → ℕ → ℕ → List Open → ℕ → Outcome
-walk b zero i around messages = accepted messages
-walk b (suc k) i around messages =
-    decide (faultIn b i (close i around)) i (walk b k (i + 1) (enter b i (close i around)) (messages + messagesIn (close i around)))
+unfoldable pub walk : ℕ → List ℕ → ℕ → ℕ → List Open → ℕ → Outcome
+walk largest b zero i around messages = accepted messages
+walk largest b (suc k) i around messages =
+    decide (faultIn largest b i (close i around)) i (walk largest b k (i + 1) (enter b i (close i around)) (messages + messagesIn (close i around)))
 
+-- a table whose fields have keys up to `largest`
+unfoldable pub judgedUpTo : ℕ → List ℕ → Outcome
+judgedUpTo largest b = cond (badLength (length b)) (refused 1 0) (walk largest b (records b) 0 [] 0)
+
+-- call 1: every key that two bytes hold is allowed, so that it is never 17 (`NeverLarge`)
 unfoldable pub judged : List ℕ → Outcome
-judged b = cond (badLength (length b)) (refused 1 0) (walk b (records b) 0 [] 0)
+judged b = judgedUpTo maxKey b
 
 -- The values of records i to end, read by the spans; k bounds the number of records.
 unfoldable pub decode : List ℕ → ℕ → ℕ → ℕ → Values

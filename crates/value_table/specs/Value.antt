@@ -11,7 +11,8 @@ use Rattle.byte_records.specs.Format.{Format, widthOf, fieldAt, recordBytes}
 abbrev pub valueFormat : Format
 valueFormat = 1 ∷ 1 ∷ 2 ∷ 4 ∷ []
 
--- bytes of a value record, the most bytes of a table, the largest depth, and the most fields of a record (change 2 of document 02)
+-- bytes of a value record, the most bytes of a table, the largest depth, the largest key, and the most fields of a record (change 2
+-- of document 02)
 abbrev pub recordSize : ℕ
 recordSize = widthOf valueFormat
 
@@ -20,6 +21,9 @@ maxLength = 65536
 
 abbrev pub maxDepth : ℕ
 maxDepth = 32
+
+abbrev pub maxKey : ℕ
+maxKey = 65535
 
 abbrev pub maxFields : ℕ
 maxFields = 256
@@ -49,6 +53,10 @@ keyAt = fieldAt valueFormat 2
 
 unfoldable pub spanAt : List ℕ → ℕ → ℕ
 spanAt = fieldAt valueFormat 3
+
+-- no record of b has a key above `largest`
+abbrev pub KeysUpTo : ℕ → List ℕ → Type 0
+KeysUpTo largest b = (i : ℕ) → i < records b → keyAt b i ≤ largest
 
 -- What a record tells of its value beside its key and its place.
 pub record Head : Type 0 where

@@ -1,4 +1,4 @@
-// The faults of one value record, 3 to 7 and 15.
+// The faults of one value record, 3 to 7, 15 and 17.
 use crate::Fault;
 use crate::record;
 use crate::record::key_at;
@@ -14,7 +14,7 @@ ghost use Prim.Native.Nat.{ℕ, _+_, _*_, _%_, _≤_, _<_};
 ghost use lib.ListN.{length};
 ghost use Rattle.value_table.specs.Value.{recordSize, maxLength, keyAt, spanAt, member};
 ghost use Rattle.value_table.specs.Inside.EarlierFields.{numberOfFinding, EarlierFields, FieldsBefore, Parent, FaultIs, keyBuckets, Latest};
-ghost use Rattle.value_table.specs.Judged.{badKind, badSpan, badKey, repeated, tooMany};
+ghost use Rattle.value_table.specs.Judged.{badKind, badSpan, badKey, tooLarge, repeated, tooMany};
 ghost use Rattle.byte_records.specs.Inside.Chain.{Chain};
 ghost use Rattle.value_table.specs.Inside.RecordBytes.{PlainScalar};
 
@@ -84,6 +84,18 @@ fn bad_key(table: &[u8], i: usize, field: bool) -> bool
     }
 }
 
+// Whether the key of a field is above the largest.
+fn too_large(table: &[u8], i: usize, field: bool, largest: usize) -> bool
+    requires { ⌜ recordSize * i + recordSize ≤ length (now table) ⌝ }
+    ensures { λ r. ⌜ r ≡ tooLarge largest (now (table .entry)) i field ⌝ }
+{
+    if field {
+        largest < key_at(table, i)
+    } else {
+        false
+    }
+}
+
 // Whether the key of record i stands in an earlier field, the first of which is `first`.
 fn key_before(table: &[u8], i: usize, first: usize) -> bool
     requires { ⌜ (recordSize * i + recordSize ≤ length (now table)) × EarlierFields (now table) i first ⌝ }
@@ -135,7 +147,7 @@ fn too_many(field: bool, before: usize) -> bool
 }
 
 // The fault of record i, whose parent ends at `end`, holds `before` values before it and, if it is a record, has its first field at
-// `first`, else 0. `latest` has the latest record so far of each bucket.
+// `first`, else 0. Keys go up to `largest`; `latest` has the latest record so far of each bucket.
 pub fn fault_at(
     table: &[u8],
     i: usize,
@@ -143,11 +155,12 @@ pub fn fault_at(
     first: usize,
     before: usize,
     depth: usize,
+    largest: usize,
     latest: &[usize; KEY_BUCKETS],
 ) -> Finding
     requires { ⌜ (recordSize * i + recordSize ≤ length (now table)) × (length (now table) ≤ maxLength) × (i < end) × Parent (now table) i first
         × Latest (now table) i (now latest) ⌝ }
-    ensures { λ r. ⌜ FaultIs (now (table .entry)) i end first before depth (numberOfFinding r) ⌝ }
+    ensures { λ r. ⌜ FaultIs largest (now (table .entry)) i end first before depth (numberOfFinding r) ⌝ }
 {
     if !plain_scalar(table, i) {
         if bad_kind(table, i) {
@@ -160,6 +173,9 @@ pub fn fault_at(
     let field = 0 < first;
     if bad_key(table, i, field) {
         return Finding::Found(Fault::Key);
+    }
+    if too_large(table, i, field, largest) {
+        return Finding::Found(Fault::Large);
     }
     if repeats(table, i, first, latest) {
         return Finding::Found(Fault::Repeat);

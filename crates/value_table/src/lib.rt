@@ -6,13 +6,14 @@ mod walk;
 
 ghost use mathlib.Core.Path.{_≡_};
 ghost use Rattle.value_table.specs.Outcome.{numberOfFault, outcomeOf, outcomeOfAnswer};
-ghost use Rattle.value_table.specs.Judged.{judged};
+ghost use Rattle.value_table.specs.Judged.{judged, judgedUpTo};
 
 // What is wrong with a record of a table.
 pub enum Fault {
     Kind,
     Span,
     Key,
+    Large,
     Repeat,
     Fields,
     Depth,
@@ -33,14 +34,21 @@ pub struct Answer {
     pub count: u64,
 }
 
-// Call 1: judges a table.
-pub fn judge(table: &[u8]) -> Judged
-    ensures { λ r. ⌜ outcomeOf r ≡ judged (now (table .entry)) ⌝ }
+// Judges a table whose fields have keys up to `largest`.
+pub fn judge_up_to(table: &[u8], largest: usize) -> Judged
+    ensures { λ r. ⌜ outcomeOf r ≡ judgedUpTo largest (now (table .entry)) ⌝ }
 {
     if record::bad_length(table.len()) {
         return Judged::Length;
     }
-    walk::walk_table(table)
+    walk::walk_table(table, largest)
+}
+
+// Call 1: judges a table.
+pub fn judge(table: &[u8]) -> Judged
+    ensures { λ r. ⌜ outcomeOf r ≡ judged (now (table .entry)) ⌝ }
+{
+    judge_up_to(table, record::MAX_KEY)
 }
 
 // The refusal number of documents 01 and 02.
@@ -51,6 +59,7 @@ pub fn fault_number(fault: Fault) -> u64
         Fault::Kind => 3,
         Fault::Span => 4,
         Fault::Key => 5,
+        Fault::Large => 17,
         Fault::Repeat => 6,
         Fault::Fields => 15,
         Fault::Depth => 7,

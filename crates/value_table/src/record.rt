@@ -21,10 +21,12 @@ pub const KEY_OFFSET: usize = 2;
 
 pub const SPAN_OFFSET: usize = 4;
 
-// The most bytes of a table or a type, the largest depth of a value, and the most fields of a record.
+// The most bytes of a table or a type, the largest depth of a value, the largest key, and the most fields of a record.
 pub const MAX_LENGTH: usize = 65536;
 
 pub const MAX_DEPTH: usize = 32;
+
+pub const MAX_KEY: usize = 65535;
 
 pub const MAX_FIELDS: usize = 256;
 

@@ -52,10 +52,10 @@ fn first_of(table: &[u8], i: usize) -> usize
     }
 }
 
-// Judges the records of a table of an allowed length.
-pub fn walk_table(table: &[u8]) -> Judged
+// Judges the records of a table of an allowed length, with keys up to `largest`.
+pub fn walk_table(table: &[u8], largest: usize) -> Judged
     requires { ⌜ (length (now table) % recordSize ≡ 0) × (length (now table) ≤ maxLength) ⌝ }
-    ensures { λ r. ⌜ outcomeOf r ≡ walk (now (table .entry)) (records (now (table .entry))) 0 [] 0 ⌝ }
+    ensures { λ r. ⌜ outcomeOf r ≡ walk largest (now (table .entry)) (records (now (table .entry))) 0 [] 0 ⌝ }
 {
     let n = table.len() / record::SIZE;
     let mut walk = Walk {
@@ -75,7 +75,8 @@ pub fn walk_table(table: &[u8]) -> Judged
         }
         let first = innermost(&walk.fields, depth, 0);
         let before = walk.counts[depth];
-        if let Finding::Found(fault) = fault_at(table, i, end, first, before, depth + 1, &latest) {
+        let finding = fault_at(table, i, end, first, before, depth + 1, largest, &latest);
+        if let Finding::Found(fault) = finding {
             return Judged::Faulty(fault, i);
         }
         latest[bucket_of(table, i)] = i;

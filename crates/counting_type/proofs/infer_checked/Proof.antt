@@ -1,9 +1,17 @@
 -- `infer_checked` meets its contract.
+use mathlib.Core.Path.{sym}
+use mathlib.Core.Bool.{true≢false}
 use borrow.Author.Needs.{needs}
 use Rattle.counting_type.proofs.InferredFront.{inferred-room, inferred-stored}
 use Rattle.inference.proofs.InPlace.AddItem.{added-full, added-records}
 use Rattle.counting_type.proofs.infer_checked.Statement.{statement}
 use Rattle.counting_type.proofs.infer_checked.Tie as tie
+
+-- key lists don't come from words
+add-messages-requires : tie.Need-add-messages-requires
+add-messages-requires c κs =
+    let s = c .before .before .before .before .before .pre in
+    (s .0, s .1, s .2, record { upto = λ e. absurd (true≢false (sym e)) })
 
 returns : tie.Need-returns
 returns c =
@@ -19,7 +27,7 @@ pub infer-checked-spec : {M : Type 1} → statement M
 infer-checked-spec =
     tie.close
     (tie.spec
-    (λ c κs. search needs)
+    add-messages-requires
     (λ c. search needs)
     (λ c. search needs)
     (λ c. search needs)

@@ -1,30 +1,16 @@
 -- `infer_front` meets its contract.
-use mathlib.Core.Path.{_≡_, refl, sym, _∙_, ap}
-use mathlib.Core.Bool.{false, not, _||_}
-use Prim.Native.Nat.{ℕ, _≤_}
-use native.Mathlib.Omega.{arith}
-use lib.Dec.{eqb}
+use mathlib.Core.Path.{refl, sym, _∙_, ap}
 use lib.ListN.{length}
-use borrow.Author.Tests.{eqb-true, not-false}
 use borrow.Author.Needs.{needs}
-use Rattle.value_table.specs.Value.{maxLength}
-use Rattle.value_table.specs.Judged.{badLength}
 use Rattle.value_table.specs.Outcome.{outcomeOf}
-use Rattle.byte_records.proofs.Tests.{or-parts}
 use Rattle.value_table.proofs.Acceptance.{accepts}
 use Rattle.counting_theory.specs.Answers.{inferred}
 use Rattle.answers.specs.declared.Refusal.the-variants.{Length, Equivalence, Table}
-use Rattle.counting_theory.specs.WellFormed.{badTypeLength}
 use Rattle.answers.proofs.Fronts.{front-refused, refused-from}
 use Rattle.answers.proofs.Equivalence.{known, unknown}
-use Rattle.counting_theory.proofs.WellFormed.AcceptsExactly.{type-length}
+use Rattle.counting_type.proofs.Buffers.{allowed-buffers}
 use Rattle.counting_type.proofs.infer_front.Statement.{statement}
 use Rattle.counting_type.proofs.infer_front.Tie as tie
-
-buffers : (table arena work : ℕ) → (badLength table || badTypeLength arena || not (eqb work arena)) ≡ false → (arena ≤ maxLength) × (arena ≤ work)
-buffers table arena work h =
-    let p = or-parts (badLength table || badTypeLength arena) (not (eqb work arena)) h in
-    (type-length arena (or-parts (badLength table) (badTypeLength arena) (p .0) .1) .1, omega (arith, eqb-true work arena (not-false _ (p .1))))
 
 returns : tie.Need-returns
 unfolding inferred
@@ -37,7 +23,7 @@ returns-2 c = front-refused Equivalence 0 _ (rw (sym (c .before .before .bad-buf
 infer-checked-requires : tie.Need-infer-checked-requires
 infer-checked-requires c κs =
     let j = sym (c .before .before .before .before .judge .ensures) ∙ ap outcomeOf (c .before .before .enum-told2 .given .1) in
-    let l = buffers (length (c .before .before .before .before .before .before .before .before .before .before .before .args .table .now)) (length (c .before .before .before .before .before .before .before .before .before .before .before .args .arena .now)) (length (c .before .before .before .before .before .before .before .before .before .before .before .args .work .now)) (sym (c .before .before .before .before .before .before .before .bad-buffers .ensures) ∙ c .before .before .before .before .before .before .if1 .left) in
+    let l = allowed-buffers (length (c .before .before .before .before .before .before .before .before .before .before .before .args .table .now)) (length (c .before .before .before .before .before .before .before .before .before .before .before .args .arena .now)) (length (c .before .before .before .before .before .before .before .before .before .before .before .args .work .now)) (sym (c .before .before .before .before .before .before .before .bad-buffers .ensures) ∙ c .before .before .before .before .before .before .if1 .left) in
     (record { count = _; is-table = accepts _ _ (λ p. c .before .before .before .before .before .before .before .before .before .before .shared-slice-known .given p .fits) .0 j }, l .0, l .1)
 
 returns-3 : tie.Need-returns-3

@@ -6,6 +6,7 @@ use native.Mathlib.Omega.{arith}
 use lib.ListN.{length-take}
 use lib.Seq.{length-take-le}
 use Rattle.value_table.specs.Value.{recordSize}
+use Rattle.inference.proofs.InPlace.Words.{part-fits}
 use Rattle.gathering.specs.Inside.Gathering.{slotStart, messageAt}
 use Rattle.gathering.proofs.Waiting.Added.{waited-nothing, waits, part-is, weighed, slot-times}
 use Rattle.gathering.proofs.Waiting.SlotBytes.{slots-kept}
@@ -37,7 +38,7 @@ add-run-requires c κs =
     let full = c .before .before .before .before .before .if1 .left in
     let i = slotStart (b .args .slot) in
     let part = part-is (s .1) (s .2) full _ _ refl (ap (λ n. recordSize * (i + n)) (c .before .before .before .before .span-at .ensures .0)) in
-    (s .0, record { values = messageAt (b .args .t .now) i; run = rw part (waits (s .1) (s .2) full .run) }, simp length-take (omega (arith, s .3, c .before .before .before .key-part .ensures)), rw part (weighed (s .1) (s .2) full))
+    (s .0, record { values = messageAt (b .args .t .now) i; run = rw part (waits (s .1) (s .2) full .run) }, simp length-take (omega (arith, s .3, c .before .before .before .key-part .ensures)), rw part (weighed (s .1) (s .2) full), part-fits i _ refl (omega (arith, waits (s .1) (s .2) full .within, c .before .before .before .before .span-at .ensures .0)) (s .4))
 
 returns-2 : tie.Need-returns-2
 returns-2 c =
@@ -47,7 +48,7 @@ returns-2 c =
     let part = part-is (s .1) (s .2) full _ _ refl (ap (λ n. recordSize * (slotStart (b .args .slot) + n)) (c .before .before .before .before .before .before .before .before .before .span-at .ensures .0)) in
     let k = c .before .before .before .before .add-run in
     let half = c .before .before .before .before .before .before .before .before .key-part .ensures in
-    (λ f free h. rw (← slot-times _ _ _ full) (k .ensures f [] free _ h (rw part (waits (s .1) (s .2) full .run))), λ n. rw half (slots-kept (b .args .work .now) (k .last .1 .1 .1 .1 .1 .1 .1 .0) n (rw half at (k .kept .1 .1 .1 .1 .1 .1 .1 .0))))
+    (λ f free h. rw (← slot-times _ _ _ full) (k .ensures f [] free _ h (rw part (waits (s .1) (s .2) full .run))), λ n. rw half (slots-kept (b .args .work .now) (k .last .1 .1 .1 .1 .1 .1 .1 .1 .0) n (rw half at (k .kept .1 .1 .1 .1 .1 .1 .1 .1 .0))))
 
 pub add-waiting-spec : {M : Type 1} → statement M
 add-waiting-spec =

@@ -14,11 +14,11 @@ use Rattle.gathering.proofs.gather.Statement.{statement}
 use Rattle.gathering.proofs.gather.Tie as tie
 
 abbrev Inv-loop : tie.InvT-loop
-Inv-loop a₀ t slots label work₀ end m₀ i₀ a work m i =
+Inv-loop a₀ t slots label words work₀ end m₀ i₀ a work m i =
     Gathering (byFlag label) t a m i (slotsOf slots work) × (length a ≡ length a₀) × (length work ≡ length work₀) × (i ≤ end)
 
 abbrev μ-loop : tie.MeasureT-loop
-μ-loop a₀ t slots label work₀ end m₀ i₀ a work m i = end - i
+μ-loop a₀ t slots label words work₀ end m₀ i₀ a work m i = end - i
 
 -- the message at hand
 module _ (c : tie.In-loop Inv-loop μ-loop) where
@@ -39,8 +39,9 @@ loop-holds c =
 take-message-requires : tie.Need-take-message-requires Inv-loop μ-loop
 take-message-requires c κs =
     let v = c .before .before .before .loop .inv in
-    let s = c .before .before .before .before .before .before .before .pre .2 in
-    (v .0, more (c .before .before), short (c .before .before), record { some = s .some; few = omega (arith, s .few, v .1); enough = omega (arith, s .enough, v .1, v .2) })
+    let p = c .before .before .before .before .before .before .before .pre in
+    let s = p .2 in
+    (v .0, more (c .before .before), short (c .before .before), record { some = s .some; few = omega (arith, s .few, v .1); enough = omega (arith, s .enough, v .1, v .2) }, p .4)
 
 returns : tie.Need-returns Inv-loop μ-loop
 returns c = rw (c .enum-told .given .1) at (c .before .before .before .before .before .before .take-message .ensures)
@@ -59,7 +60,7 @@ loop-again c =
     let v = c .before .before .before .before .before .before .before .before .before .before .before .before .loop .inv in
     let r = c .span-at .ensures .0 in
     let k = c .before .before .before .before .before .before .before .before .take-message in
-    (rw (c .before .before .size .given .1, ← r) at (k .ensures), omega (arith, k .kept .0, v .1), omega (arith, k .kept .1 .1 .1 .1 .1 .1 .0, v .2), omega (arith, message (c .before .before .before .before .before .before .before .before .before .before .before) .within, r))
+    (rw (c .before .before .size .given .1, ← r) at (k .ensures), omega (arith, k .kept .0, v .1), omega (arith, k .kept .1 .1 .1 .1 .1 .1 .1 .0, v .2), omega (arith, message (c .before .before .before .before .before .before .before .before .before .before .before) .within, r))
 
 returns-2 : tie.Need-returns-2 Inv-loop μ-loop
 returns-2 c =

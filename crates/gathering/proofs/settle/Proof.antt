@@ -18,11 +18,11 @@ use Rattle.gathering.proofs.settle.Statement.{statement}
 use Rattle.gathering.proofs.settle.Tie as tie
 
 abbrev Inv-loop : tie.InvT-loop
-Inv-loop a₀ m t slots label work₀ n₀ k₀ a work n k =
+Inv-loop a₀ m t slots label words work₀ n₀ k₀ a work n k =
     Gathering (byFlag label) t a n (records t) (drop k (slotsOf slots work)) × (k ≤ slots) × (length a ≡ length a₀) × (length work ≡ length work₀)
 
 abbrev μ-loop : tie.MeasureT-loop
-μ-loop a₀ m t slots label work₀ n₀ k₀ a work n k = slots - k
+μ-loop a₀ m t slots label words work₀ n₀ k₀ a work n k = slots - k
 
 -- the slot at hand is the first of those that are left
 module _ (c : tie.After-read-slot Inv-loop μ-loop) where
@@ -47,7 +47,7 @@ add-waiting-requires c κs =
     let v = c .before .before .before .before .before .loop .inv in
     let s = c .before .before .before .before .before .before .before .before .before .pre in
     let g = slot-first (c .before .before) in
-    (record { f = g .f; q = []; free = g .free; holds = g .holds }, g .held 0 (omega arith), table-run (s .0 .is-table) .short, omega (arith, s .2 .enough, v .2, v .3))
+    (record { f = g .f; q = []; free = g .free; holds = g .holds }, g .held 0 (omega arith), table-run (s .0 .is-table) .short, omega (arith, s .2 .enough, v .2, v .3), s .3)
 
 returns : tie.Need-returns Inv-loop μ-loop
 returns c =
@@ -60,7 +60,7 @@ loop-again c =
     let v = c .before .before .before .before .before .before .before .before .before .before .before .before .before .loop in
     let g = slot-first (c .before .before .before .before .before .before .before .before .before .before) in
     let w = c .before .before .before .before .before .before .before .add-waiting in
-    (rw (add-one (v .k), w .ensures .1 (c .before .before .before .before .before .before .before .before .before .before .before .before .before .before .before .before .before .args .slots)) (settled-added _ _ g _ (w .last .0) (omega (arith, w .kept .0, g .holds .short)) (rw (c .before .size .given .1) at (w .ensures .0 (g .f) (g .free) (g .holds)))), omega (arith, c .before .before .before .before .before .before .before .before .before .before .before .before .loop-test .taken), omega (arith, w .kept .0, v .inv .2), omega (arith, w .kept .1 .1 .1 .1 .1 .0, v .inv .3))
+    (rw (add-one (v .k), w .ensures .1 (c .before .before .before .before .before .before .before .before .before .before .before .before .before .before .before .before .before .args .slots)) (settled-added _ _ g _ (w .last .0) (omega (arith, w .kept .0, g .holds .short)) (rw (c .before .size .given .1) at (w .ensures .0 (g .f) (g .free) (g .holds)))), omega (arith, c .before .before .before .before .before .before .before .before .before .before .before .before .loop-test .taken), omega (arith, w .kept .0, v .inv .2), omega (arith, w .kept .1 .1 .1 .1 .1 .1 .0, v .inv .3))
 
 returns-2 : tie.Need-returns-2 Inv-loop μ-loop
 returns-2 c =

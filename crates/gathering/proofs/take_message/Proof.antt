@@ -58,7 +58,7 @@ add-waiting-requires : tie.Need-add-waiting-requires
 add-waiting-requires c κs =
     let s = c .before .before .before .before .before .before .before .before .before .before .before .before .before .before .before .before .pre in
     let g = s .0 in
-    (record { f = g .f; q = []; free = g .free; holds = g .holds }, slot-later (omega (arith, s .1)) (slot-holds (c .before .before .before .before .before .before .before .before)), s .2, omega (arith, s .3 .enough, c .before .before .before .before .put-slot2 .kept .0))
+    (record { f = g .f; q = []; free = g .free; holds = g .holds }, slot-later (omega (arith, s .1)) (slot-holds (c .before .before .before .before .before .before .before .before)), s .2, omega (arith, s .3 .enough, c .before .before .before .before .put-slot2 .kept .0), s .4)
 
 returns-2 : tie.Need-returns-2
 returns-2 c =

@@ -68,7 +68,7 @@ same-bytes t i j (suc n) q =
     cut i ∙ rw (same-bytes t i j n (equal-fewer (suc n) n (omega arith) q), q .same n (omega arith)) (sym (cut j))
 
 -- a part of the front of a list
-take-inside : (k m n : ℕ) (l : List ℕ) → k + m ≤ n → take m (drop k (take n l)) ≡ take m (drop k l)
+pub take-inside : (k m n : ℕ) (l : List ℕ) → k + m ≤ n → take m (drop k (take n l)) ≡ take m (drop k l)
 take-inside zero m n l h = take-take m n l (omega arith)
 take-inside (suc k) m zero l h = absurd (omega arith)
 take-inside (suc k) m (suc n) [] h = refl

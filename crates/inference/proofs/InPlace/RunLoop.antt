@@ -23,7 +23,7 @@ use Rattle.counting_theory.specs.Encoding as bytes
 use Rattle.type_arena.specs.Inside.Arena.{RecordIn}
 use Rattle.counting_theory.specs.Inside.Times.{times}
 use Rattle.type_arena.specs.Inside.Payload.{itemPayload}
-use Rattle.inference.specs.Inside.Inferring.{TableRun, InferredSiblings, ArenaHolds, Starts, split, Grown, AddedAt, labelFor, withItem, Weighed, ItemAt, EqualRecords, resumed}
+use Rattle.inference.specs.Inside.Inferring.{TableRun, KeysFit, InferredSiblings, ArenaHolds, Starts, split, Grown, AddedAt, labelFor, withItem, Weighed, ItemAt, EqualRecords, resumed}
 use Rattle.inference.specs.Inside.ScalarFields.{AddedSoFar}
 use Rattle.counting_theory.proofs.Label.{counting-laws}
 use Rattle.counting_theory.proofs.Trie.Growth.{add-grows}
@@ -34,6 +34,7 @@ use Rattle.inference.proofs.InPlace.Seeking.{starts-resumed}
 use Rattle.inference.proofs.InPlace.Items.{insert-size}
 use Rattle.inference.proofs.InPlace.AddItem.{grown-length}
 use Rattle.inference.proofs.InPlace.Material.{times-siblings}
+use Rattle.inference.proofs.InPlace.Words.{part-fits}
 use Rattle.inference.proofs.InPlace.Repeats.{Copied, copied, add-copies}
 
 -- the values below an item: a field's value by itself, or a value's content
@@ -162,6 +163,13 @@ module _ {e : Equivalence} {field : Bool} {w : ℕ} {vs : Values} {f : CountingT
 
         pub below-run : TableRun (eqb (item .kind) recordKind) (take (recordSize * item .next - item .start) (drop (item .start) t)) below
         below-run = below-by field refl item-kind (y .start-is)
+
+        pub turn-fits : {words : Bool} → KeysFit words t → KeysFit words (take (recordSize * item .next - item .start) (drop (item .start) t))
+        turn-fits {words} h = by-field field (y .start-is)
+          where
+            by-field : (o : Bool) → item .start ≡ cond o (recordSize * i) (recordSize * (i + 1)) → KeysFit words (take (recordSize * item .next - item .start) (drop (item .start) t))
+            by-field true z = part-fits i (item .next) z (turn-order .1) h
+            by-field false z = part-fits (i + 1) (item .next) z (turn-order .1) h
 
         measure-by : (o : Bool) → item .kind ≡ cond o fieldKind (v .head .kind) → item .start ≡ cond o (recordSize * i) (recordSize * (i + 1)) →
             2 * (recordSize * item .next - item .start) + cond (eqb (item .kind) recordKind) 1 0 < 2 * length t + cond o 1 0

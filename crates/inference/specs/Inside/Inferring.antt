@@ -5,10 +5,10 @@ use mathlib.Core.Bool.{Bool, true, cond}
 use mathlib.Core.List.{List, [], _∷_, _++_}
 use mathlib.Core.Option.{Option, none, some}
 use Prim.Native.Nat.{ℕ, suc, _+_, _-_, _*_, _/_, _≤_, _<_, Ordering, Ordering·lt as lt, Ordering·eq as eq, Ordering·gt as gt}
-use lib.Dec.{eqb, ltb}
+use lib.Dec.{eqb, ltb, leb}
 use lib.ListN.{length}
 use Rattle.byte_records.specs.Inside.Numbers.{numbersOf}
-use Rattle.value_table.specs.Value.{maxLength, recordKind, Values, keys, Distinct, ValidAt}
+use Rattle.value_table.specs.Value.{maxLength, recordKind, lastScalar, KeysUpTo, Values, keys, Distinct, ValidAt}
 use Rattle.value_table.specs.Value as table
 use Rattle.value_table.specs.Inside.RecordBytes.{recordAt}
 use Rattle.value_table.specs.Judged.{messages}
@@ -31,6 +31,7 @@ use Rattle.counting_theory.specs.Inside.TrieLaws.{append}
 use Rattle.counting_theory.specs.Label.{Equivalence, Label, fieldKind, listed, labelOf, compareKeys, compareLabel, Counting, CountingType}
 use Rattle.counting_theory.specs.Raw.{ascending, raw}
 use Rattle.counting_theory.specs.Encoding.{typeSize, typeKind, typeSpan, header, encode, Tagged}
+use Rattle.key_word.specs.Word.{wordBits}
 use Rattle.type_arena.specs.Inside.Arena.{keysIn, labelAt}
 use Rattle.type_arena.specs.Inside.LabelOrder.{orderingOf}
 use Rattle.type_arena.specs.Inside.Payload.{itemPayload}
@@ -74,6 +75,14 @@ pub record TableRun (field : Bool) (t : List ℕ) (vs : Values) : Type 0 where
 pub record SomeRun (field : Bool) (t : List ℕ) : Type 0 where
   pub values : Values
   pub run : TableRun field t values
+
+-- where key lists come from words, no key in t is above 64
+pub record KeysFit (words : Bool) (t : List ℕ) : Type 0 where
+  pub upto : words ≡ true → KeysUpTo wordBits t
+
+-- how many records the value at record i has, where a scalar has one
+abbrev pub stepAt : List ℕ → ℕ → ℕ
+stepAt t i = cond (leb (table.kindAt t i) lastScalar) 1 (table.spanAt t i)
 
 -- w begins with the ascending keys of vs; or vs has more fields than w has room for keys
 abbrev pub ListedIn : Values → Listed → List ℕ → Type 0

@@ -36,9 +36,9 @@ pub record Latest (b : List ℕ) (i : ℕ) (latest : List ℕ) : Type 0 where
   pub upto : (q : ℕ) → q < i → q ≤ getD latest (keyAt b q % keyBuckets) 0
 
 -- x is the fault of record i at this depth, whose parent ends at `end` and, if it is a record, has had `before` fields
-abbrev pub FaultIs : List ℕ → ℕ → ℕ → ℕ → ℕ → ℕ → ℕ → Type 0
-FaultIs b i end first before depth x =
-    (isField : Bool) (ks : List ℕ) → FieldsBefore b i first isField ks → (isField ≡ true → length ks ≡ before) → x ≡ fault b i end isField ks depth
+abbrev pub FaultIs : ℕ → List ℕ → ℕ → ℕ → ℕ → ℕ → ℕ → ℕ → Type 0
+FaultIs largest b i end first before depth x =
+    (isField : Bool) (ks : List ℕ) → FieldsBefore b i first isField ks → (isField ≡ true → length ks ≡ before) → x ≡ fault largest b i end isField ks depth
 
 -- what the innermost of some levels holds, or what stands outside them
 abbrev pub innermostOf : List ℕ → ℕ → ℕ → ℕ

@@ -20,7 +20,7 @@ use Rattle.counting_theory.specs.Inside.Times.{times}
 use Rattle.inference.specs.Inside.Inferring.{grown as grownTo, TableRun, ArenaHolds, split, Counted, Grown, labelFor, withItem, Weighed, AddedAt}
 use Rattle.inference.specs.Inside.ScalarFields.{AddedSoFar}
 use Rattle.inference.proofs.InPlace.AddItem.{Task, step-length, step-within, step-span, step-empty, nothing-added, step-holds, step-full, step-grown, added-full, added-records, grown-length}
-use Rattle.inference.proofs.InPlace.RunLoop.{ran-start, ran-holds, ran-end, ran-first, below, below-run, turn-full, turn-room, turn-added, turn-order, turn-measure, turn-few, turn-weighed}
+use Rattle.inference.proofs.InPlace.RunLoop.{ran-start, ran-holds, ran-end, ran-first, below, below-run, turn-full, turn-room, turn-added, turn-order, turn-measure, turn-few, turn-weighed, turn-fits}
 use Rattle.inference.proofs.InPlace.Runs.{whole-records}
 use borrow.Fn.Kinds.{In}
 use borrow.Fn.PlainCycle.{Measures, is, falls, and}
@@ -96,8 +96,8 @@ module _ (t : ℕ) where
     same-arena : length arena ≡ length (begun .args .a .now)
     same-arena = c .before .before .before .before .before .before .before .locate .kept .0
 
-    same-work : length (c .before .before .before .before .before .before .before .locate .last .1 .1 .1 .1 .1 .1 .1 .1 .1 .0) ≡ length (begun .args .work .now)
-    same-work = c .before .before .before .before .before .before .before .locate .kept .1 .1 .1 .1 .1 .1 .1 .1 .1 .0
+    same-work : length (c .before .before .before .before .before .before .before .locate .last .1 .1 .1 .1 .1 .1 .1 .1 .1 .1 .0) ≡ length (begun .args .work .now)
+    same-work = c .before .before .before .before .before .before .before .locate .kept .1 .1 .1 .1 .1 .1 .1 .1 .1 .1 .0
 
     short : length arena ≤ 65536
     short = omega (arith, asked .holds .short, same-arena)
@@ -145,7 +145,7 @@ module _ (t : ℕ) where
         omega (arith, grown-length (grown (asked (at sp))), simp (length-take, length-drop) at n, bound (at sp))
 
   add-item-locate-requires : add-item-lts.Need-locate-requires (add-item-calls t) (add-item-at t) add-item.Post
-  add-item-locate-requires c κs = let g = c .before .before .before .before .before .pre .1 in (g .0, g .1, g .2, g .3 .some)
+  add-item-locate-requires c κs = let g = c .before .before .before .before .before .pre .1 in (g .0, g .1, g .2, g .3 .some, g .4)
 
   add-item-enum-known-p : add-item-lts.Need-enum-known-p (add-item-calls t) (add-item-at t) add-item.Post
   add-item-enum-known-p c = search needs
@@ -157,7 +157,7 @@ module _ (t : ℕ) where
   add-item-same-length c = c .before .before .before .before .before .before .locate .kept .0
 
   add-item-same-length-2 : add-item-lts.Need-same-length-2 (add-item-calls t) (add-item-at t) add-item.Post
-  add-item-same-length-2 c = c .before .before .before .before .before .before .locate .kept .1 .1 .1 .1 .1 .1 .1 .1 .1 .0
+  add-item-same-length-2 c = c .before .before .before .before .before .before .locate .kept .1 .1 .1 .1 .1 .1 .1 .1 .1 .1 .0
 
   add-item-returns : add-item-lts.Need-returns (add-item-calls t) (add-item-at t) add-item.Post
   add-item-returns c field f q free vs h s r = rw (c .enum-told .given .1) at (c .before .before .before .before .before .before .locate .ensures field f q free vs h s r)
@@ -209,7 +209,7 @@ module _ (t : ℕ) where
       let sp = c .before .before in
       let s = begun (at sp) in (
         omega (arith, s .pre .0),
-        (record { f = _; q = _; free = _; holds = inner sp (asked (at sp)) }, s .pre .1 .1, simp (length-take, length-drop) (omega (arith, s .pre .1 .2, same-arena (at sp), same-work (at sp))), s .pre .1 .3),
+        (record { f = _; q = _; free = _; holds = inner sp (asked (at sp)) }, s .pre .1 .1, simp (length-take, length-drop) (omega (arith, s .pre .1 .2, same-arena (at sp), same-work (at sp))), s .pre .1 .3, s .pre .1 .4),
       )
 
   add-item-enum-known-added : add-item-lts.Need-enum-known-added (add-item-calls t) (add-item-at t) add-item.Post
@@ -224,7 +224,7 @@ module _ (t : ℕ) where
       same-len-mid (typeSize * place i + typeSize) (length (arena i) - (typeSize * place i + typeSize)) (arena i) (c .before .before .before .before .before .before .add-run .last .0) (c .before .before .before .before .before .before .add-run .kept .0) ∙ same-arena i
 
   add-item-same-length-6 : add-item-lts.Need-same-length-6 (add-item-calls t) (add-item-at t) add-item.Post
-  add-item-same-length-6 c = c .before .before .before .before .before .before .add-run .kept .1 .1 .1 .1 .1 .1 .1 .0 ∙ same-work (at (c .before .before .before .before .before .before .before .before .before))
+  add-item-same-length-6 c = c .before .before .before .before .before .before .add-run .kept .1 .1 .1 .1 .1 .1 .1 .1 .0 ∙ same-work (at (c .before .before .before .before .before .before .before .before .before))
 
   add-item-returns-3 : add-item-lts.Need-returns-3 (add-item-calls t) (add-item-at t) add-item.Post
   add-item-returns-3 c field f q free vs h s r =
@@ -240,20 +240,20 @@ module _ (t : ℕ) where
   add-item-store-span-requires : add-item-lts.Need-store-span-requires (add-item-calls t) (add-item-at t) add-item.Post
   add-item-store-span-requires c κs = omega (arith, small c, same c)
 
-  add-item-add-t25 : add-item-lts.Need-add-t25 (add-item-calls t) (add-item-at t) add-item.Post
-  add-item-add-t25 c = let i = c .before .before .before in omega (arith, small i, numbers (sp i), bound (at (sp i)))
+  add-item-add-t26 : add-item-lts.Need-add-t26 (add-item-calls t) (add-item-at t) add-item.Post
+  add-item-add-t26 c = let i = c .before .before .before in omega (arith, small i, numbers (sp i), bound (at (sp i)))
 
-  add-item-add-t29 : add-item-lts.Need-add-t29 (add-item-calls t) (add-item-at t) add-item.Post
-  add-item-add-t29 c = let i = c .before .before .before in omega (arith, small i, numbers (sp i), bound (at (sp i)))
+  add-item-add-t30 : add-item-lts.Need-add-t30 (add-item-calls t) (add-item-at t) add-item.Post
+  add-item-add-t30 c = let i = c .before .before .before in omega (arith, small i, numbers (sp i), bound (at (sp i)))
 
-  add-item-sub-t38 : add-item-lts.Need-sub-t38 (add-item-calls t) (add-item-at t) add-item.Post
-  add-item-sub-t38 c = let i = c .before .before .before in omega (arith, small i, numbers (sp i), bound (at (sp i)))
+  add-item-sub-t39 : add-item-lts.Need-sub-t39 (add-item-calls t) (add-item-at t) add-item.Post
+  add-item-sub-t39 c = let i = c .before .before .before in omega (arith, small i, numbers (sp i), bound (at (sp i)))
 
   add-item-same-length-7 : add-item-lts.Need-same-length-7 (add-item-calls t) (add-item-at t) add-item.Post
   add-item-same-length-7 c = let i = c .before .before .before in c .before .before .store-span .kept .0 ∙ same i ∙ same-arena (at (sp i))
 
   add-item-same-length-8 : add-item-lts.Need-same-length-8 (add-item-calls t) (add-item-at t) add-item.Post
-  add-item-same-length-8 c = let i = c .before .before .before in i .before .before .before .before .before .before .before .before .add-run .kept .1 .1 .1 .1 .1 .1 .1 .0 ∙ same-work (at (sp i))
+  add-item-same-length-8 c = let i = c .before .before .before in i .before .before .before .before .before .before .before .before .add-run .kept .1 .1 .1 .1 .1 .1 .1 .1 .0 ∙ same-work (at (sp i))
 
   add-item-returns-4 : add-item-lts.Need-returns-4 (add-item-calls t) (add-item-at t) add-item.Post
   add-item-returns-4 c field f q free vs h s r =
@@ -263,10 +263,10 @@ module _ (t : ℕ) where
       (step-grown f _ (h .used) (short j) (counted j x) _ (span (sp i) x) (payload j x) refl (add Counting (material (sp i) x)) _ _ _ (grown i x) (c .before .before .store-span .ensures), counted j x .place)
 
 abbrev add-run-Inv-loop : add-run-lts.InvT-loop
-add-run-Inv-loop a₀ n rest weight t field label work₀ end m₀ i₀ from₀ a work m i from = (end ≡ length t / recordSize) × (length a ≡ length a₀) × (length work ≡ length work₀) × ((f : CountingType) (q free : List ℕ) (vs : Values) → ArenaHolds (byFlag label) field a₀ n rest f q free → TableRun field t vs → AddedSoFar (byFlag label) field weight vs f q a t m i from)
+add-run-Inv-loop a₀ n rest weight t field label words work₀ end m₀ i₀ from₀ a work m i from = (end ≡ length t / recordSize) × (length a ≡ length a₀) × (length work ≡ length work₀) × ((f : CountingType) (q free : List ℕ) (vs : Values) → ArenaHolds (byFlag label) field a₀ n rest f q free → TableRun field t vs → AddedSoFar (byFlag label) field weight vs f q a t m i from)
 
 abbrev add-run-μ-loop : add-run-lts.MeasureT-loop
-add-run-μ-loop a₀ n rest weight t field label work₀ end m₀ i₀ from₀ a work m i from = end - i
+add-run-μ-loop a₀ n rest weight t field label words work₀ end m₀ i₀ from₀ a work m i from = end - i
 
 abbrev add-run-calls : ℕ → add-run-lts.Claims
 add-run-calls t = (count-standing-reads.Asked, count-standing-reads.Learnt, read-item-reads.Asked, read-item-reads.Learnt, equal-values-reads.Asked, equal-values-reads.Learnt, add-item-below t, add-item.Post, resume-at-reads.Asked, resume-at-reads.Learnt)
@@ -368,8 +368,8 @@ module _ (t : ℕ) where
     short-arena : length (c .add-item .last .0) ≤ 65536
     short-arena = omega (arith, asked-of behind .pre .1 .0 .holds .short, same-arena-at known, c .add-item .kept .0)
 
-    same-work-at : length (c .add-item .last .1 .1 .1 .1 .1 .1 .1 .1 .1 .0) ≡ length (asked-of behind .args .work .now)
-    same-work-at = c .add-item .kept .1 .1 .1 .1 .1 .1 .1 .1 .1 .0 ∙ state (head known) .loop .inv .2
+    same-work-at : length (c .add-item .last .1 .1 .1 .1 .1 .1 .1 .1 .1 .1 .0) ≡ length (asked-of behind .args .work .now)
+    same-work-at = c .add-item .kept .1 .1 .1 .1 .1 .1 .1 .1 .1 .1 .0 ∙ state (head known) .loop .inv .2
 
   add-run-loop-holds : add-run-lts.Need-loop-holds (add-run-calls t) (add-run-at t) add-run.Post add-run-Inv-loop add-run-μ-loop
   add-run-loop-holds c = (refl, refl, refl, λ f q free vs h r. ran-start h r (c .before .before .before .pre .1 .3 .some))
@@ -439,6 +439,7 @@ module _ (t : ℕ) where
           record { values = _; run = below-run x (table-short i) (more i) (j .read-item .ensures) },
           omega (arith, same-arena-at (standing i), state (head (standing i)) .loop .inv .2, g .1 .2),
           weighed k,
+          turn-fits x (table-short i) (more i) (j .read-item .ensures) (g .1 .4),
         ),
       )
 
@@ -505,5 +506,5 @@ module _ (t : ℕ) where
 pub +add-item+add-run-spec : {M : Type 1} → statement M
 +add-item+add-run-spec =
     close μ-add-item μ-add-run
-    (λ t. add-item-lts.spec (add-item-calls t) (add-item-at t) add-item.Post (add-item-locate-requires t) (add-item-enum-known-p t) (add-item-enum-told t) (add-item-same-length t) (add-item-same-length-2 t) (add-item-returns t) (add-item-same-length-3 t) (add-item-same-length-4 t) (add-item-returns-2 t) (add-item-span-at-requires t) (add-item-mul-inner t) (add-item-add-inner t) (add-item-add-behind t) (add-item-sub-behind t) (add-item-sub-behind-2 t) (add-item-sub-held t) (add-item-sub-add-run t) (add-item-part-add-run-start t) (add-item-part-add-run-end t) (add-item-add-run-requires t) (add-item-enum-known-added t) (add-item-enum-told-2 t) (add-item-same-length-5 t) (add-item-same-length-6 t) (add-item-returns-3 t) (add-item-add-store-span t) (add-item-store-span-requires t) (add-item-add-t25 t) (add-item-add-t29 t) (add-item-sub-t38 t) (add-item-same-length-7 t) (add-item-same-length-8 t) (add-item-returns-4 t))
+    (λ t. add-item-lts.spec (add-item-calls t) (add-item-at t) add-item.Post (add-item-locate-requires t) (add-item-enum-known-p t) (add-item-enum-told t) (add-item-same-length t) (add-item-same-length-2 t) (add-item-returns t) (add-item-same-length-3 t) (add-item-same-length-4 t) (add-item-returns-2 t) (add-item-span-at-requires t) (add-item-mul-inner t) (add-item-add-inner t) (add-item-add-behind t) (add-item-sub-behind t) (add-item-sub-behind-2 t) (add-item-sub-held t) (add-item-sub-add-run t) (add-item-part-add-run-start t) (add-item-part-add-run-end t) (add-item-add-run-requires t) (add-item-enum-known-added t) (add-item-enum-told-2 t) (add-item-same-length-5 t) (add-item-same-length-6 t) (add-item-returns-3 t) (add-item-add-store-span t) (add-item-store-span-requires t) (add-item-add-t26 t) (add-item-add-t30 t) (add-item-sub-t39 t) (add-item-same-length-7 t) (add-item-same-length-8 t) (add-item-returns-4 t))
     (λ t. add-run-lts.spec (add-run-calls t) (add-run-at t) add-run.Post add-run-Inv-loop add-run-μ-loop (add-run-loop-holds t) (add-run-count-standing-requires t) (add-run-same-length t) (add-run-same-length-2 t) (add-run-returns t) (add-run-read-item-requires t) (add-run-mul-stop t) (add-run-equal-values-requires t) (add-run-add-w t) (add-run-mul-w t) (add-run-sub-below t) (add-run-part-below-start t) (add-run-part-below-end t) (add-run-add-item-requires t) (add-run-enum-known-p t) (add-run-enum-told t) (add-run-same-length-3 t) (add-run-same-length-4 t) (add-run-returns-2 t) (add-run-resume-at-requires t) (add-run-sub-i t) (add-run-mul-i t) (add-run-add-i t) (add-run-loop-less t) (add-run-loop-again t) (add-run-same-length-5 t) (add-run-same-length-6 t) (add-run-returns-3 t))

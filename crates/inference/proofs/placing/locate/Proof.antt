@@ -17,13 +17,14 @@ use Rattle.inference.proofs.placing.locate.Tie as tie
 -- the keys that are listed
 module _ (c : tie.After-known-told) where
   listed-keys : (vs : Values) → TableRun (eqb (c .before .before .before .before .before .before .before .before .before .before .args .kind) recordKind) (c .before .before .before .before .before .before .before .before .before .before .args .t .now) vs →
-      LabelListed (byFlag (c .before .before .before .before .before .before .before .before .before .before .args .label)) (c .before .before .before .before .before .before .before .before .before .before .args .kind) vs (Keys (c .before .keys .given .0 .0)) (c .before .before .before .before .before .list-label .last .1 .1 .1 .0)
+      LabelListed (byFlag (c .before .before .before .before .before .before .before .before .before .before .args .label)) (c .before .before .before .before .before .before .before .before .before .before .args .kind) vs (Keys (c .before .keys .given .0 .0)) (c .before .before .before .before .before .list-label .last .1 .1 .1 .1 .0)
   listed-keys vs r = rw (c .before .keys .given .1) at (c .before .before .before .before .before .list-label .ensures vs (λ z. rw (eq-eqb _ recordKind z) at r))
 
 list-label-requires : tie.Need-list-label-requires
 list-label-requires c κs =
-    let g = c .before .before .before .before .pre .1 in
-    λ z. record { values = g .values; run = rw (eq-eqb _ recordKind z) at (g .run) }
+    let s = c .before .before .before .before .pre in
+    let g = s .1 in
+    (λ z. record { values = g .values; run = rw (eq-eqb _ recordKind z) at (g .run) }, s .4)
 
 given-requires : tie.Need-given-requires
 given-requires c κs = tt
@@ -37,14 +38,14 @@ returns : tie.Need-returns
 returns c field f q free vs h s r =
     let a = c .before .before .before .before .before .before .before .before .before in
     let k = c .before .before .before .before .list-label in
-    let d : (a .args .kind ≡ recordKind) × (length (k .last .1 .1 .1 .0) < 2 * length (keys vs)) = rw (c .enum-told .given .1) at (k .ensures vs (λ z. rw (eq-eqb _ recordKind z) at r)) in
-    too-many (byFlag (a .args .label)) field (a .args .kind) (a .args .key) _ _ vs f (a .pre .3) (d .0) r (h .siblings) _ _ _ (d .1) (omega (arith, a .pre .2, k .kept .1 .1 .1 .0))
+    let d : (a .args .kind ≡ recordKind) × (length (k .last .1 .1 .1 .1 .0) < 2 * length (keys vs)) = rw (c .enum-told .given .1) at (k .ensures vs (λ z. rw (eq-eqb _ recordKind z) at r)) in
+    too-many (byFlag (a .args .label)) field (a .args .kind) (a .args .key) _ _ vs f (a .pre .3) (d .0) r (h .siblings) _ _ _ (d .1) (omega (arith, a .pre .2, k .kept .1 .1 .1 .1 .0))
 
 returns-2 : tie.Need-returns-2
 returns-2 c field f q free vs h s r =
     let a = c .before .before .before .before .before .before .before .before .before .before .before .before .before .before .before .before .args in
     let k = c .before .before .place in
-    let l = label-is (byFlag (a .label)) (a .kind) (a .key) (c .before .before .before .before .before .before .before .keys .given .0 .0) (c .before .before .before .before .before .before .before .before .before .before .before .list-label .last .1 .1 .1 .0) vs (listed-keys (c .before .before .before .before .before .before) vs r .0) in
+    let l = label-is (byFlag (a .label)) (a .kind) (a .key) (c .before .before .before .before .before .before .before .keys .given .0 .0) (c .before .before .before .before .before .before .before .before .before .before .before .list-label .last .1 .1 .1 .1 .0) vs (listed-keys (c .before .before .before .before .before .before) vs r .0) in
     located (byFlag (a .label)) (a .kind) (a .key) (a .weight) vs f q (a .rest) (k .result) (k .last .0) (rw (l, c .before .before .before .before .before .given .ensures vs) at (k .ensures field f q free h s))
 
 pub locate-spec : {M : Type 1} → statement M

@@ -13,10 +13,10 @@ use Rattle.value_table.proofs.walk.walk_table.Statement.{statement}
 use Rattle.value_table.proofs.walk.walk_table.Tie as tie
 
 abbrev Inv-loop : tie.InvT-loop
-Inv-loop table n walk₀ latest₀ i₀ walk latest i = Walking table (walk .ends) (walk .fields) (walk .counts) (walk .depth) i × Latest table i latest
+Inv-loop table largest n walk₀ latest₀ i₀ walk latest i = Walking largest table (walk .ends) (walk .fields) (walk .counts) (walk .depth) i × Latest table i latest
 
 abbrev μ-loop : tie.MeasureT-loop
-μ-loop table n walk₀ latest₀ i₀ walk latest i = 2 * (n - i) + walk .depth
+μ-loop table largest n walk₀ latest₀ i₀ walk latest i = 2 * (n - i) + walk .depth
 
 -- the turn of the loop in which record i is looked at
 abbrev turn : tie.After-latest Inv-loop μ-loop → tie.In-loop Inv-loop μ-loop
@@ -48,10 +48,10 @@ latest-after : (c : tie.After-bucket-of Inv-loop μ-loop) → let p = turn (look
 latest-after c = rw (c .bucket-of .ensures .0) (latest-next (turn (looked (c .before)) .before .loop .inv .1))
 
 loop-holds : tie.Need-loop-holds Inv-loop μ-loop
-loop-holds c = (walking-start _ _ _ refl refl, latest-start _ _ refl)
+loop-holds c = (walking-start _ _ _ _ refl refl, latest-start _ _ refl)
 
 -- the innermost open value ends at record i
-closing : (c : tie.Then1 Inv-loop μ-loop) → let v = c .before .before .before .before .before .loop in (1 ≤ v .walk .depth) × Walking (c .before .before .before .before .before .before .before .args .table .now) (v .walk .ends) (v .walk .fields) (v .walk .counts) (v .walk .depth - 1) (v .i)
+closing : (c : tie.Then1 Inv-loop μ-loop) → let v = c .before .before .before .before .before .loop in (1 ≤ v .walk .depth) × Walking (c .before .before .before .before .before .before .before .args .largest) (c .before .before .before .before .before .before .before .args .table .now) (v .walk .ends) (v .walk .fields) (v .walk .counts) (v .walk .depth - 1) (v .i)
 closing c = walking-close (c .before .before .before .before .before .loop .inv .0) (c .before .before .before .before .loop-test .taken) (sym (c .before .innermost .ensures) ∙ c .if1 .taken)
 
 sub-walk : tie.Need-sub-walk Inv-loop μ-loop
@@ -79,7 +79,7 @@ fault-at-requires c κs =
 returns : tie.Need-returns Inv-loop μ-loop
 returns c =
     let p = c .before .before .before .before in
-    walking-refused (turn p .before .loop .inv .0) (turn p .loop-test .taken) (inner p) (fault-positive (c .before .fault .given .0 .0)) (λ f ks h n. sym (ap numberOfFinding (c .before .fault .given .1)) ∙ found (c .before .before .before) f ks h n)
+    walking-refused (turn p .before .loop .inv .0) (turn p .loop-test .taken) (inner p) (fault-positive (c .before .finding .given .0 .0)) (λ f ks h n. sym (ap numberOfFinding (c .before .finding .given .1)) ∙ found (c .before .before .before) f ks h n)
 
 add-walk : tie.Need-add-walk Inv-loop μ-loop
 add-walk c =
@@ -114,8 +114,8 @@ loop-again-3 c =
       latest-after b,
     )
 
-element-copy-out-t12 : tie.Need-element-copy-out-t12 Inv-loop μ-loop
-element-copy-out-t12 c = search needs
+element-copy-out-t14 : tie.Need-element-copy-out-t14 Inv-loop μ-loop
+element-copy-out-t14 c = search needs
 
 returns-2 : tie.Need-returns-2 Inv-loop μ-loop
 returns-2 c = walking-done (c .before .before .loop .inv .0) (c .before .loop-test .left)
@@ -129,4 +129,4 @@ walk-table-spec =
     (λ c κs. search needs) (λ c. search needs) (λ c. search needs) loop-again-2
     (λ c. search needs) (λ c. search needs) element-write-walk-2 (λ c κs. search needs) (λ c. search needs) element-write-walk-3
     (λ c. search needs) (λ c. search needs) element-write-walk-4 (λ c. search needs) (λ c. search needs) (λ c. search needs) loop-again-3
-    element-copy-out-t12 returns-2)
+    element-copy-out-t14 returns-2)

@@ -1,0 +1,2 @@
+-- What contracts inside the libraries and their proofs cite, and no public promise.
+pub mod Fields

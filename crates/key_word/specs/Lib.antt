@@ -1,0 +1,3 @@
+-- Key sets as words.
+pub mod Word
+pub mod Inside

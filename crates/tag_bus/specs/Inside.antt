@@ -1,0 +1,3 @@
+-- What contracts inside the crate and its proofs cite, and no public promise.
+pub mod Flat
+pub mod Front
