@@ -9,9 +9,9 @@ use lib.ListN.{length}
 use borrow.Author.Tests.{le-ltb, eqb-true, eqb-false}
 use Rattle.byte_records.specs.Number.{Bytes}
 use Rattle.byte_records.proofs.Tests.{and-false}
-use Rattle.value_table.specs.Value.{maxKey, maxDepth, records, keyAt, KeysUpTo}
+use Rattle.value_table.specs.Value.{maxKey, records, keyAt, KeysUpTo}
 use Rattle.value_table.specs.Outcome.{Outcome, accepted, refused}
-use Rattle.value_table.specs.Judged.{Open, endOf, inRecord, seen, badLength, badKind, badSpan, badKey, tooLarge, repeated, tooMany, tooDeep, fault, faultIn, close, enter, messagesIn, decide, walk, judgedUpTo, judged}
+use Rattle.value_table.specs.Judged.{Open, inRecord, badLength, badKind, badSpan, badKey, tooLarge, repeated, tooMany, tooDeep, fault, faultIn, close, decide, walk, judgedUpTo, judged}
 use Rattle.value_table.specs.Acceptance.{AcceptsUpTo, JudgesAlike, NeverLarge}
 use Rattle.value_table.proofs.Header.{keyAt-below}
 use Rattle.value_table.proofs.Faultless.{faultless}

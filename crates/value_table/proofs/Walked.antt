@@ -6,7 +6,7 @@ use Prim.Native.Nat.{ℕ, zero, suc, _+_, _≤_, _<_}
 use native.Mathlib.Omega.{arith}
 use lib.ListN.{length}
 use Rattle.byte_records.specs.Number.{Bytes}
-use Rattle.value_table.specs.Value.{maxLength, maxKey, records, keyAt}
+use Rattle.value_table.specs.Value.{maxLength, maxKey, records}
 use Rattle.value_table.specs.Outcome.{Outcome, accepted}
 use Rattle.value_table.specs.Judged.{Open, faultIn, close, enter, messagesIn, decide, walk}
 use Rattle.value_table.proofs.Header.{keyAt-below}
