@@ -1,6 +1,6 @@
 -- Shares: what the rounding gives, and that no share of a count from 1 to its whole has a false end.
 use mathlib.Core.Path.{_≡_, refl, ap, _∙_}
-use mathlib.Core.Bool.{Bool, true, false, cond}
+use mathlib.Core.Bool.{Bool, true, false}
 use Prim.Native.Nat.{ℕ, _+_, _*_, _/_, _≤_, _<_}
 use native.Mathlib.Nat.{div-lt-iff-lt-mul, div-eq-of-lt-le}
 use native.Mathlib.Omega.{arith}
@@ -22,10 +22,10 @@ module _ (r : ℕ) where
   unfolding withoutFalseEnd
   neither-end h = go (eqb r 1000) (eqb r 0) refl refl
     where
-      go : (t u : Bool) → eqb r 1000 ≡ t → eqb r 0 ≡ u → (1 ≤ cond t 999 (cond u 1 r)) × (cond t 999 (cond u 1 r) ≤ 999)
-      go true u p q = (omega arith, omega arith)
-      go false true p q = (omega arith, omega arith)
-      go false false p q = (omega (arith, eqb-false r 0 q), omega (arith, eqb-false r 1000 p))
+      go : (t u : Bool) → eqb r 1000 ≡ t → eqb r 0 ≡ u → (1 ≤ withoutFalseEnd r) × (withoutFalseEnd r ≤ 999)
+      go true u p q = rw p (omega arith, omega arith)
+      go false true p q = rw (p, q) (omega arith, omega arith)
+      go false false p q = rw (p, q) (omega (arith, eqb-false r 0 q), omega (arith, eqb-false r 1000 p))
 
   pub no-end : (r ≡ 1000 → ⊥) → (r ≡ 0 → ⊥) → withoutFalseEnd r ≡ r
   unfolding withoutFalseEnd
