@@ -13,10 +13,20 @@ use Rattle.counting_theory.specs.Encoding as type
 use Rattle.counting_theory.specs.WellFormed.{badTypeLength}
 use Rattle.counting_theory.specs.Answers.{inferred}
 use Rattle.report.specs.Decimal.{divisions, digitCount, digits}
-use Rattle.report.specs.Line.{kindWord, share, lineOf, refusalLine}
+use Rattle.report.specs.Line.{kindWord, rounded, withoutFalseEnd, share, lineOf, refusalLine}
 use Rattle.report.specs.Report.{linesOf, largestCount, report, printed}
 use Rattle.report.specs.Example.{Examples}
 
 pub examples : Examples
-unfolding printed header bytesOf numberOf numberAt fieldAt fieldsFrom recordBytes numbers ofNumbers one oneField join keys member kindAt zeroAt keyAt spanAt badLength badKind badSpan badKey tooLarge repeated tooMany tooDeep fault faultIn close enter walk judgedUpTo judged decode messages then comparePair compareList compareOn compareKeys size insertStep insert add total listed insertKey ascending raw profileOf type.typeKind type.typeKey type.typeSpan type.typePayload type.header type.encode type.siblingKeys type.decode type.typeOf badTypeLength inferred report linesOf largestCount lineOf kindWord share digitCount divisions digits refusalLine
-examples = record { seven-lines = refl; nothing = refl; refusal = refl; halves = refl; widest = refl }
+unfolding printed header bytesOf numberOf numberAt fieldAt fieldsFrom recordBytes numbers ofNumbers one oneField join keys member kindAt zeroAt keyAt spanAt badLength badKind badSpan badKey tooLarge repeated tooMany tooDeep fault faultIn close enter walk judgedUpTo judged decode messages then comparePair compareList compareOn compareKeys size insertStep insert add total listed insertKey ascending raw profileOf type.typeKind type.typeKey type.typeSpan type.typePayload type.header type.encode type.siblingKeys type.decode type.typeOf badTypeLength inferred report linesOf largestCount lineOf kindWord rounded withoutFalseEnd share digitCount divisions digits refusalLine
+examples =
+    record {
+      seven-lines = refl;
+      nothing = refl;
+      refusal = refl;
+      halves = refl;
+      widest = refl;
+      nearly-all = refl;
+      nearly-none = refl;
+      shares = (refl, refl, (refl, refl, (refl, refl, (refl, refl, (refl, refl, (refl, refl, (refl, refl, tt)))))));
+    }

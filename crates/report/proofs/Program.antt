@@ -39,9 +39,9 @@ use Rattle.report.specs.Line.{refusalLine}
 use Rattle.report.specs.Report.{report, programEquivalence, textOf, profiled, printed}
 
 -- accepted, w has a well-formed type; and its place is at most the number of bytes of a table
-record Printed (e : Equivalence) (w : Written) : Type 0 where
-  formed : w .outcome .number ≡ 0 → IsType e (w .bytes) (typeOf e (w .bytes))
-  near : w .outcome .place ≤ maxLength
+pub record Printed (e : Equivalence) (w : Written) : Type 0 where
+  pub formed : w .outcome .number ≡ 0 → IsType e (w .bytes) (typeOf e (w .bytes))
+  pub near : w .outcome .place ≤ maxLength
 
 printed-refusal : {e : Equivalence} (number place : ℕ) → place ≤ maxLength → Printed e (turnedDown (suc number) place)
 printed-refusal number place h = record { formed = λ z. absurd (omega arith); near = h }
@@ -75,7 +75,7 @@ module _ (e : Equivalence) (b : List ℕ) (bytes : Bytes b) where
   printed-from l (suc j) h = printed-refusal j (judged b .place) (⊎-elim (λ z. omega arith) (λ z. omega (arith, length-fits (length b) .0 l .1)) (placed b .1))
 
 -- the type that the program reports
-printed-profiled : (b : List ℕ) → Bytes b → Printed programEquivalence (profiled b)
+pub printed-profiled : (b : List ℕ) → Bytes b → Printed programEquivalence (profiled b)
 unfolding inferred badTypeLength
 printed-profiled b bytes = go (badLength (length b)) refl
   where

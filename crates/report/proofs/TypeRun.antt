@@ -73,7 +73,7 @@ module _ {e : Equivalence} {b : List ℕ} (t : IsType e b (typeOf e b)) where
   whole-type : f ≡ typeIn e b 0 (typeRecords b)
   whole-type = typed held
 
-  whole-shares : Shares (total Counting f) f
+  pub whole-shares : Shares (total Counting f) f
   unfolding largestTotal
   whole-shares = shares e false (total Counting f) f (t .tagged) (t .counts) (t .fields) (omega (arith, limit-totals f (t .limit))) (omega (arith, limit-totals f (t .limit))) (omega arith)
 

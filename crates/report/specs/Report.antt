@@ -1,8 +1,10 @@
 -- 'The profile program' of document 01: the report of a type, one line per type record.
+use mathlib.Core.Path.{_≡_}
 use mathlib.Core.Bool.{cond}
 use mathlib.Core.List.{List, [], _++_}
 use Prim.Native.Nat.{ℕ, zero, suc, max}
 use lib.Dec.{eqb}
+use Rattle.byte_records.specs.Number.{Bytes}
 use Rattle.value_table.specs.Value.{recordKind}
 use Rattle.counting_theory.specs.Trie.{nil, node, total}
 use Rattle.counting_theory.specs.Label.{Equivalence, byKind, Label, Counting, CountingType}
@@ -10,7 +12,7 @@ use Rattle.counting_theory.specs.Encoding.{typeOf}
 use Rattle.counting_theory.specs.WellFormed.{depthInside}
 use Rattle.counting_theory.specs.Answers.{equivalenceNumber, Written, largestArena, inferred}
 use Rattle.report.specs.Decimal.{digitCount}
-use Rattle.report.specs.Line.{share, lineOf, refusalLine}
+use Rattle.report.specs.Line.{share, NoFalseEnd, lineOf, refusalLine}
 
 -- what a share inside a node is against: a field's against its record's count, an addend's against its union's total
 abbrev pub wholeInside : Label → ℕ → CountingType → ℕ
@@ -49,3 +51,16 @@ profiled input = inferred input (equivalenceNumber programEquivalence) largestAr
 -- what the program prints for its input
 unfoldable pub printed : List ℕ → List ℕ
 printed input = textOf (profiled input .outcome .number) (profiled input)
+
+-- no share in the lines of a union, or of the fields of a record, has a false end; none in a report; and none that the program prints
+abbrev pub EachShare : (whole : ℕ) → CountingType → Type 0
+EachShare whole nil = Unit {0}
+EachShare whole (node l a inner next) =
+    NoFalseEnd (a .count) whole × EachShare (wholeInside l (a .count) inner) inner × EachShare whole next
+
+abbrev pub ReportsNoFalseEnd : CountingType → Type 0
+ReportsNoFalseEnd t = EachShare (total Counting t) t
+
+abbrev pub PrintsNoFalseEnd : Type 0
+PrintsNoFalseEnd = (input : List ℕ) → Bytes input → profiled input .outcome .number ≡ 0 →
+    ReportsNoFalseEnd (typeOf programEquivalence (profiled input .bytes))

@@ -12,7 +12,7 @@ ghost use lib.ListN.{length};
 ghost use Rattle.counting_theory.specs.WellFormed.{maxTotal};
 ghost use Rattle.report.specs.Decimal.{decimal};
 ghost use Rattle.report.specs.Inside.Room.{maxDigits, TextStored, wordLimit, lineLimit};
-ghost use Rattle.report.specs.Line.{kindWord, share as shareOf, lineOf};
+ghost use Rattle.report.specs.Line.{kindWord, rounded as roundedOf, withoutFalseEnd, share as shareOf, lineOf};
 
 // The most bytes of a word, and the bytes of each kind's word.
 const WORD_LIMIT: usize = 5;
@@ -23,11 +23,34 @@ const WORD_LENGTHS: [usize; 8] = [0, 4, 4, 3, 3, 3, 3, 5];
 pub const LINE_LIMIT: usize = 4 * MAX_DIGITS + WORD_LIMIT + 5;
 
 // In thousandths, to the nearest, halves up.
+fn rounded(count: usize, whole: usize) -> usize
+    requires { ⌜ (1 ≤ whole) × (count ≤ whole) × (whole ≤ maxTotal) ⌝ }
+    ensures { λ r. ⌜ (r ≡ roundedOf count whole) × (r ≤ 1000) ⌝ }
+{
+    (2000 * count + whole) / (2 * whole)
+}
+
+// Below the whole, 1000 would mean all and 0 none.
+fn without_false_end(thousandths: usize) -> usize
+    ensures { λ r. ⌜ r ≡ withoutFalseEnd thousandths ⌝ }
+{
+    match thousandths {
+        1000 => 999,
+        0 => 1,
+        _ => thousandths,
+    }
+}
+
+// In thousandths, 1000 only for the whole.
 pub fn share(count: usize, whole: usize) -> usize
     requires { ⌜ (1 ≤ whole) × (count ≤ whole) × (whole ≤ maxTotal) ⌝ }
     ensures { λ r. ⌜ (r ≡ shareOf count whole) × (r ≤ 1000) ⌝ }
 {
-    (2000 * count + whole) / (2 * whole)
+    let thousandths = rounded(count, whole);
+    if count < whole {
+        return without_false_end(thousandths);
+    }
+    thousandths
 }
 
 // The word of a kind; kinds 1 to 7 have one.

@@ -2,7 +2,7 @@
 use mathlib.Core.Path.{refl}
 use native.Mathlib.Omega.{arith}
 use borrow.Author.Needs.{needs}
-use Rattle.report.proofs.Lines.{no-word, word-at}
+use Rattle.report.proofs.Words.{no-word, word-at}
 use Rattle.report.proofs.line.put_kind.Statement.{statement}
 use Rattle.report.proofs.line.put_kind.Tie as tie
 

@@ -1,16 +1,14 @@
--- Words and shares.
+-- The words of kinds.
 use mathlib.Core.Path.{_≡_, refl}
 use mathlib.Core.Bool.{Bool, _&&_}
 use mathlib.Core.List.{List, [], _∷_}
-use Prim.Native.Nat.{ℕ, _+_, _-_, _*_, _/_, _≤_, _<_}
-use native.Mathlib.Nat.{div-lt-iff-lt-mul}
-use native.Mathlib.Omega.{arith}
+use Prim.Native.Nat.{ℕ, _+_, _-_, _*_, _≤_, _<_}
 use lib.Dec.{leb}
 use lib.ListN.{length, take, drop, getD, List·getD-eq-default}
 use borrow.Author.Tests.{leb-true}
 use Rattle.counting_theory.proofs.WellFormed.Tests.{three-parts}
 use Rattle.report.specs.Decimal.{text}
-use Rattle.report.specs.Line.{words, kindWord, share}
+use Rattle.report.specs.Line.{words, kindWord}
 use Rattle.report.specs.Inside.Room.{wordLimit}
 use Rattle.report.proofs.Table.{at, same, same-true}
 
@@ -43,8 +41,3 @@ word-at kind h =
 pub no-word : (kind : ℕ) → length words ≤ kind → kindWord kind ≡ []
 unfolding kindWord
 no-word kind h = List·getD-eq-default words [] h
-
-pub share-below : (count whole : ℕ) → 1 ≤ whole → count ≤ whole → share count whole ≤ 1000
-unfolding share
-share-below count whole h i =
-    let j : (2000 * count + whole) / (2 * whole) < 1001 = div-lt-iff-lt-mul {k = 2 * whole} {x = 2000 * count + whole} {y = 1001} (omega arith) .1 (omega arith) in omega arith
