@@ -1,12 +1,10 @@
 // Trials of the calls by documents 01 and 02, and every refusal of them: reads the trials, and prints the answer to each as a line.
-mod entries;
 mod lines;
-mod output;
 mod texts;
 mod trial;
 
 fn main() {
-    let mut text = [0u8; 131072];
+    let mut text = [0u8; 262144];
     let n = io::read_full(0, &mut text);
     lines::each_line(&text[..n]);
 }

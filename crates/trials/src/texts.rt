@@ -1,11 +1,8 @@
 // A trial of the call that reads a text: builds the book and the text, and prints the answer, how many bytes behind the records are not zero,
 // and the records, written as in the other trials.
-use crate::output::nonzero;
-use crate::output::print;
-use crate::output::print_answer;
-use crate::trial::DIRT;
-use crate::trial::ROOM;
 use text_reader::call;
+use trial_notation::buffers::DIRT;
+use trial_notation::buffers::ROOM;
 use trial_notation::records::Layout;
 use trial_notation::records::start_of;
 use trial_notation::spelled::put_book;
@@ -13,6 +10,9 @@ use trial_notation::spelled::put_spelled;
 use trial_notation::text::find;
 use trial_notation::text::number_or;
 use trial_notation::text::part;
+use trial_output::nonzero;
+use trial_output::print;
+use trial_output::print_answer;
 use value_table::record;
 use value_table::record::key_at;
 use value_table::record::kind_at;

@@ -1,8 +1,8 @@
 -- `checksum` is safe and ends: the loop stays within the bytes, and keeps both sums below their modulus.
 use Prim.Native.Nat.{_≤_, _<_, _-_}
 use borrow.Author.Needs.{needs}
-use Rattle.trials.proofs.output.checksum.Statement.{statement}
-use Rattle.trials.proofs.output.checksum.Tie as tie
+use Rattle.trial_output.proofs.checksum.Statement.{statement}
+use Rattle.trial_output.proofs.checksum.Tie as tie
 
 abbrev Inv-loop : tie.InvT-loop
 Inv-loop bytes low₀ high₀ n k₀ low high k = (k ≤ n) × (low < 65521) × (high < 65521)

@@ -1,22 +1,22 @@
 // A trial of the inference for the tag bus: builds the table, and prints the answer, how many bytes behind the type, in the working buffer
 // and behind the entries are not zero, the type, and of each entry the word and the number beside it.
-use crate::output::LONGEST;
-use crate::output::behind_type;
-use crate::output::nonzero;
-use crate::output::print;
-use crate::output::print_answer;
-use crate::output::print_checksum;
-use crate::output::print_type;
-use crate::output::type_in;
-use crate::trial::DIRT;
-use crate::trial::LARGEST;
-use crate::trial::ROOM;
 use byte_records::little_endian::number64;
+use trial_notation::buffers::DIRT;
+use trial_notation::buffers::LARGEST;
+use trial_notation::buffers::ROOM;
 use trial_notation::notation::build;
 use trial_notation::records::Layout;
 use trial_notation::records::start_of;
 use trial_notation::text::number_or;
 use trial_notation::text::part;
+use trial_output::LONGEST;
+use trial_output::behind_type;
+use trial_output::nonzero;
+use trial_output::print;
+use trial_output::print_answer;
+use trial_output::print_checksum;
+use trial_output::print_type;
+use trial_output::type_in;
 use type_arena::type_record;
 use type_arena::type_record::kind_at;
 use value_table::record;

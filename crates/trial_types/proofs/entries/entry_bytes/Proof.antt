@@ -1,8 +1,8 @@
 -- `entry_bytes` is safe and ends: the loop stays within the records.
 use Prim.Native.Nat.{_≤_, _-_}
 use borrow.Author.Needs.{needs}
-use Rattle.trials.proofs.entries.entry_bytes.Statement.{statement}
-use Rattle.trials.proofs.entries.entry_bytes.Tie as tie
+use Rattle.trial_types.proofs.entries.entry_bytes.Statement.{statement}
+use Rattle.trial_types.proofs.entries.entry_bytes.Tie as tie
 
 abbrev Inv-loop : tie.InvT-loop
 Inv-loop bytes end₀ n i₀ end i = i ≤ n

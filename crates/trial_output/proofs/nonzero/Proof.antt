@@ -1,8 +1,8 @@
 -- `nonzero` is safe and ends: the loop stays within the bytes.
 use Prim.Native.Nat.{_≤_, _-_}
 use borrow.Author.Needs.{needs}
-use Rattle.trials.proofs.output.nonzero.Statement.{statement}
-use Rattle.trials.proofs.output.nonzero.Tie as tie
+use Rattle.trial_output.proofs.nonzero.Statement.{statement}
+use Rattle.trial_output.proofs.nonzero.Tie as tie
 
 abbrev Inv-loop : tie.InvT-loop
 Inv-loop bytes count₀ n k₀ count k = k ≤ n

@@ -1,8 +1,8 @@
 -- `print_each` is safe and ends: the loop stays within the entries.
 use Prim.Native.Nat.{_≤_, _-_}
 use borrow.Author.Needs.{needs}
-use Rattle.trials.proofs.entries.print_each.Statement.{statement}
-use Rattle.trials.proofs.entries.print_each.Tie as tie
+use Rattle.trial_types.proofs.entries.print_each.Statement.{statement}
+use Rattle.trial_types.proofs.entries.print_each.Tie as tie
 
 abbrev Inv-loop : tie.InvT-loop
 Inv-loop entries n i₀ t4 i = i ≤ n

@@ -1,8 +1,8 @@
 -- `print_records` is safe and ends: the loop stays within the records.
 use Prim.Native.Nat.{_≤_, _-_}
 use borrow.Author.Needs.{needs}
-use Rattle.trials.proofs.output.print_records.Statement.{statement}
-use Rattle.trials.proofs.output.print_records.Tie as tie
+use Rattle.trial_output.proofs.print_records.Statement.{statement}
+use Rattle.trial_output.proofs.print_records.Tie as tie
 
 abbrev Inv-loop : tie.InvT-loop
 Inv-loop bytes n i₀ t4 i = i ≤ n
