@@ -1,4 +1,4 @@
-//! An arena that is written as far as there is room, for the plain merge, removal and inferences.
+//! An arena that is written as far as there is room, for the plain merge, removal, fold and inferences.
 
 use crate::type_validator::SIZE;
 

@@ -1,16 +1,18 @@
 //! Compares and times the calls of the library against plain Rust of the same rules.
 //!
 //! Arguments: the files with a log, as a value table and as text, and with its key book; then `texts` to time the reading of texts only,
-//! `removals` for removal, or `tagbus` for the inference for the tag bus beside call 2.
+//! `removals` for removal, `tagbus` for the inference for the tag bus beside call 2, or `folds` for folding.
 
 mod arena;
 mod comparing;
+mod folds;
 mod front;
 mod growth;
 mod inferences;
 mod judges;
 mod merges;
 mod pair;
+mod plain_fold;
 mod plain_inference;
 mod plain_merge;
 mod plain_reader;
@@ -82,6 +84,24 @@ fn tag_bus(log: &[u8]) {
     println!();
 }
 
+fn folds(log: &[u8]) {
+    let largest = folds::rows(4096, log);
+    let refused = folds::refused_workloads(4096);
+    for (rows, turns) in [(&folds::rows(100, log), 20_000), (&largest, 10)] {
+        for row in rows {
+            folds::compare(row, turns);
+        }
+    }
+    compare(&folds::refused_workloads(100), 20_000);
+    compare(&refused, 10);
+    folds::report(&largest);
+    println!();
+    timing::report(&refused);
+    println!();
+    growth::report(|kib| folds::growing(64 * kib));
+    println!();
+}
+
 fn texts(log: &[u8], book: &[u8]) {
     let log = std::str::from_utf8(log).expect("a text in UTF-8");
     let texts = readings::workloads(log, book);
@@ -102,9 +122,11 @@ fn main() {
             |n| removals::workloads(n as u16 / 2, &log),
         ),
         Some("tagbus") => tag_bus(&log),
+        Some("folds") => folds(&log),
         _ => {
             types(|n| workloads(n, &log), |n| writers(n, &log));
             tag_bus(&log);
+            folds(&log);
             texts(&file(1), &file(2));
         }
     }

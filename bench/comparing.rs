@@ -112,7 +112,7 @@ fn compare_rooms(workload: &Workload) -> [usize; 4] {
         pair, name, inputs, ..
     } = workload;
     let entries = workload.entries;
-    let answer = agree(pair, name, inputs, [workload.room, ROOM, entries]);
+    let answer = agree(pair, name, inputs, [workload.room, workload.room, entries]);
     assert_eq!(answer.number, workload.number, "{} of {name}", pair.name);
     if !pair.writes {
         return [0; 4];

@@ -37,8 +37,8 @@ pub fn answered_at(result: Result<usize, (u64, usize)>) -> Answer {
 pub const KIND: u64 = 0;
 pub const LABEL: u64 = 1;
 
-/// What a call reads. Only a merge, a removal and a reader of texts have a second input, another type or the book. The judge of tables and
-/// the reader ask for no equivalence.
+/// What a call reads. Only a merge, a removal and a reader of texts have a second input, another type or the book. The judge of tables,
+/// the reader and a fold ask for no equivalence.
 #[derive(Clone)]
 pub struct Inputs {
     pub first: Vec<u8>,
@@ -46,8 +46,8 @@ pub struct Inputs {
     pub equivalence: u64,
 }
 
-/// What a call writes. Only an inference has a working buffer, only that for the tag bus has entries, and the judges have no arena; the
-/// reader's is a table.
+/// What a call writes. Only an inference and a fold have a working buffer, only the inference for the tag bus has entries, and the judges
+/// have no arena; the reader's is a table.
 #[derive(PartialEq)]
 pub struct Buffers {
     pub arena: Vec<u8>,
@@ -70,7 +70,7 @@ pub struct Pair {
 /// The length of the largest arena.
 pub const ROOM: usize = 65_536;
 
-/// A call on inputs, with an arena and entries of a length.
+/// A call on inputs, with an arena and entries of a length. A working buffer is as long as the arena.
 pub struct Workload {
     pub pair: &'static Pair,
     pub name: String,

@@ -43,7 +43,8 @@ fn merged(first: &[u8], second: &[u8], equivalence: u64) -> Vec<u8> {
     arena
 }
 
-fn inferred(table: &[u8], equivalence: u64) -> Vec<u8> {
+/// The type of a table.
+pub fn inferred(table: &[u8], equivalence: u64) -> Vec<u8> {
     let mut arena = vec![0; ROOM];
     let records = plain_inference::infer(table, equivalence, &mut arena, &mut vec![0; ROOM]);
     arena.truncate(REMOVE.size * records.expect("a table"));

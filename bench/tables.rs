@@ -1,5 +1,6 @@
 //! Tables for the workloads.
 
+use crate::front::front;
 use crate::sequence::{shuffled, Sequence};
 use crate::validator::{header, MAX_FIELDS, SIZE};
 
@@ -229,4 +230,35 @@ pub fn first_messages(log: &[u8], n: usize) -> Vec<u8> {
         records = next;
     }
     log[..8 * records].to_vec()
+}
+
+/// One value at each place of a type whose counts are all 1, which is then the table's type under label.
+pub fn one_each(bytes: &[u8]) -> Vec<u8> {
+    let mut table = Vec::new();
+    put_union(&mut table, bytes, 0);
+    table
+}
+
+/// The values of a union, with this key.
+fn put_union(table: &mut Vec<u8>, mut union: &[u8], key: u16) {
+    while !union.is_empty() {
+        let addend = front(union);
+        let at = table.len();
+        put(table, addend.header.kind, key, 1);
+        match addend.header.kind {
+            RECORD => put_fields(table, addend.inside),
+            _ => put_union(table, addend.inside, 0),
+        }
+        let span = ((table.len() - at) / SIZE) as u32;
+        table[at + 4..at + 8].copy_from_slice(&span.to_le_bytes());
+        union = addend.rest;
+    }
+}
+
+fn put_fields(table: &mut Vec<u8>, mut fields: &[u8]) {
+    while !fields.is_empty() {
+        let field = front(fields);
+        put_union(table, field.inside, field.header.key);
+        fields = field.rest;
+    }
 }

@@ -1,6 +1,6 @@
 //! Times a call of the library and the same call in plain Rust, in rounds that alternate so that noise meets both.
 
-use crate::pair::{Buffers, Call, Inputs, Pair, Workload, ROOM};
+use crate::pair::{Buffers, Call, Inputs, Pair, Workload};
 use std::hint::black_box;
 use std::time::{Duration, Instant};
 
@@ -50,11 +50,11 @@ fn turns(n: usize, mut run: impl FnMut() -> f64) -> u32 {
     (SAMPLE.as_nanos() as f64 / once).max(1.0) as u32
 }
 
-/// Takes rounds for a time, with these lengths of the arena and of the entries.
+/// Takes rounds for a time, with these lengths of the arena, which is that of the working buffer too, and of the entries.
 pub fn measure(pair: &Pair, inputs: &[Inputs], lengths: [usize; 2], time_for: Duration) -> Times {
     let mut buffers = Buffers {
         arena: vec![0; lengths[0]],
-        work: vec![0; ROOM],
+        work: vec![0; lengths[0]],
         entries: vec![0; lengths[1]],
     };
     let mut run = |call, turns| time(call, inputs, &mut buffers, turns);

@@ -3,7 +3,7 @@
 use std::cmp::Ordering;
 
 pub const RECORD: u8 = 5;
-const ARRAY: u8 = 6;
+pub const ARRAY: u8 = 6;
 pub const FIELD: u8 = 7;
 pub const SIZE: usize = 16;
 const MAX_DEPTH: usize = 32;

@@ -1,14 +1,19 @@
-//! Types for the workloads. All their counts are 1, so that most of them are well formed under both equivalences.
+//! Types for the workloads. But for full arrays their counts are 1, so that most of them are well formed under both equivalences.
 
-const SIZE: usize = 16;
+use crate::type_validator::{MAX_TOTAL, SIZE};
+use crate::validator::MAX_FIELDS;
 
-fn row(kind: u8, key: u16, inner: &[u8]) -> Vec<u8> {
+fn counted(kind: u8, key: u16, count: u64, inner: &[u8]) -> Vec<u8> {
     let mut bytes = vec![kind, 0];
     bytes.extend(key.to_le_bytes());
     bytes.extend((1 + (inner.len() / SIZE) as u32).to_le_bytes());
-    bytes.extend(1u64.to_le_bytes());
+    bytes.extend(count.to_le_bytes());
     bytes.extend(inner);
     bytes
+}
+
+fn row(kind: u8, key: u16, inner: &[u8]) -> Vec<u8> {
+    counted(kind, key, 1, inner)
 }
 
 fn null() -> Vec<u8> {
@@ -61,4 +66,60 @@ pub fn deep(keys: impl IntoIterator<Item = u16>) -> Vec<u8> {
     });
     let fields: Vec<_> = keys.into_iter().map(|key| field(key, &chain)).collect();
     record(&fields)
+}
+
+/// At most eight records with many keys in common: of 1 to f each lacks one.
+pub fn lacking_one(f: u16) -> Vec<u8> {
+    let lacking = |missing| with_keys((1..=f).filter(move |key| *key != missing));
+    (1..=f.min(8)).rev().flat_map(lacking).collect()
+}
+
+/// Arrays in arrays to a depth, with records of three key lists in each.
+fn arrays_of_records(depth: usize) -> Vec<u8> {
+    if depth == 0 {
+        return array(&null());
+    }
+    let inner = || field(1, &arrays_of_records(depth - 1));
+    let with = |key| record(&[inner(), field(key, &null())]);
+    array(&[record(&[inner()]), with(2), with(3)].concat())
+}
+
+/// A field with such arrays for each key.
+pub fn nested_records(keys: impl IntoIterator<Item = u16>) -> Vec<u8> {
+    let arrays = arrays_of_records(2);
+    let fields: Vec<_> = keys.into_iter().map(|key| field(key, &arrays)).collect();
+    record(&fields)
+}
+
+/// Of the keys 1 to 2 m, records with the first and the last, the second and the last but one, and so on. In the folded record each field
+/// stands in the middle of those before it.
+pub fn outside_in(m: u16) -> Vec<u8> {
+    let pair = |i| with_keys([i, 2 * m + 1 - i]);
+    (1..=m).flat_map(pair).collect()
+}
+
+/// Records with a record of b fields at one key, so many of them. In the folded type its fields stand before all that came earlier.
+pub fn descending(blocks: u16, b: u16) -> Vec<u8> {
+    let block = |j| {
+        let first = 1 + b * (blocks - j);
+        let inner = field(1, &with_keys(first..first + b));
+        record(&[inner, field(1 + j, &null())])
+    };
+    (1..=blocks).flat_map(block).collect()
+}
+
+/// Records with keys from 1 to f, at most as many as one of a table may have. In the folded type all but the first key stand before the
+/// last one of the first record.
+pub fn before_last(f: u16) -> Vec<u8> {
+    let keys: Vec<u16> = (2..=f).collect();
+    let others = keys.chunks(MAX_FIELDS).map(<[u16]>::to_vec);
+    let lists = std::iter::once(vec![1, u16::MAX]).chain(others);
+    lists.flat_map(with_keys).collect()
+}
+
+/// For each key a record with that key and with an array of as many nulls as a union may have, at one key.
+pub fn full_arrays(keys: impl IntoIterator<Item = u16>) -> Vec<u8> {
+    let full = field(1, &array(&counted(1, 0, MAX_TOTAL, &[])));
+    let with = |key| record(&[full.clone(), field(1 + key, &null())]);
+    keys.into_iter().flat_map(with).collect()
 }

@@ -21,7 +21,7 @@ extern "C" {
 #define CT_DEPTH 7       /* depth 33; in a text, at the first byte of the value */
 #define CT_FIRST_TYPE 8  /* the first or only type is not well formed */
 #define CT_SECOND_TYPE 9 /* the second type is not well formed */
-#define CT_TOTAL 10      /* a total of the merged type is above 1,000,000,000,000,000 */
+#define CT_TOTAL 10      /* a total of the merged or folded type is above 1,000,000,000,000,000 */
 #define CT_ROOM 11       /* the resulting type has more records than the arena, or more addends of kind 5 than there are entries; in a
                             text, at the first byte of a value for which the table has no room */
 #define CT_GRAMMAR 12    /* a byte with which the text cannot go on, or the end of a text that is not finished */
@@ -68,7 +68,7 @@ struct ct_answer ct_infer(const uint8_t *table, size_t table_length, uint64_t eq
  *
  * Judge, merge and take apart its types under CT_BY_LABEL. Earlier the house default was CT_BY_KIND: types that this call made then stay
  * usable under CT_BY_KIND. Under CT_BY_LABEL such a type is not well formed (CT_FIRST_TYPE, CT_SECOND_TYPE), unless each of its fields has
- * the count of its record. A type under label may have more records than the one under kind. */
+ * the count of its record. A type under label may have more records than the one under kind, which ct_fold makes of it. */
 struct ct_answer ct_infer_default(const uint8_t *table, size_t table_length, uint8_t *arena, size_t arena_length, uint8_t *work,
                                   size_t work_length);
 
@@ -147,6 +147,24 @@ struct ct_answer ct_remove(const uint8_t *whole, size_t whole_length, const uint
  * length 0. */
 struct ct_answer ct_infer_tag_bus(const uint8_t *table, size_t table_length, uint8_t *arena, size_t arena_length, uint8_t *work,
                                   size_t work_length, uint8_t *entries, size_t entries_length);
+
+/* Folds a type under CT_BY_LABEL: writes into the arena the type under CT_BY_KIND of the same messages, which are not needed for it.
+ *
+ * In every union, below fields and in the contents of arrays too, the addends of kind 5 become one, with all their fields. The type
+ * of a table under CT_BY_LABEL becomes the one that ct_infer gives under CT_BY_KIND. Types may be merged under CT_BY_LABEL and the result
+ * folded, or folded first and merged under CT_BY_KIND: that gives the same bytes. A folded type never has more records than the type
+ * under label.
+ *
+ * Accepted, the count is the number of records of the folded type, which stands in the front of the arena; the rest of the arena is
+ * zero. Refused, the place is 0 and the whole arena is zero. The lengths come first (CT_LENGTH), then the type (CT_FIRST_TYPE, also where
+ * it is well formed under CT_BY_KIND only), the totals (CT_TOTAL), and at last the room (CT_ROOM), for which the records of the folded type
+ * decide. A type within the limit can pass it when folded: where records with different keys have arrays at one key, their elements add up.
+ * The working buffer has the length of the arena and is zero afterwards, in either case. What the two buffers held before makes no
+ * difference.
+ *
+ * `bytes` points to `length` bytes that nobody writes during the call. The three buffers don't overlap. None of them is null, even for
+ * length 0. The call takes up to 80 KiB of the caller's stack, 64 of them for the folded type where the arena is too small for it. */
+struct ct_answer ct_fold(const uint8_t *bytes, size_t length, uint8_t *arena, size_t arena_length, uint8_t *work, size_t work_length);
 
 #ifdef __cplusplus
 }

@@ -1,5 +1,5 @@
 /* Reads three messages, the example of document 01, from JSON text, infers their type, merges it with itself, takes one message out of it,
-   prints the types, and the key sets of the records as for the tag bus. */
+   folds it to the type under kind, prints the types, and the key sets of the records as for the tag bus. */
 #include "ct.h"
 
 #include <inttypes.h>
@@ -48,6 +48,20 @@ static void take_out(const uint8_t *table, const uint8_t *type, size_t used)
     print_answer("take all out of the second", ct_remove(part, part_used, type, used, CT_BY_LABEL, rest, ARENA));
 }
 
+/* The type under kind from that under label, without the messages. It is folded once only: under label it is not well formed. */
+static void fold(const uint8_t *type, size_t used)
+{
+    enum { SIX = 6 * RECORD };
+    uint8_t folded[ARENA], work[ARENA], again[ARENA];
+
+    struct ct_answer answer = ct_fold(type, used, folded, ARENA, work, ARENA);
+    print_answer("fold to kind", answer);
+    print_type(folded, answer.count);
+
+    print_answer("fold it again", ct_fold(folded, answer.count * RECORD, again, ARENA, work, ARENA));
+    print_answer("fold with room for six", ct_fold(type, used, folded, SIX, work, SIX));
+}
+
 /* The messages have three key sets, of keys below 65. */
 static void for_tag_bus(const uint8_t *table, size_t length)
 {
@@ -85,6 +99,7 @@ int main(void)
     print_type(merged, answer.count);
 
     take_out(table, type, used);
+    fold(type, used);
 
     print_answer("merge with itself under kind", ct_merge(type, used, type, used, CT_BY_KIND, merged, ARENA));
     print_answer("infer with room for eleven", ct_infer_default(table, length, type, ARENA - RECORD, work, ARENA - RECORD));

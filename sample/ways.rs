@@ -1,5 +1,5 @@
 //! Reads a log from JSON text, brings its messages together in several ways, and says whether all of them end in the same bytes; then takes
-//! the first messages out again. At last infers the log's type for the tag bus. `tests/ways.py` says which bytes.
+//! the first messages out again. At last folds the log's type, and infers it for the tag bus. `tests/ways.py` says which bytes.
 //!
 //! Arguments: the files with the log, as a value table and as text, and with the key book.
 
@@ -208,6 +208,18 @@ fn compare(log: &[u8], fixed: Fixed) -> bool {
     same || refused
 }
 
+/// The log's type under kind, from that under label and without the log.
+fn folded(log: &[u8]) -> Result<Written, Refusal> {
+    let by_label = Fixed {
+        equivalence: Equivalence::Label,
+        arena: LONGEST,
+    };
+    let detailed = by_label.infer(log)?;
+    let [mut arena, mut work] = [(); 2].map(|()| vec![0; LONGEST]);
+    let records = ct::fold(detailed.in_use(), &mut arena, &mut work)?;
+    Ok(Written { arena, records })
+}
+
 /// The log has seventeen keys, which the tag bus may have: its type is that under label, and the entries have the key sets.
 fn for_tag_bus(log: &[u8]) {
     let [mut arena, mut work, mut entries] = [(); 3].map(|()| vec![0; LONGEST]);
@@ -241,6 +253,7 @@ fn main() {
     ] {
         alike &= compare(&log, Fixed { equivalence, arena });
     }
+    print_line("label, folded to kind", "", &folded(&log));
     for_tag_bus(&log);
     std::process::exit(if alike { 0 } else { 1 });
 }

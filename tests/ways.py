@@ -1,5 +1,6 @@
 """What sample/ways.rs must print for a log, from the map of places to counts (inferences.py): every way ends in the log's profile, and
-without some messages that is the profile of the others. The entries for the tag bus are those of tag_bus.py.
+without some messages that is the profile of the others. Folded it is the profile under kind. The entries for the tag bus are those of
+tag_bus.py.
 
 Run by tests/run: python3 tests/ways.py sample/log.table sample/log.json
 """
@@ -53,6 +54,11 @@ def lines(log, starts, name, equivalence, arena):
     yield ""
 
 
+def folded_line(log):
+    number, _, rows = infer(log, KIND, LARGEST, LARGEST)
+    return line("label, folded to kind", "", number, rows, LARGEST)
+
+
 def tag_bus_lines(log):
     number, _, rows, entries = tag_bus.infer(log, LARGEST, LARGEST, LARGEST)
     yield line("for the tag bus", "", number, rows, LARGEST)
@@ -68,4 +74,5 @@ if __name__ == "__main__":
     print(f"{text}: {Path(text).stat().st_size} bytes, the same table\n")
     for name, equivalence, arena in ("Kind", KIND, LARGEST), ("Label", LABEL, LARGEST), ("Label", LABEL, 16 * 64):
         print("\n".join(lines(log, starts, name, equivalence, arena)))
+    print(folded_line(log))
     print("\n".join(tag_bus_lines(log)))

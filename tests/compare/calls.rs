@@ -1,7 +1,7 @@
 //! The calls: what each must answer and leave in the buffers lent to it, by its inputs.
 
 use crate::json;
-use crate::profile::{difference, passes_limit, profile, sum, Equivalence, Profile};
+use crate::profile::{difference, passes_limit, profile, sum, to_kind, Equivalence, Profile};
 use crate::types;
 use crate::value::{self, is_length, Fault};
 
@@ -51,6 +51,11 @@ pub enum Call<'a> {
         work: usize,
         entries: usize,
     },
+    Fold {
+        bytes: &'a [u8],
+        arena: usize,
+        work: usize,
+    },
 }
 
 /// The answer, and every byte of the buffers. A text is read into the arena.
@@ -84,6 +89,7 @@ impl Call<'_> {
             Call::ReadText { .. } => 6,
             Call::Remove { .. } => 7,
             Call::InferTagBus { .. } => 8,
+            Call::Fold { .. } => 9,
         }
     }
 
@@ -128,6 +134,7 @@ impl Call<'_> {
                 let lengths = [arena, work, entries];
                 settle(infer_tag_bus(table, lengths), lengths)
             }
+            Call::Fold { bytes, arena, work } => settle(fold(bytes, arena, work), [arena, work, 0]),
         }
     }
 }
@@ -222,6 +229,18 @@ fn remove(whole: &[u8], part: &[u8], number: u64, arena: usize) -> Result<Accept
         return Err((16, 0));
     }
     fit(rest, arena)
+}
+
+fn fold(bytes: &[u8], arena: usize, work: usize) -> Result<Accepted, Fault> {
+    if !is_length(bytes.len(), types::SIZE) || !is_length(arena, types::SIZE) || work != arena {
+        return Err((1, 0));
+    }
+    let by_label = types::read(bytes, Equivalence::Label).ok_or((8, 0))?;
+    let by_kind = to_kind(&by_label);
+    if passes_limit(&by_kind) {
+        return Err((10, 0));
+    }
+    fit(types::write(&by_kind), arena)
 }
 
 fn equivalence(number: u64) -> Result<Equivalence, Fault> {

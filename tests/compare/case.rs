@@ -102,6 +102,12 @@ fn show_call(call: &Call) -> String {
             "table {}\narena {arena}, working buffer {work}, entries {entries}\n",
             hex(table)
         ),
+        Call::Fold { bytes, arena, work } => {
+            format!(
+                "type {}\narena {arena}, working buffer {work}\n",
+                hex(bytes)
+            )
+        }
     };
     format!("call {}\n{inputs}", call.number())
 }

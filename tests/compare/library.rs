@@ -103,6 +103,7 @@ pub fn run(call: &Call, random: &mut Random) -> Result<Outcome, &'static str> {
             work,
             entries,
         } => infer_tag_bus(table, [arena, work, entries], random),
+        Call::Fold { bytes, arena, work } => fold(bytes, [arena, work], random),
     }
 }
 
@@ -157,6 +158,19 @@ fn infer_tag_bus(
         entries: entries.written()?,
         ..outcome(answer, arena.written()?, work.written()?)
     })
+}
+
+fn fold(bytes: &[u8], lengths: [usize; 2], random: &mut Random) -> Result<Outcome, &'static str> {
+    let bytes = Lent::holding(random, bytes);
+    let [mut arena, mut work] = lengths.map(|length| Lent::random(random, length));
+    let (b, a, w) = (bytes.content(), arena.content_mut(), work.content_mut());
+    let answer = if random.one_in(2) {
+        answer(ct::fold(b, a, w))
+    } else {
+        raw::fold(b, a, w)
+    };
+    bytes.kept()?;
+    Ok(outcome(answer, arena.written()?, work.written()?))
 }
 
 fn judge_type(

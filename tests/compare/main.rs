@@ -8,8 +8,10 @@ mod books;
 mod calls;
 mod case;
 mod counted;
+mod crowded;
 mod damage;
 mod extremes;
+mod folds;
 mod full_records;
 mod json;
 mod library;
@@ -65,7 +67,7 @@ fn main() {
 }
 
 fn run(case: &mut Case) {
-    match case.random.below(17) {
+    match case.random.below(21) {
         0..=2 => single::table(case),
         3..=4 => single::one_type(case),
         5..=7 => single::two_types(case),
@@ -74,6 +76,9 @@ fn run(case: &mut Case) {
         10 => ways::former_defaults(case),
         11 => removals::apart(case),
         12..=13 => tag_bus::table(case),
+        14 => folds::table(case),
+        15 => folds::merges(case),
+        16..=17 => folds::one_type(case),
         _ => removals::whole_and_part(case),
     }
     if case.index % 2 == 0 {

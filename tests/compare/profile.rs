@@ -118,6 +118,20 @@ pub fn difference(first: &Profile, second: &Profile) -> Option<Profile> {
     Some(rest)
 }
 
+/// The profile under kind that one under label tells of: classes lose their key lists, and counts add where places become one.
+pub fn to_kind(profile: &Profile) -> Profile {
+    let by_kind = |step: &Step| match step {
+        Step::Class(kind, _) => class(*kind, std::iter::empty(), Equivalence::Kind),
+        other => other.clone(),
+    };
+    let mut folded = Profile::new();
+    for (place, count) in profile {
+        let place = place.iter().map(by_kind).collect();
+        *folded.entry(place).or_insert(0) += count;
+    }
+    folded
+}
+
 /// The total of each union, by what the classes of its addends follow.
 pub fn totals(profile: &Profile) -> BTreeMap<&[Step], u128> {
     let mut totals = BTreeMap::new();

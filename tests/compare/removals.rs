@@ -110,7 +110,7 @@ fn part(whole: &Profile, other: Profile, equivalence: Equivalence, random: &mut 
 }
 
 /// The bytes of a type, now and then damaged or too long.
-fn given(profile: &Profile, random: &mut Random) -> Vec<u8> {
+pub fn given(profile: &Profile, random: &mut Random) -> Vec<u8> {
     let mut bytes = types::write(profile);
     match random.below(200) {
         0..=9 => bytes = damaged(&bytes, types::SIZE, random),

@@ -1,8 +1,9 @@
 //! Tables for the tag bus, each tried once: every table of few records with keys at the border, every key in a field, every two keys,
-//! records at every depth, and types that fill the arena or have as many records of kind 5 as can be.
+//! records at every depth, and types that fill the arena or have as many records of kind 5 as can be. Types of few records are folded too.
 
 use crate::calls::ON_BUS;
 use crate::case::Case;
+use crate::folds;
 use crate::runs::runs;
 use crate::tag_bus::infer;
 use crate::types;
@@ -20,6 +21,7 @@ pub fn compare(case: &mut Case) {
     for records in 0..=5 {
         for table in runs(records, &|n| values(0, n)) {
             with_rooms(case, &table, ROOM);
+            folds::of_table(case, &table, ROOM[0], [ROOM[0], ROOM[1]]);
         }
     }
     keys(case);

@@ -1,8 +1,9 @@
-//! Every small type as a whole with every one as a part, each tried once. What must be left is found by merging the part with every small
-//! type: one that is left has no more records and no higher counts than the whole, so it is small too.
+//! Every small type folded, and as a whole with every one as a part, each tried once. What must be left of a whole is found by merging the
+//! part with every small type: one that is left has no more records and no higher counts than the whole, so it is small too.
 
 use crate::calls::{Call, Outcome};
 use crate::case::{hex, Case};
+use crate::folds::fold;
 use crate::profile::{sum, Equivalence, Profile};
 use crate::runs::runs;
 use crate::single::EQUIVALENCES;
@@ -43,6 +44,9 @@ pub fn compare(case: &mut Case) {
         for equivalence in EQUIVALENCES {
             every_pair(case, &small.types(equivalence), equivalence);
         }
+        for bytes in small.types(Equivalence::Label).keys() {
+            fold_with_rooms(case, bytes);
+        }
     }
 }
 
@@ -53,6 +57,15 @@ fn every_pair(case: &mut Case, types: &Types, equivalence: Equivalence) {
             let rest = rests.get(whole).copied();
             remove(case, [whole, part], equivalence, rest);
         }
+    }
+}
+
+/// With as much room as the type takes, with as much as the folded one needs, with one record less, and with none.
+fn fold_with_rooms(case: &mut Case, bytes: &[u8]) {
+    let folded = fold(case, bytes, [bytes.len(); 2]);
+    let exact = SIZE * folded.count as usize;
+    for arena in [exact, exact.saturating_sub(SIZE), 0] {
+        fold(case, bytes, [arena; 2]);
     }
 }
 

@@ -1,16 +1,19 @@
 //! Counts how often each call and each way answered each number. A number that can occur must.
 
-/// The rows of ways over tables, of merge trees over types, of merges taken apart and of merges of former default types; a call's row has
-/// its number.
-pub const WAY: usize = 9;
-pub const MERGES: usize = 10;
-pub const APART: usize = 11;
-pub const FORMER: usize = 12;
+/// The rows of ways over tables, of merge trees over types, of merges taken apart, of merges of former default types, of tables' types
+/// that are folded, of folds with merges, and of folds that have no room; a call's row has its number.
+pub const WAY: usize = 10;
+pub const MERGES: usize = 11;
+pub const APART: usize = 12;
+pub const FORMER: usize = 13;
+pub const FOLDED: usize = 14;
+pub const FOLDED_MERGES: usize = 15;
+pub const FOLD_FULL: usize = 16;
 
 /// One more than the largest number that a call answers.
 const NUMBERS: usize = 18;
 
-const ROWS: [(&str, &[u64]); 12] = [
+const ROWS: [(&str, &[u64]); 16] = [
     ("1 judge a table", &[0, 1, 3, 4, 5, 6, 7, 15]),
     ("2 infer", &[0, 1, 2, 3, 4, 5, 6, 7, 11, 15]),
     ("3 infer, default", &[0, 1, 3, 4, 5, 6, 7, 11, 15]),
@@ -19,10 +22,14 @@ const ROWS: [(&str, &[u64]); 12] = [
     ("6 read a text", &[0, 1, 6, 7, 11, 12, 13, 14, 15]),
     ("7 remove", &[0, 1, 2, 8, 9, 11, 16]),
     ("8 infer, tag bus", &[0, 1, 3, 4, 5, 6, 7, 11, 17]),
+    ("9 fold", &[0, 1, 8, 10, 11]),
     ("ways", &[0, 11]),
     ("merge trees", &[0, 10, 11]),
     ("merges apart", &[0, 1, 11]),
     ("former defaults", &[0, 8, 9]),
+    ("tables folded", &[0, 1, 11]),
+    ("merges folded", &[0, 10, 11]),
+    ("folds, no room", &[10, 11]),
 ];
 
 #[derive(Default)]
@@ -33,8 +40,9 @@ impl Tally {
         self.0[row - 1][number as usize] += 1;
     }
 
+    /// How many calls were made; the rows behind theirs say again what some of them answered.
     pub fn calls(&self) -> u64 {
-        self.0.iter().flatten().sum()
+        self.0[..WAY - 1].iter().flatten().sum()
     }
 
     pub fn print(&self) {

@@ -38,7 +38,7 @@ pub fn ways(case: &mut Case) {
 }
 
 /// Messages that call 1 accepts.
-fn log(random: &mut Random) -> Vec<Value> {
+pub fn log(random: &mut Random) -> Vec<Value> {
     let shape = Shape::random(random);
     let mut log = messages(&shape, random);
     log.retain(|message| value::read(&value::write(std::slice::from_ref(message))).is_ok());
@@ -99,7 +99,7 @@ pub fn merges(case: &mut Case) {
 }
 
 /// A length that a way may fix.
-fn arena_length(records: usize, random: &mut Random) -> usize {
+pub fn arena_length(records: usize, random: &mut Random) -> usize {
     let exact = types::SIZE * records;
     let length = match random.below(8) {
         0..=2 => exact,

@@ -43,7 +43,7 @@ pub enum Refusal {
     FirstType,
     /// The second type is not well formed.
     SecondType,
-    /// A union of the merged type would total above 1,000,000,000,000,000.
+    /// A union of the merged or folded type would total above 1,000,000,000,000,000.
     Total,
     /// No well-formed type merged with the part gives the whole.
     NotPart,
@@ -127,7 +127,7 @@ pub fn infer(
 ///
 /// Judge, merge and take apart its types under [`Equivalence::Label`]. Earlier the house default was [`Equivalence::Kind`]: types
 /// that this call made then stay usable under that. Under [`Equivalence::Label`] such a type is not well formed, unless each of
-/// its fields has the count of its record. A type under label may have more records than the one under kind.
+/// its fields has the count of its record. A type under label may have more records than the one under kind, which [`fold`] makes of it.
 ///
 /// ```
 /// use ct::{infer_default, merge, Equivalence, Refusal};
@@ -248,4 +248,41 @@ pub fn infer_tag_bus(
     entries: &mut [u8],
 ) -> Result<usize, Refusal> {
     raw::infer_tag_bus(table, arena, work, entries).result()
+}
+
+/// Call 9. Folds a type under [`Equivalence::Label`]: writes the type under [`Equivalence::Kind`] of the same messages at the front of the
+/// arena, and gives its number of records. The messages are not needed for it.
+///
+/// In every union, below fields and in the contents of arrays too, the records become one, with all their fields. The type that
+/// [`infer`] gives under label becomes the one that it gives under kind, and merging two types and folding them may be done in either
+/// order. A folded type never has more records than the type under label.
+///
+/// Both buffers have one length and may hold any bytes. Accepted, the arena behind the type and the working buffer are zero; refused,
+/// both buffers are. A type that is well formed under kind only is refused by [`Refusal::FirstType`] as any other that is not well
+/// formed; then come the totals, and then the room, which is refused only where the folded type itself has more records than the arena.
+/// A type within the limit can pass it when folded, by [`Refusal::Total`]: where records with different keys have arrays at one key, their
+/// elements add up. The call takes up to 80 KiB of stack, 64 of them for the folded type where the arena is too small for it.
+///
+/// ```
+/// use ct::{fold, infer, Equivalence, Refusal};
+///
+/// // {1: number, 2: [number, number]}, {1: null} and {2: []}: the kinds, keys and spans of their records.
+/// let kinds = [5, 3, 6, 3, 3, 5, 1, 5, 6];
+/// let keys = [0, 1, 2, 0, 0, 0, 1, 0, 2];
+/// let spans = [5, 1, 3, 1, 1, 2, 1, 2, 1];
+/// let record = |i| [kinds[i], 0, keys[i], 0, spans[i], 0, 0, 0];
+/// let table: Vec<u8> = (0..9).flat_map(record).collect();
+///
+/// let [mut by_label, mut by_kind, mut folded, mut work] = [[0; 12 * 16]; 4];
+/// assert_eq!(infer(&table, Equivalence::Label, &mut by_label, &mut work), Ok(12));
+/// assert_eq!(infer(&table, Equivalence::Kind, &mut by_kind, &mut work), Ok(7));
+/// assert_eq!(fold(&by_label, &mut folded, &mut work), Ok(7));
+/// assert_eq!(folded, by_kind);
+///
+/// let again = fold(&by_kind[..7 * 16], &mut folded, &mut work);
+/// assert_eq!(again, Err(Refusal::FirstType));
+/// assert_eq!(folded, [0; 12 * 16]);
+/// ```
+pub fn fold(bytes: &[u8], arena: &mut [u8], work: &mut [u8]) -> Result<usize, Refusal> {
+    raw::fold(bytes, arena, work).result()
 }

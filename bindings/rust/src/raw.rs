@@ -68,6 +68,14 @@ extern "C" {
         entries: *mut u8,
         entries_length: usize,
     ) -> Answer;
+    fn ct_fold(
+        bytes: *const u8,
+        length: usize,
+        arena: *mut u8,
+        arena_length: usize,
+        work: *mut u8,
+        work_length: usize,
+    ) -> Answer;
 }
 
 // The library asks for pointers that are not null, to bytes that nobody else writes during the call, and for an arena, a
@@ -165,6 +173,19 @@ pub fn infer_tag_bus(
             work.len(),
             entries.as_mut_ptr(),
             entries.len(),
+        )
+    }
+}
+
+pub fn fold(bytes: &[u8], arena: &mut [u8], work: &mut [u8]) -> Answer {
+    unsafe {
+        ct_fold(
+            bytes.as_ptr(),
+            bytes.len(),
+            arena.as_mut_ptr(),
+            arena.len(),
+            work.as_mut_ptr(),
+            work.len(),
         )
     }
 }

@@ -5,6 +5,7 @@ pub mod AllMessages
 pub mod Pull
 pub mod Runs
 pub mod Calls
+pub mod Merges
 pub mod Written
 pub mod Ends
 pub mod Occurrences

@@ -7,6 +7,7 @@ ghost use Rattle.value_table.specs.Judged.{judged};
 ghost use mathlib.Core.List.{[]};
 ghost use lib.ListN.{length};
 ghost use Rattle.counting_theory.specs.Answers.{judgedType, leaves, inferred, inferredDefault, merged};
+ghost use Rattle.folding.specs.Folded.{folded};
 ghost use Rattle.json_theory.specs.Reader.{read};
 ghost use Rattle.removal.specs.Removed.{removed};
 ghost use Rattle.tag_bus.specs.TagBus.{inferredTagBus, leavesTagBus};
@@ -97,4 +98,13 @@ pub extern "C" fn ct_infer_tag_bus(
         (now (arena .entry)) (now (work .entry)) (now (entries .entry)) ⌝ }
 {
     answers::answer_of(tag_bus::infer_tag_bus(table, arena, work, entries))
+}
+
+// Call 9: folds a type under label into the arena, as the type under kind.
+#[no_mangle]
+pub extern "C" fn ct_fold(bytes: &[u8], arena: &mut [u8], work: &mut [u8]) -> Answer
+    ensures { λ r. ⌜ answerLeft r (now (arena .exit)) (now (work .exit))
+        ≡ leaves (folded (now (bytes .entry)) (length (now (arena .entry))) (length (now (work .entry)))) (now (arena .entry)) (now (work .entry)) ⌝ }
+{
+    answers::answer_of(folding::fold(bytes, arena, work))
 }

@@ -1,7 +1,7 @@
 // Inference in place: runs of values are added to the siblings that stand in an arena.
 pub mod inferring;
 mod key_list;
-mod placing;
+pub mod placing;
 pub mod repeats;
-mod scalar_fields;
+pub mod scalar_fields;
 mod search;

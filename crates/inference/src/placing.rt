@@ -27,7 +27,7 @@ pub enum Put {
 }
 
 // Adds a payload at a label among n records of siblings, with `rest` records in use behind them.
-fn place(
+pub fn place(
     a: &mut [u8],
     from: usize,
     n: usize,

@@ -71,7 +71,7 @@ fn seek_field(b: &[u8], from: usize, n: usize, key: usize) -> Sought
 }
 
 // The same, where the field is mostly the one at `from`. The same is left free.
-fn find_field(b: &[u8], from: usize, n: usize, key: usize) -> Sought
+pub fn find_field(b: &[u8], from: usize, n: usize, key: usize) -> Sought
     requires { ⌜ SomeFrom true (now b) n from ⌝ }
     ensures { λ r. ⌜ ((label : Bool) (rest : ℕ) (f : CountingType) (q free : List ℕ) →
         ArenaHolds (byFlag label) true (now (b .entry)) n rest f q free → Starts from f → SoughtIn (plain (byFlag label) fieldKind key) f r) ⌝ }

@@ -20,6 +20,7 @@ use Rattle.counting_theory.proofs.Label.{counting-laws}
 use Rattle.counting_theory.proofs.Encoding.Bytes.{bytes-encode}
 use Rattle.counting_theory.proofs.WellFormed.AcceptsExactly.{type-unique, well-formed-type}
 use Rattle.counting_theory.proofs.Ways.Calls.{equivalence-of, encode-length, encode-formed}
+use Rattle.counting_theory.proofs.Ways.Merges.{own-bytes, accepted-merge}
 use Rattle.removal.specs.Difference.{difference}
 use Rattle.removal.specs.Removed.{taken, keepingFields, removedType, removedTypes, removed, writes, MergesTo, Removable, AtMostOne, GivesDifference, RefusesExactly, MergeUndone}
 use Rattle.removal.proofs.Difference.{steps, difference-reduce, reduce-cancel}
@@ -27,7 +28,7 @@ use Rattle.removal.proofs.Remains.{reduce-removal}
 use Rattle.removal.proofs.Taken.{taken-laws, counted-each}
 use Rattle.removal.proofs.LabelFields.{Out}
 use Rattle.removal.proofs.RemovedTypes.{left-type}
-use Rattle.removal.proofs.Merges.{own-bytes, stored-type, accepted-merge, merges-types, types-merge}
+use Rattle.removal.proofs.Merges.{stored-type, merges-types, types-merge}
 
 pub at-most-one : AtMostOne
 at-most-one e a b part whole x y p h i =

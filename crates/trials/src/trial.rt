@@ -11,7 +11,7 @@ use trial_notation::text::word;
 use trial_output::print_answer;
 use trial_types::entries::try_tag_bus;
 use trial_types::pairs::try_two_types;
-use trial_types::singles::try_inference;
+use trial_types::singles::try_single;
 
 // Call 1. The line may name the table's length.
 fn try_table(head: &[u8], records: &[u8]) {
@@ -31,7 +31,7 @@ fn try_type(equivalence: u64, head: &[u8], records: &[u8]) {
 
 fn takes_equivalence(call: u8) -> bool {
     match call {
-        b'1' | b'3' | b'6' | b'8' => false,
+        b'1' | b'3' | b'6' | b'8' | b'9' => false,
         _ => true,
     }
 }
@@ -57,7 +57,7 @@ fn try_under(call: u8, equivalence: u64, head: &[u8], records: &[u8]) {
         b'5' | b'7' => try_two_types(call, equivalence, head, records),
         b'6' => try_text(head, records),
         b'8' => try_tag_bus(head, records),
-        _ => try_inference(call, equivalence, head, records),
+        _ => try_single(call, equivalence, head, records),
     }
     io::write_all(1, b"\n");
 }

@@ -27,7 +27,7 @@ module _ {T : TrieOps} (W : TrieLaws T) where
   whenEqual-join eq x y = refl
   whenEqual-join gt x y = refl
 
-  node-cong : (l : Label) (a : Payload) (F G : List Label → Option Payload) → ((q : List Label) → F q ≡ G q) →
+  pub node-cong : (l : Label) (a : Payload) (F G : List Label → Option Payload) → ((q : List Label) → F q ≡ G q) →
       (p : List Label) → lookupNode T l a F p ≡ lookupNode T l a G p
   unfolding lookupNode
   node-cong l a F G h [] = refl

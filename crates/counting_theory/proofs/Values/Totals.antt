@@ -30,7 +30,7 @@ module _ (l : Label) (a : Payload) (c : CountingType) (g : CountingType → Coun
       go eq e i = (λ j. omega (arith, count-join b a, field (ap (λ (m : Label). m .kind) (label-order .compare-eq e) ∙ j), h .0 j, adds d), keeps d (h .1), h .2)
       go gt e i = (h .0, h .1, i)
 
-add-totals : (r f : CountingType) → FieldTotals r → FieldTotals f → FieldTotals (add Counting r f)
+pub add-totals : (r f : CountingType) → FieldTotals r → FieldTotals f → FieldTotals (add Counting r f)
 unfolding add
 add-totals nil f h i = i
 add-totals (node l a c s) f h i =

@@ -3,7 +3,7 @@ use mathlib.Core.Path.{_≡_, refl, _∙_, ap}
 use mathlib.Core.Bool.{true, false}
 use mathlib.Core.List.{List}
 use mathlib.Core.Option.{some}
-use Prim.Native.Nat.{ℕ, _%_}
+use Prim.Native.Nat.{ℕ, _*_, _%_, _≤_}
 use native.Mathlib.Omega.{arith}
 use lib.ListN.{length}
 use borrow.Author.Tests.{eq-eqb, le-ltb}
@@ -12,7 +12,7 @@ use Rattle.value_table.specs.Judged.{badLength, messages}
 use Rattle.value_table.specs.Acceptance.{Table}
 use Rattle.value_table.proofs.Acceptance.{accepts}
 use Rattle.value_table.proofs.TableLayout.{length-encode as table-length, length-fits}
-use Rattle.counting_theory.specs.Trie.{reduce}
+use Rattle.counting_theory.specs.Trie.{size, reduce}
 use Rattle.counting_theory.specs.Label.{Equivalence, byKind, byLabel, Counting, CountingType}
 use Rattle.counting_theory.specs.Raw.{profileOf}
 use Rattle.counting_theory.specs.Encoding.{typeSize, encode, typeOf}
@@ -49,12 +49,15 @@ module _ (e : Equivalence) (n : ℕ) (allowed : badTypeLength n ≡ false) (b : 
   pub default-profile : houseDefault ≡ e → (arena work : ℕ) → arena ≡ n → work ≡ n → inferredDefault b arena work ≡ mergedTypes (profileOf e (messages b)) n
   default-profile h arena work i j = ap (λ x. inferred b (equivalenceNumber x) arena work) h ∙ inferred-profile arena work i j
 
+pub room-length : (f : CountingType) → typeSize * size f ≤ maxLength → badTypeLength (length (encode f)) ≡ false
+unfolding badTypeLength
+room-length f room =
+    let k = length-encode f in
+    rw (eq-eqb (length (encode f) % typeSize) 0 (omega arith), le-ltb maxLength (length (encode f)) (omega arith)) refl
+
 module _ (e : Equivalence) where
   pub encode-length : (f : CountingType) → IsType e (encode f) f → badTypeLength (length (encode f)) ≡ false
-  unfolding badTypeLength
-  encode-length f t =
-      let k = length-encode f in
-      rw (eq-eqb (length (encode f) % typeSize) 0 (omega arith), le-ltb maxLength (length (encode f)) (omega arith)) refl
+  encode-length f t = room-length f (t .room)
 
   pub encode-formed : (f : CountingType) → IsType e (encode f) f → wellFormed e (encode f) ≡ true
   encode-formed f t =

@@ -18,7 +18,7 @@ module _ (T : TrieOps) where
   open TrieOps T using (weight)
 
   -- the weights of all nodes together
-  unfoldable weights : Trie T → ℕ
+  unfoldable pub weights : Trie T → ℕ
   weights nil = 0
   weights (node l a c s) = weight l a + (weights c + weights s)
 
@@ -49,13 +49,13 @@ module _ {T : TrieOps} (W : TrieLaws T) where
         go eq e i = omega (arith, adds d, weight-join k b a, ap (λ x. weight x a) (order .compare-eq e))
         go gt e i = omega arith
 
-  weights-add : (r f : Trie T) → weights T (add T r f) ≡ weights T r + weights T f
+  pub weights-add : (r f : Trie T) → weights T (add T r f) ≡ weights T r + weights T f
   unfolding add weights
   weights-add nil f = omega arith
   weights-add (node l a c s) f =
       omega (arith, weights-add s (insert T l a (add T c) f), weights-insert l a (weights T c) (add T c) (weights-add c) f)
 
-  largest-le : (f : Trie T) → largestTotal T f ≤ weights T f
+  pub largest-le : (f : Trie T) → largestTotal T f ≤ weights T f
   unfolding largestTotal
   largest-le f = omega (arith, total-le f, below-le f)
 

@@ -33,7 +33,7 @@ profile-type e messages valid fits room limit =
       payloads = each-measured e false 1 (profileOf e messages) each;
     }
 
-type-nodes : {e : Equivalence} {b : List ℕ} {f : CountingType} → IsType e b f → EachNode e false 1 f
+pub type-nodes : {e : Equivalence} {b : List ℕ} {f : CountingType} → IsType e b f → EachNode e false 1 f
 type-nodes {e} {f = f} t = each-node e false 1 f (t .shallow) (t .counts) (t .fields) (t .payloads)
 
 pub reduce-type : ReduceIsType

@@ -2,7 +2,7 @@
 use mathlib.Core.Path.{_≡_}
 use mathlib.Core.Bool.{Bool, true, false}
 use mathlib.Core.List.{List}
-use Prim.Native.Nat.{ℕ, _*_, _≤_, _<_}
+use Prim.Native.Nat.{ℕ, _*_, _^_, _≤_, _<_}
 use native.Mathlib.Omega.{arith}
 use lib.Dec.{lit<}
 use borrow.Author.Tests.{ne-eqb}
@@ -32,25 +32,30 @@ module _ (e : Equivalence) where
   kind-below true l c h = omega (arith, kind-eq h)
   kind-below false l c h = omega arith
 
+  -- a count is at most the largest total
+  count-below : (field : Bool) (l : Label) (a : Payload) (c s : CountingType) → Shape e field l c → (l .kind ≡ fieldKind → a .count ≡ total Counting c) →
+      a .count ≤ largestTotal Counting (node l a c s)
+  unfolding total largestBelow largestTotal
+  count-below true l a c s h t = omega (arith, t (kind-eq h))
+  count-below false l a c s h t = omega (arith, weight-addend l a (h .kind-high))
+
   pub count-within : (field : Bool) (l : Label) (a : Payload) (c s : CountingType) → Shape e field l c → (l .kind ≡ fieldKind → a .count ≡ total Counting c) →
       largestTotal Counting (node l a c s) ≤ maxTotal → a .count ≤ maxTotal
-  unfolding total largestBelow largestTotal
-  count-within true l a c s h t m = omega (arith, t (kind-eq h))
-  count-within false l a c s h t m = omega (arith, weight-addend l a (h .kind-high))
+  count-within field l a c s h t m = omega (arith, count-below field l a c s h t)
 
-  fitting : (field : Bool) (depth : ℕ) (f : CountingType) → Tagged e field f → Shallow field depth f → FieldTotals f → measured f ≡ true →
-      typeSize * size f ≤ maxLength → largestTotal Counting f ≤ maxTotal → Fitting f
+  pub fitting : (field : Bool) (depth : ℕ) (f : CountingType) → Tagged e field f → Shallow field depth f → FieldTotals f → measured f ≡ true →
+      typeSize * size f ≤ maxLength → largestTotal Counting f < 2 ^ 64 → Fitting f
   unfolding Fitting size total largestBelow largestTotal
   fitting field depth nil h i t v n m = tt
   fitting field depth (node l a c s) h i t v n m =
       let p = tagged-parts e field l a c s h in
       let q = shallow-parts field depth l a c s i in
       let w = measured-parts l a c s v in
-      let small = count-within field l a c s (p .0) (t .0) m in (
+      let small = count-below field l a c s (p .0) (t .0) in (
         (kind-below field l c (p .0), (lit< tt, (key-below field depth l c (p .0) (q .0), (omega arith, numbers-fit (l .kind) a (total Counting c) (w .0) (omega (arith, small)))))),
         fitting (holdsFields field l) (depthUnder field l depth) c (p .1) (q .1) (t .1) (w .1) (omega arith) (omega arith),
         fitting field depth s (p .2) (q .2) (t .2) (w .2) (omega arith) (omega arith),
       )
 
 pub type-fitting : {e : Equivalence} {b : List ℕ} {f : CountingType} → IsType e b f → Fitting f
-type-fitting {e} {f = f} t = fitting e false 1 f (t .tagged) (t .shallow) (t .totals) (t .payloads) (t .room) (limit-totals f (t .limit))
+type-fitting {e} {f = f} t = fitting e false 1 f (t .tagged) (t .shallow) (t .totals) (t .payloads) (t .room) (omega (arith, limit-totals f (t .limit)))

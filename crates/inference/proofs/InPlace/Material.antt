@@ -63,7 +63,7 @@ keyed-insert l a g h i (node m b c s) k = go (compareLabel l m) (keyed-insert l 
     go eq j = (k .0, i c (k .1), k .2)
     go gt j = (k .0, k .1, j)
 
-keyed-add : (r f : CountingType) → Keyed r → Keyed f → Keyed (add Counting r f)
+pub keyed-add : (r f : CountingType) → Keyed r → Keyed f → Keyed (add Counting r f)
 unfolding add
 keyed-add nil f h k = k
 keyed-add (node l a c s) f h k = keyed-add s (insert Counting l a (add Counting c) f) (h .2) (keyed-insert l a (add Counting c) (h .0) (λ d. keyed-add c d (h .1)) f k)
