@@ -1,4 +1,4 @@
-"""Document 01's trials of call 4, written without the crates: builds each type, judges it by recursive descent, prints a line."""
+"""Trials of call 4 by documents 01 and 02, written without the crates: builds each type, judges it by recursive descent, prints a line."""
 import struct
 from typing import NamedTuple
 
@@ -40,6 +40,14 @@ def judge(data, equivalence):
     return 0, 0, len(rows)
 
 
+def key_list(keys):
+    """A key list as it compares: a shorter one comes first, and lists of one length go by the first key that differs."""
+    return len(keys), tuple(keys)
+
+
+NO_KEYS = key_list([])
+
+
 def rows_in(data):
     return [Row(*numbers) for numbers in struct.iter_unpack("<BBHIQ", data)]
 
@@ -67,7 +75,7 @@ def union_total(rows, depth, equivalence):
             union_total(inner, depth + 1, equivalence)
         else:
             demand(inner == [])
-        addends.append((row.kind, keys if equivalence == LABEL else []))
+        addends.append((row.kind, key_list(keys) if equivalence == LABEL else NO_KEYS))
     demand(all(a < b for a, b in zip(addends, addends[1:])))
     total = sum(row.count for row, _ in split(rows))
     demand(total <= LIMIT)
@@ -149,8 +157,8 @@ NINE_BY_KIND = record(field(1, null(), number()), field(2, array(number(2), coun
 NINE_BY_LABEL = joined(
     [
         record(field(1, null())),
-        record(field(1, number()), field(2, array(number(2)))),
         record(field(2, array())),
+        record(field(1, number()), field(2, array(number(2)))),
     ]
 )
 EVERY_KIND = joined([null(), boolean(2), number(3), string(4), record(count=5), array(count=6)])

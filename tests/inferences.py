@@ -6,7 +6,7 @@ A place is as in merges.py: a tuple of classes and of fields.
 import struct
 from collections import Counter
 
-from counting_types import FIELD, KNOWN, LABEL, UNKNOWN
+from counting_types import FIELD, KNOWN, LABEL, NO_KEYS, UNKNOWN, key_list
 from merges import LARGEST, rows_of, written
 from tables import ARRAY, BOOLEAN, EMPTY_ARRAY, EVERY, FIVE_INSIDE, NINE, NULL, NUMBER, ONE_NULL, RECORD, STRING
 from tables import array, bytes_of, in_arrays, in_fields, judge, many, messages, nested, null, one_field_each, record, value
@@ -22,10 +22,10 @@ def runs(records, start, end):
 
 def class_of(records, start, equivalence):
     kind, _, _, span = records[start]
-    keys = ()
+    keys = []
     if kind == RECORD and equivalence == LABEL:
-        keys = tuple(sorted(records[i][2] for i in runs(records, start + 1, start + span)))
-    return kind, 0, keys
+        keys = sorted(records[i][2] for i in runs(records, start + 1, start + span))
+    return kind, 0, key_list(keys)
 
 
 def places(records, start, end, equivalence, around=(), fields=False):
@@ -34,7 +34,7 @@ def places(records, start, end, equivalence, around=(), fields=False):
         kind, _, key, span = records[i]
         outer = around
         if fields:
-            outer = (*around, (FIELD, key, ()))
+            outer = (*around, (FIELD, key, NO_KEYS))
             yield outer
         place = (*outer, class_of(records, i, equivalence))
         yield place

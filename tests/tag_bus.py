@@ -19,7 +19,7 @@ ALL = many(MOST_KEYS, 1, 1)
 def entries_of(counts):
     """The word and the number of keys of each record among the places, in their order. Key k is bit k - 1 of the word."""
     records = (place[-1] for place in sorted(counts) if place[-1][0] == RECORD)
-    return [(sum(2 ** (key - 1) for key in keys), len(keys)) for _, _, keys in records]
+    return [(sum(2 ** (key - 1) for key in keys), len(keys)) for _, _, (_, keys) in records]
 
 
 def infer(table, arena, work, entries):
