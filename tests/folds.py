@@ -6,13 +6,14 @@ from collections import Counter
 from itertools import combinations, islice
 
 import merges
-from counting_types import DEFAULT, EVERY_KIND, FORMER_DEFAULT, FORMER_SAME_KEYS, LABEL, LIMIT, NINE_BY_KIND, NINE_BY_LABEL, NO_KEYS
+from counting_types import DEFAULT, EVERY_KIND, FORMER_DEFAULT, FORMER_ORDER, FORMER_SAME_KEYS, LABEL, LIMIT
+from counting_types import NINE_BY_KIND, NINE_BY_LABEL, NINE_IN_FORMER_ORDER, NO_KEYS
 from counting_types import array, boolean, field, null, number, record, string
-from counting_types import bytes_of, changed, front, joined, judge, nested, rows_in, split, wide, with_keys
+from counting_types import bytes_of, changed, front, joined, judge, lists, nested, rows_in, spelled, split, wide, with_keys
 from drawn_types import drawn, half_of_limit, of_table, to_limit
 from inferences import bad_length
-from merges import LARGEST, fitted, largest_total, lists, places, rows_of, scalars, written
-from removals import ZEROS, spelled, times
+from merges import LARGEST, fitted, largest_total, places, rows_of, scalars, written
+from removals import ZEROS, times
 
 
 def without_key_lists(place):
@@ -109,6 +110,15 @@ def key_lists():
     yield "lists-of-1-to-3", weighted(*subsets([1, 2, 3]))
     yield "lists-of-1-to-5", weighted(*subsets([1, 2, 3, 4, 5]))
     yield "lists-among-others", null(3) + THREE_LISTS + array(boolean(5), count=2)
+
+
+def list_lengths():
+    """A longer list may have smaller keys. The former order and the present one agree on the last pair."""
+    for keys in ([9], [1, 2]), ([9], [7, 8], [4, 5, 6], [1, 2, 3, 9]), ([], [3], [5], [1, 4], [2, 3], [1, 2, 3]), ([1], [2, 3]):
+        yield f"lengths-{spelled(keys)}", weighted(*keys)
+    yield "lengths-in-fields-of-two-lengths", holding(5, weighted([9], [1, 2])) + holding(5, weighted([2], [1, 3]), 6)
+    yield "lengths-with-field-before", holding(5, THREE_LISTS) + record(field(1, array(OTHER_LISTS)), field(5, with_keys(4)))
+    yield "lengths-at-31", nested(31, weighted([2], [1, 3]))
 
 
 def one_place():
@@ -223,6 +233,10 @@ MALFORMED = {
     "field-below-record-behind-lists": THREE_LISTS + record(field(1, null(3)), field(3, null(2)), count=3),
     "lists-out-of-order": lists([1, 2], [1]),
     "lists-2-13-12": lists([2], [1, 3], [1, 2]),
+    "former-order": FORMER_ORDER,
+    "former-order-in-array": array(FORMER_ORDER),
+    "former-order-in-field": holding(5, FORMER_ORDER),
+    "nine-in-former-order": NINE_IN_FORMER_ORDER,
     "empty-list-last": lists([1], []),
     "list-twice": lists([1], [1]),
     "list-twice-in-array": array(lists([1], [1])),
@@ -343,8 +357,8 @@ def drawn_ones():
 
 def trials():
     """Names, types and lengths, in the order of crates/trials."""
-    groups = document, as_they_are, key_lists, one_place, inside, levels, large_counts, totals, totals_and_rooms, malformed, depths, largest
-    for group in groups:
+    groups = document, as_they_are, key_lists, list_lengths, one_place, inside, levels, large_counts, totals, totals_and_rooms
+    for group in (*groups, malformed, depths, largest):
         yield from lent(group())
     yield from given_lengths()
     yield from lent(drawn_ones())
