@@ -1,7 +1,7 @@
 //! The first addend or field of a run of type records, and the order of two, for the plain merge, removal and fold. Inlined, as a function
 //! with one caller is: none pays for the others.
 
-use crate::type_validator::{header, keys, Header, RECORD, SIZE};
+use crate::type_validator::{header, order_of_lists, Header, RECORD, SIZE};
 use std::cmp::Ordering;
 
 /// The first addend or field of a run that is not empty: its record, all of it, what stands inside it, and what follows it.
@@ -29,7 +29,7 @@ pub fn order(x: &Front, y: &Front, label: bool) -> Ordering {
     let key = |f: &Front| (f.header.kind, f.header.key);
     let order = key(x).cmp(&key(y));
     if order.is_eq() && label && x.header.kind == RECORD {
-        return keys(x.inside).cmp(keys(y.inside));
+        return order_of_lists(x.inside, y.inside);
     }
     order
 }

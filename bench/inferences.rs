@@ -5,7 +5,7 @@ use crate::plain_inference;
 use crate::sequence::{shuffled, Sequence};
 use crate::tables::{
     far_keys, far_shapes, fifty_shapes, fifty_varied, first_messages, many_keys, matrices,
-    messages, nested, one_field_shapes, same_keys, varied,
+    messages, mixed_lengths, nested, one_field_shapes, same_keys, varied,
 };
 use crate::validator::MAX_FIELDS;
 use ct::raw::{self, Answer};
@@ -73,6 +73,7 @@ pub fn workloads(n: usize, log: &[u8]) -> Vec<Workload> {
         ("varied", varied(n / 13)),
         ("fifty shapes", fifty_shapes(n / 11, 100)),
         ("fifty varied", fifty_varied(n / 11, 100)),
+        ("mixed lengths", mixed_lengths(n)),
         ("log", first_messages(log, n)),
         ("nested", nested(n / 32)),
         ("matrices", matrices(n / 21)),

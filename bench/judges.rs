@@ -2,7 +2,7 @@
 
 use crate::pair::{accepted, answered, refused, Buffers, Inputs, Pair, Workload, KIND, LABEL};
 use crate::tables::{flat, messages, nested, wide};
-use crate::types::{deep, fields, lists, records};
+use crate::types::{deep, fields, lists, mixed, records};
 use crate::{type_validator, validator};
 use ct::raw::{self, Answer};
 
@@ -72,5 +72,6 @@ pub fn of_types(n: u16) -> Vec<Workload> {
         workload(&TYPES, "deep, kind", KIND, deep(1..=n / 47)),
         workload(&TYPES, "deep, label", LABEL, deep(1..=n / 47)),
         workload(&TYPES, "lists, label", LABEL, lists(1..=n / 19)),
+        workload(&TYPES, "mixed lists, label", LABEL, mixed(1..=n / 18)),
     ]
 }

@@ -3,7 +3,7 @@
 
 use crate::pair::{answered, Buffers, Inputs, Pair, Workload, KIND, LABEL};
 use crate::plain_merge;
-use crate::types::{deep, fields, lists, records};
+use crate::types::{deep, fields, lists, mixed, records};
 use ct::raw::{self, Answer};
 
 fn proved(inputs: &Inputs, buffers: &mut Buffers) -> Answer {
@@ -55,6 +55,7 @@ pub fn types(n: u16) -> Vec<Types> {
     let f = n / 2 - 1;
     let r = n / 3;
     let l = n / 19;
+    let m = n / 18;
     let d = n / 47;
     vec![
         ("disjoint fields, kind", KIND, disjoint(fields, f)),
@@ -65,6 +66,7 @@ pub fn types(n: u16) -> Vec<Types> {
         ("interleaved records, label", LABEL, interleaved(records, r)),
         ("equal records, label", LABEL, equal(records, r)),
         ("interleaved lists, label", LABEL, interleaved(lists, l)),
+        ("interleaved mixed, label", LABEL, interleaved(mixed, m)),
         ("equal deep, kind", KIND, equal(deep, d)),
         ("equal deep, label", LABEL, equal(deep, d)),
     ]

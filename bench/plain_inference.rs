@@ -5,21 +5,38 @@ use crate::pair::LABEL;
 use crate::type_validator::FIELD;
 use crate::validator::{header, RECORD, SIZE};
 use crate::{type_validator, validator};
+use std::cmp::Ordering;
 use std::collections::BTreeMap;
 
 pub const LENGTH: u64 = 1;
 const EQUIVALENCE: u64 = 2;
 
-/// The keys of a record, as they are kept. The order is that of ascending lists of them; the default has none.
+/// The keys of a record, as they are kept. The order is that of ascending lists of them, shorter ones first; the default has none.
 pub trait Keys: Ord + Default {
     fn of(keys: impl Iterator<Item = u16>) -> Self;
 }
 
-impl Keys for Vec<u16> {
+#[derive(Default, PartialEq, Eq)]
+struct List(Vec<u16>);
+
+impl Keys for List {
     fn of(keys: impl Iterator<Item = u16>) -> Self {
         let mut list: Vec<u16> = keys.collect();
         list.sort_unstable();
-        list
+        List(list)
+    }
+}
+
+impl Ord for List {
+    fn cmp(&self, other: &List) -> Ordering {
+        let lengths = self.0.len().cmp(&other.0.len());
+        lengths.then_with(|| self.0.cmp(&other.0))
+    }
+}
+
+impl PartialOrd for List {
+    fn partial_cmp(&self, other: &List) -> Option<Ordering> {
+        Some(self.cmp(other))
     }
 }
 
@@ -123,7 +140,7 @@ fn inferred(
         return Err((EQUIVALENCE, 0));
     }
     validator::validate(table)?;
-    let union: Union<Vec<u16>> = union_of(table, equivalence == LABEL);
+    let union: Union<List> = union_of(table, equivalence == LABEL);
     let mut arena = Arena::new(arena);
     write_union(&union, &mut arena);
     arena.records().map_err(|number| (number, 0))

@@ -10,9 +10,12 @@ const LARGEST_KEY: u16 = 64;
 const ENTRY: usize = 16;
 const NO_ROOM: u64 = 11;
 
-/// Key k is bit k - 1.
+/// Key k is bit k - 1. The number of keys is kept: most comparisons look at it.
 #[derive(Clone, Copy, Default, PartialEq, Eq)]
-struct Word(u64);
+struct Word {
+    keys: u64,
+    fields: u32,
+}
 
 fn bit(key: u16) -> u64 {
     1 << (key - 1)
@@ -20,23 +23,25 @@ fn bit(key: u16) -> u64 {
 
 impl Keys for Word {
     fn of(keys: impl Iterator<Item = u16>) -> Self {
-        Word(keys.fold(0, |word, key| word | bit(key)))
+        let keys = keys.fold(0, |word, key| word | bit(key));
+        Word {
+            keys,
+            fields: keys.count_ones(),
+        }
     }
 }
 
 impl Ord for Word {
-    /// The smallest key that one of them lacks decides: the other comes first, unless the one has no larger key either.
+    /// Fewer keys come first. Among as many, the smallest key that one of them lacks decides: the other comes first.
     fn cmp(&self, other: &Word) -> Ordering {
-        let shared = (self.0 ^ other.0).trailing_zeros();
-        if shared == 64 {
+        if self.keys == other.keys {
             return Ordering::Equal;
         }
-        let [rest, other_rest] = [self.0, other.0].map(|word| word >> shared);
-        match rest & 1 {
-            1 if other_rest == 0 => Ordering::Greater,
-            1 => Ordering::Less,
-            _ if rest == 0 => Ordering::Less,
-            _ => Ordering::Greater,
+        let smallest = (self.keys ^ other.keys).trailing_zeros();
+        match self.fields.cmp(&other.fields) {
+            Ordering::Equal if self.keys >> smallest & 1 == 1 => Ordering::Less,
+            Ordering::Equal => Ordering::Greater,
+            by_number => by_number,
         }
     }
 }
@@ -116,9 +121,9 @@ fn add_words(union: &Union<Word>, words: &mut Vec<Word>) {
 }
 
 fn write_entries(words: &[Word], entries: &mut [u8]) {
-    for (entry, Word(word)) in entries.chunks_exact_mut(ENTRY).zip(words) {
-        entry[..8].copy_from_slice(&word.to_le_bytes());
-        entry[8..].copy_from_slice(&u64::from(word.count_ones()).to_le_bytes());
+    for (entry, word) in entries.chunks_exact_mut(ENTRY).zip(words) {
+        entry[..8].copy_from_slice(&word.keys.to_le_bytes());
+        entry[8..].copy_from_slice(&u64::from(word.fields).to_le_bytes());
     }
 }
 

@@ -190,6 +190,18 @@ pub fn fifty_varied(n: usize, keys: u16) -> Vec<u8> {
     fifty(n, keys, || null_or_string(&mut sequence))
 }
 
+/// Messages with lists of one to sixteen keys, nine of each length with first keys of their own, in a mixed order. The fields are now a
+/// null, now a string.
+pub fn mixed_lengths(n: usize) -> Vec<u8> {
+    let mut sequence = Sequence::new();
+    let message = || {
+        let first = 1 + 3 * sequence.below(9) as u16;
+        let length = 1 + sequence.below(16) as u16;
+        with_kinds(first..first + length, || null_or_string(&mut sequence))
+    };
+    filled(n, std::iter::repeat_with(message))
+}
+
 /// Messages with each of these lists of keys, so many times each, in a mixed order.
 fn shapes<const N: usize>(lists: impl Iterator<Item = [u16; N]> + Clone, times: usize) -> Vec<u8> {
     let all = std::iter::repeat_n(lists, times).flatten();

@@ -6,8 +6,8 @@ use crate::pair::{answered_at, Buffers, Call, Inputs, Pair, Workload, LABEL, ROO
 use crate::plain_tag_bus;
 use crate::sequence::{shuffled, Sequence};
 use crate::tables::{
-    far_shapes, fifty_shapes, fifty_varied, first_messages, matrices, messages, nested,
-    one_field_shapes, same_keys, two_field_shapes, varied,
+    far_shapes, fifty_shapes, fifty_varied, first_messages, matrices, messages, mixed_lengths,
+    nested, one_field_shapes, same_keys, two_field_shapes, varied,
 };
 use crate::timing::{self, TIME};
 use crate::type_validator::SIZE;
@@ -61,6 +61,7 @@ pub fn workloads(n: usize, log: &[u8]) -> Vec<Workload> {
         ("varied", varied(n / 13)),
         ("fifty shapes", fifty_shapes(n / 11, 60)),
         ("fifty varied", fifty_varied(n / 11, 60)),
+        ("mixed lengths", mixed_lengths(n)),
         ("log", first_messages(log, n)),
         ("nested", nested(n / 32)),
         ("matrices", matrices(n / 21)),

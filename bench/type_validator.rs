@@ -45,7 +45,7 @@ fn split(run: &[u8]) -> Option<(Header, &[u8], &[u8])> {
 }
 
 /// The keys of fields that have been checked.
-pub fn keys(mut fields: &[u8]) -> impl Iterator<Item = u16> + '_ {
+fn keys(mut fields: &[u8]) -> impl Iterator<Item = u16> + '_ {
     std::iter::from_fn(move || {
         if fields.is_empty() {
             return None;
@@ -54,6 +54,22 @@ pub fn keys(mut fields: &[u8]) -> impl Iterator<Item = u16> + '_ {
         fields = &fields[SIZE * span..];
         Some(key)
     })
+}
+
+/// The order of two records by their key lists: shorter lists first, lists of one length by the first key that differs. One pass of both is
+/// faster than counting the keys first.
+#[inline]
+pub fn order_of_lists(x: &[u8], y: &[u8]) -> Ordering {
+    let (mut xs, mut ys) = (keys(x), keys(y));
+    let mut first_difference = Ordering::Equal;
+    loop {
+        match (xs.next(), ys.next()) {
+            (Some(x), Some(y)) => first_difference = first_difference.then(x.cmp(&y)),
+            (None, None) => return first_difference,
+            (None, _) => return Ordering::Less,
+            (_, None) => return Ordering::Greater,
+        }
+    }
 }
 
 /// The total of a union, if it is well formed.
@@ -79,7 +95,7 @@ fn union_total(mut run: &[u8], depth: usize, equivalence: Equivalence) -> Option
                 Ordering::Equal => {
                     kind == RECORD
                         && equivalence == Equivalence::Label
-                        && keys(content).lt(keys(inner))
+                        && order_of_lists(content, inner).is_lt()
                 }
                 Ordering::Greater => false,
             };

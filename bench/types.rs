@@ -55,6 +55,15 @@ pub fn lists(keys: impl IntoIterator<Item = u16>) -> Vec<u8> {
     keys.into_iter().flat_map(list).collect()
 }
 
+/// For each key a record of one to sixteen keys, of which it is the first. Two neighbours have as many.
+pub fn mixed(keys: impl IntoIterator<Item = u16>) -> Vec<u8> {
+    let length = |first: &u16| 1 + (first - 1) / 2 % 16;
+    let mut firsts: Vec<u16> = keys.into_iter().collect();
+    firsts.sort_by_key(|first| (length(first), *first));
+    let list = |first| with_keys(first..first + length(&first));
+    firsts.into_iter().flat_map(list).collect()
+}
+
 /// A field for each key, with arrays and records below it in turn, to depth 32.
 pub fn deep(keys: impl IntoIterator<Item = u16>) -> Vec<u8> {
     let chain = (2..=32).rev().fold(Vec::new(), |inner, depth| {
@@ -112,9 +121,11 @@ pub fn descending(blocks: u16, b: u16) -> Vec<u8> {
 /// last one of the first record.
 pub fn before_last(f: u16) -> Vec<u8> {
     let keys: Vec<u16> = (2..=f).collect();
-    let others = keys.chunks(MAX_FIELDS).map(<[u16]>::to_vec);
-    let lists = std::iter::once(vec![1, u16::MAX]).chain(others);
-    lists.flat_map(with_keys).collect()
+    // Cut from the end: the list that is shorter has the smallest keys.
+    let others = keys.rchunks(MAX_FIELDS).rev().map(<[u16]>::to_vec);
+    let mut lists: Vec<_> = std::iter::once(vec![1, u16::MAX]).chain(others).collect();
+    lists.sort_by_key(Vec::len);
+    lists.into_iter().flat_map(with_keys).collect()
 }
 
 /// For each key a record with that key and with an array of as many nulls as a union may have, at one key.

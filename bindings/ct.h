@@ -31,7 +31,11 @@ extern "C" {
 #define CT_NOT_PART 16   /* no well-formed type merged with the part gives the whole */
 #define CT_LARGE 17      /* a field's key above 64, where the table is one of the tag bus */
 
-/* The equivalences: the class of a record is its kind alone, or its kind with its keys. */
+/* The equivalences: the class of a record is its kind alone, or its kind with its keys.
+ *
+ * Under CT_BY_LABEL the addends of kind 5 in a union ascend by their key lists: shorter lists first, and lists of one length by their first
+ * differing key. Earlier the first differing key alone settled the order, and a list that begins the other came first: a type stored in
+ * that order is not well formed (CT_FIRST_TYPE, CT_SECOND_TYPE), unless both orders agree. Types under CT_BY_KIND are as they were. */
 #define CT_BY_KIND 0
 #define CT_BY_LABEL 1
 
@@ -75,9 +79,9 @@ struct ct_answer ct_infer_default(const uint8_t *table, size_t table_length, uin
 /* Judges a type of `length` bytes under an equivalence, CT_BY_KIND or CT_BY_LABEL.
  *
  * Accepted, the count is the number of type records, fields included. Refused, the place is 0. The length comes first, then the
- * equivalence, then the records. An empty type is well formed; a type with zeros behind it, as a whole arena has, is not. A record of
- * a type may have any number of fields. The answer depends on the bytes and the equivalence alone; nothing is written and nothing is
- * kept.
+ * equivalence, then the records. An empty type is well formed; a type with zeros behind it, as a whole arena has, is not. The order of
+ * key lists is told at CT_BY_LABEL. A record of a type may have any number of fields. The answer depends on the bytes and the
+ * equivalence alone; nothing is written and nothing is kept.
  *
  * `bytes` points to `length` bytes that nobody writes during the call. It is not null, even for length 0. */
 struct ct_answer ct_judge_type(const uint8_t *bytes, size_t length, uint64_t equivalence);

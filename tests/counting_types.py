@@ -1,4 +1,4 @@
-"""Document 01's trials of call 4, written without the crates: builds each type, judges it by recursive descent, prints a line."""
+"""Trials of call 4 by documents 01 and 02, written without the crates: builds each type, judges it by recursive descent, prints a line."""
 import struct
 from typing import NamedTuple
 
@@ -40,6 +40,14 @@ def judge(data, equivalence):
     return 0, 0, len(rows)
 
 
+def key_list(keys):
+    """A key list as it compares: a shorter one comes first, and lists of one length go by the first key that differs."""
+    return len(keys), tuple(keys)
+
+
+NO_KEYS = key_list([])
+
+
 def rows_in(data):
     return [Row(*numbers) for numbers in struct.iter_unpack("<BBHIQ", data)]
 
@@ -67,7 +75,7 @@ def union_total(rows, depth, equivalence):
             union_total(inner, depth + 1, equivalence)
         else:
             demand(inner == [])
-        addends.append((row.kind, keys if equivalence == LABEL else []))
+        addends.append((row.kind, key_list(keys) if equivalence == LABEL else NO_KEYS))
     demand(all(a < b for a, b in zip(addends, addends[1:])))
     total = sum(row.count for row, _ in split(rows))
     demand(total <= LIMIT)
@@ -134,6 +142,20 @@ def with_keys(*keys):
     return record(*(field(key, null()) for key in keys))
 
 
+def lists(*key_lists):
+    """A record with nulls for each key list."""
+    return joined(with_keys(*keys) for keys in key_lists)
+
+
+def digits(numbers):
+    return "".join(map(str, numbers))
+
+
+def spelled(key_lists):
+    """Key lists as names have them: 1-12 for (1) and (1, 2)."""
+    return "-".join(digits(keys) or "none" for keys in key_lists)
+
+
 def changed(rows, place, **numbers):
     return [*rows[:place], rows[place]._replace(**numbers), *rows[place + 1 :]]
 
@@ -149,11 +171,17 @@ NINE_BY_KIND = record(field(1, null(), number()), field(2, array(number(2), coun
 NINE_BY_LABEL = joined(
     [
         record(field(1, null())),
-        record(field(1, number()), field(2, array(number(2)))),
         record(field(2, array())),
+        record(field(1, number()), field(2, array(number(2)))),
     ]
 )
 EVERY_KIND = joined([null(), boolean(2), number(3), string(4), record(count=5), array(count=6)])
+
+# Types stored under label in the former order of key lists: by the first key that differs, whatever their lengths. They are refused,
+# unless both orders agree, as in the last one.
+NINE_IN_FORMER_ORDER = NINE_BY_LABEL[:3] + NINE_BY_LABEL[6:] + NINE_BY_LABEL[3:6]
+FORMER_ORDER = lists([1, 3], [2])
+EITHER_ORDER = lists([1], [2, 3])
 
 
 def accepted():
@@ -230,7 +258,7 @@ def field_counts():
 
 
 def key_lists():
-    lists = {
+    pairs = {
         "empty-lists": ([], []),
         "empty-list-first": ([], [1]),
         "empty-list-last": ([1], []),
@@ -246,12 +274,44 @@ def key_lists():
         "lists-13-2": ([1, 3], [2]),
         "lists-2-13": ([2], [1, 3]),
     }
-    for name, pair in lists.items():
-        yield name, joined(with_keys(*keys) for keys in pair)
+    for name, pair in pairs.items():
+        yield name, lists(*pair)
     yield "lists-with-records-inside", record(field(1, with_keys(9))) + with_keys(1, 2)
     yield "lists-in-array", array(record(), with_keys(1))
     yield "lists-in-array-out-of-order", array(with_keys(1), record())
     yield "third-list-out-of-order", record() + with_keys(2) + with_keys(1)
+
+
+def list_lengths():
+    """Pairs of key lists in order, then turned: of two lengths, with the smaller first key in either, and of one length."""
+    two_lengths = ([9], [1, 2]), ([3, 4], [1, 2, 5]), ([1], [2, 3])
+    one_length = ([1, 8, 9], [2, 3, 4]), ([1, 2, 4], [1, 3, 4]), ([1, 2, 3], [1, 2, 4])
+    for pair in (*two_lengths, *one_length):
+        yield f"lists-{spelled(pair)}", lists(*pair)
+        yield f"lists-{spelled(pair[::-1])}", lists(*pair[::-1])
+    yield "lists-12-12", lists([1, 2], [1, 2])
+    yield "lists-1-none-12", lists([1], [], [1, 2])
+    yield "lists-256-and-1-255", lists([256], [1, 255])
+    yield "lists-1-255-and-256", lists([1, 255], [256])
+    yield "lists-1-255-and-1-256", lists([1, 255], [1, 256])
+    yield "lists-1-256-and-1-255", lists([1, 256], [1, 255])
+    yield "lists-of-1-to-3", lists([], [1], [2], [3], [1, 2], [1, 3], [2, 3], [1, 2, 3])
+    yield "lists-of-1-to-3-in-former-order", lists([], [1], [1, 2], [1, 2, 3], [1, 3], [2], [2, 3], [3])
+    yield "nine-in-former-order", NINE_IN_FORMER_ORDER
+    yield "list-2-and-256-keys", lists([2], range(1, 257))
+    yield "lists-of-32-keys", lists(range(1, 33), [*range(1, 32), 33])
+    yield "lists-of-32-keys-turned", lists([*range(1, 32), 33], range(1, 33))
+
+
+def lists_inside():
+    """Every union is in this order. A list is as long as its record has fields, whatever is inside them."""
+    for name, two in ("in-order", (with_keys(2), with_keys(1, 3))), ("in-former-order", (with_keys(1, 3), with_keys(2))):
+        yield f"lists-{name}-in-field", record(field(5, *two), count=2)
+        yield f"lists-{name}-in-array", array(*two)
+        yield f"lists-{name}-in-record-in-record", record(field(1, record(field(1, *two), count=2)), count=2)
+        yield f"lists-{name}-at-31", nested(31, joined(two))
+    yield "list-9-of-more-type-records", record(field(9, with_keys(1, 2, 3))) + with_keys(1, 2)
+    yield "list-9-of-more-type-records-last", with_keys(1, 2) + record(field(9, with_keys(1, 2, 3)))
 
 
 def addend_order():
@@ -374,8 +434,8 @@ def lengths():
 
 def types():
     """Names and types, in the order of crates/trials, each to be judged under both equivalences."""
-    groups = accepted, defaults, totals, zero_counts, field_counts, key_lists, addend_order, field_order, keys, kinds, spans, depths
-    for group in groups:
+    groups = accepted, defaults, totals, zero_counts, field_counts, key_lists, list_lengths, lists_inside
+    for group in (*groups, addend_order, field_order, keys, kinds, spans, depths):
         for name, rows in group():
             yield name, bytes_of(rows)
     yield from lengths()

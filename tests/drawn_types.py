@@ -2,7 +2,7 @@
 from random import Random
 
 import tables
-from counting_types import ARRAY, LABEL, LIMIT, RECORD, STRING, addend, field, joined
+from counting_types import ARRAY, LABEL, LIMIT, RECORD, STRING, addend, field, joined, key_list
 from inferences import counts_of
 from merges import rows_of
 
@@ -61,8 +61,10 @@ def union(numbers, total, depth):
     if total == 0:
         return []
     counts = numbers.shares(total, 5 - depth)
-    classes = numbers.classes_at(depth, len(counts))
-    return joined(addend(kind, count, *inside(numbers, kind, keys, count, depth + 1)) for (kind, keys), count in zip(classes, counts))
+    addends = {}
+    for (kind, keys), count in zip(numbers.classes_at(depth, len(counts)), counts):
+        addends[kind, key_list(keys)] = addend(kind, count, *inside(numbers, kind, keys, count, depth + 1))
+    return joined(addends[one] for one in sorted(addends))
 
 
 def inside(numbers, kind, keys, count, depth):

@@ -3,20 +3,21 @@ adds the counts of places that differ in key lists alone, writes that map, print
 """
 import sys
 from collections import Counter
-from itertools import islice
+from itertools import combinations, islice
 
 import merges
-from counting_types import DEFAULT, EVERY_KIND, FORMER_DEFAULT, FORMER_SAME_KEYS, LABEL, LIMIT, NINE_BY_KIND, NINE_BY_LABEL
+from counting_types import DEFAULT, EVERY_KIND, FORMER_DEFAULT, FORMER_ORDER, FORMER_SAME_KEYS, LABEL, LIMIT
+from counting_types import NINE_BY_KIND, NINE_BY_LABEL, NINE_IN_FORMER_ORDER, NO_KEYS
 from counting_types import array, boolean, field, null, number, record, string
-from counting_types import bytes_of, changed, front, joined, judge, nested, rows_in, split, wide, with_keys
+from counting_types import bytes_of, changed, front, joined, judge, lists, nested, rows_in, spelled, split, wide, with_keys
 from drawn_types import drawn, half_of_limit, of_table, to_limit
 from inferences import bad_length
-from merges import LARGEST, fitted, largest_total, lists, places, rows_of, scalars, written
-from removals import ZEROS, spelled, times
+from merges import LARGEST, fitted, largest_total, places, rows_of, scalars, written
+from removals import ZEROS, times
 
 
 def without_key_lists(place):
-    return tuple((kind, key, ()) for kind, key, _ in place)
+    return tuple((kind, key, NO_KEYS) for kind, key, _ in place)
 
 
 def counts_by_kind(rows):
@@ -62,14 +63,11 @@ def weighted(*key_lists):
 
 def subsets(keys):
     """All key lists of some keys, in order."""
-    if not keys:
-        return [[]]
-    rest = subsets(keys[1:])
-    return [[], *([keys[0], *one] for one in rest), *rest[1:]]
+    return [one for length in range(len(keys) + 1) for one in combinations(keys, length)]
 
 
-THREE_LISTS = weighted([1], [1, 2], [2])
-OTHER_LISTS = weighted([], [1, 3], [3])
+THREE_LISTS = weighted([1], [2], [1, 2])
+OTHER_LISTS = weighted([], [3], [1, 3])
 
 
 def document():
@@ -101,17 +99,26 @@ def as_they_are():
 
 
 def key_lists():
-    """New fields go between those that stand there, and behind them."""
-    pairs = ([], [1]), ([1], [2]), ([1], [1, 2]), ([1, 2], [2]), ([1, 2], [1, 3]), ([1, 3], [2]), ([1, 3], [2, 3]), ([1, 4], [2, 3])
-    longer = ([1, 2], [3, 4]), ([1, 2, 3], [2]), ([1, 3, 5], [2, 4]), ([1, 6], [2, 3, 4, 5]), ([1, 2, 3, 4], [1, 2, 4])
-    several = ([], [1], [1, 2]), ([1, 4], [2], [3]), ([1, 9], [2, 8], [3, 7], [4, 6], [5]), ([1, 2, 3], [1, 4], [2, 5], [6])
+    """New fields go before those that stand there, between them and behind them."""
+    pairs = ([], [1]), ([1], [2]), ([1], [1, 2]), ([2], [1, 2]), ([1, 2], [1, 3]), ([2], [1, 3]), ([1, 3], [2, 3]), ([1, 4], [2, 3])
+    longer = ([1, 2], [3, 4]), ([2], [1, 2, 3]), ([2, 4], [1, 3, 5]), ([1, 6], [2, 3, 4, 5]), ([1, 2, 4], [1, 2, 3, 4])
+    several = ([], [1], [1, 2]), ([2], [3], [1, 4]), ([5], [1, 9], [2, 8], [3, 7], [4, 6]), ([6], [1, 4], [2, 5], [1, 2, 3])
     for keys in (*pairs, *longer, *several):
         yield f"lists-{spelled(keys)}", weighted(*keys)
     yield "lists-255-and-256", weighted([255], [256])
-    yield "lists-1-65535-and-256", weighted([1, 65535], [256])
+    yield "lists-256-and-1-65535", weighted([256], [1, 65535])
     yield "lists-of-1-to-3", weighted(*subsets([1, 2, 3]))
     yield "lists-of-1-to-5", weighted(*subsets([1, 2, 3, 4, 5]))
     yield "lists-among-others", null(3) + THREE_LISTS + array(boolean(5), count=2)
+
+
+def list_lengths():
+    """A longer list may have smaller keys. The former order and the present one agree on the last pair."""
+    for keys in ([9], [1, 2]), ([9], [7, 8], [4, 5, 6], [1, 2, 3, 9]), ([], [3], [5], [1, 4], [2, 3], [1, 2, 3]), ([1], [2, 3]):
+        yield f"lengths-{spelled(keys)}", weighted(*keys)
+    yield "lengths-in-fields-of-two-lengths", holding(5, weighted([9], [1, 2])) + holding(5, weighted([2], [1, 3]), 6)
+    yield "lengths-with-field-before", holding(5, THREE_LISTS) + record(field(1, array(OTHER_LISTS)), field(5, with_keys(4)))
+    yield "lengths-at-31", nested(31, weighted([2], [1, 3]))
 
 
 def one_place():
@@ -139,7 +146,7 @@ def inside():
     yield "in-arrays-of-two-lists-in-array", array(together(array(OTHER_LISTS), array(THREE_LISTS)))
     yield "in-record-and-array", record(field(1, array(THREE_LISTS)), field(2, with_keys(1))) + array(OTHER_LISTS)
     yield "in-second-field", record(field(1, array(OTHER_LISTS)), field(2, array(THREE_LISTS)))
-    yield "not-in-another-field", record(field(1, with_keys(1)), field(2, with_keys(2))) + record(field(2, with_keys(1)))
+    yield "not-in-another-field", record(field(2, with_keys(1))) + record(field(1, with_keys(1)), field(2, with_keys(2)))
 
 
 def levels():
@@ -194,7 +201,7 @@ def totals():
     yield "contents-above-behind-others", null(3) + contents(most, one) + array(boolean(5), count=2)
     yield "contents-apart-by-key", holding(1, array(most)) + holding(2, array(most))
     yield "contents-apart-by-depth", contents(array(most), many)
-    yield "contents-apart-by-field", record(field(1, array(most)), field(2, array(most))) + record(field(2, array()))
+    yield "contents-apart-by-field", record(field(2, array())) + record(field(1, array(most)), field(2, array(most)))
 
 
 def in_last_field(content, *further):
@@ -223,9 +230,13 @@ MALFORMED = {
     "second-field-below-record": record(field(1, null(3)), field(2, null(2)), count=3),
     "field-below-record-in-array": array(record(field(1, null(2)), count=3)),
     "field-below-record-in-field": holding(1, record(field(1, null(2)), count=3)),
-    "field-below-record-behind-lists": THREE_LISTS + record(field(3, null(2)), count=3),
+    "field-below-record-behind-lists": THREE_LISTS + record(field(1, null(3)), field(3, null(2)), count=3),
     "lists-out-of-order": lists([1, 2], [1]),
-    "lists-13-2-12": lists([1, 3], [2], [1, 2]),
+    "lists-2-13-12": lists([2], [1, 3], [1, 2]),
+    "former-order": FORMER_ORDER,
+    "former-order-in-array": array(FORMER_ORDER),
+    "former-order-in-field": holding(5, FORMER_ORDER),
+    "nine-in-former-order": NINE_IN_FORMER_ORDER,
     "empty-list-last": lists([1], []),
     "list-twice": lists([1], [1]),
     "list-twice-in-array": array(lists([1], [1])),
@@ -243,8 +254,8 @@ MALFORMED = {
     "count-0": null(0),
     "count-0-in-last": changed(THREE_LISTS, 10, count=0),
     "span-0": changed(null(), 0, span=0),
-    "span-past-end": changed(THREE_LISTS, 8, span=4),
-    "span-2^32-1": changed(THREE_LISTS, 8, span=2**32 - 1),
+    "span-past-end": changed(THREE_LISTS, 6, span=6),
+    "span-2^32-1": changed(THREE_LISTS, 6, span=2**32 - 1),
     "null-with-content": changed(null(), 0, span=2) + null(),
     "empty-field": record(field(1, count=1)),
     "total-10^15+1": null(LIMIT) + record(),
@@ -346,8 +357,8 @@ def drawn_ones():
 
 def trials():
     """Names, types and lengths, in the order of crates/trials."""
-    groups = document, as_they_are, key_lists, one_place, inside, levels, large_counts, totals, totals_and_rooms, malformed, depths, largest
-    for group in groups:
+    groups = document, as_they_are, key_lists, list_lengths, one_place, inside, levels, large_counts, totals, totals_and_rooms
+    for group in (*groups, malformed, depths, largest):
         yield from lent(group())
     yield from given_lengths()
     yield from lent(drawn_ones())

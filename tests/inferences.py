@@ -6,7 +6,7 @@ A place is as in merges.py: a tuple of classes and of fields.
 import struct
 from collections import Counter
 
-from counting_types import FIELD, KNOWN, LABEL, UNKNOWN
+from counting_types import FIELD, KNOWN, LABEL, NO_KEYS, UNKNOWN, key_list
 from merges import LARGEST, rows_of, written
 from tables import ARRAY, BOOLEAN, EMPTY_ARRAY, EVERY, FIVE_INSIDE, NINE, NULL, NUMBER, ONE_NULL, RECORD, STRING
 from tables import array, bytes_of, in_arrays, in_fields, judge, many, messages, nested, null, one_field_each, record, value
@@ -22,10 +22,10 @@ def runs(records, start, end):
 
 def class_of(records, start, equivalence):
     kind, _, _, span = records[start]
-    keys = ()
+    keys = []
     if kind == RECORD and equivalence == LABEL:
-        keys = tuple(sorted(records[i][2] for i in runs(records, start + 1, start + span)))
-    return kind, 0, keys
+        keys = sorted(records[i][2] for i in runs(records, start + 1, start + span))
+    return kind, 0, key_list(keys)
 
 
 def places(records, start, end, equivalence, around=(), fields=False):
@@ -34,7 +34,7 @@ def places(records, start, end, equivalence, around=(), fields=False):
         kind, _, key, span = records[i]
         outer = around
         if fields:
-            outer = (*around, (FIELD, key, ()))
+            outer = (*around, (FIELD, key, NO_KEYS))
             yield outer
         place = (*outer, class_of(records, i, equivalence))
         yield place
@@ -142,6 +142,26 @@ def key_lists():
     yield "lists-of-different-depth", with_keys(1) + record(with_keys(1, key=1)) + record(array(with_keys(1), key=1))
 
 
+SEVERAL = record() + with_keys(4) + with_keys(9) + with_keys(5, 1) + with_keys(2, 3) + with_keys(3, 2, 1)
+BACKWARDS = with_keys(1, 2, 3) + with_keys(3, 2) + with_keys(1, 5) + with_keys(9) + with_keys(4) + record()
+BY_FIRST_KEY = record() + with_keys(3, 1, 2) + with_keys(1, 5) + with_keys(2, 3) + with_keys(4) + with_keys(9)
+
+
+def list_lengths():
+    """Key lists of the lengths 0 to 3 in several orders of arrival, of messages, elements and values of fields."""
+    yield "lengths-in-order", SEVERAL
+    yield "lengths-backwards", BACKWARDS
+    yield "lengths-by-first-key", BY_FIRST_KEY
+    yield "lengths-twice", BACKWARDS + SEVERAL
+    yield "lengths-in-arrays", array(BY_FIRST_KEY) + array(BACKWARDS)
+    yield "lengths-in-fields", messages(*(record(with_keys(*keys, key=7)) for keys in ([3, 2, 1], [1, 5], [], [9], [3, 2], [4])))
+    yield "lengths-in-arrays-in-fields", record(array(with_keys(3, 1), with_keys(2), key=1)) + record(null(1), array(BACKWARDS, key=2))
+    yield "lengths-of-records-in-records", record(with_keys(1, 2, 3, key=9)) + with_keys(2, 1)
+    yield "lengths-of-255-and-256", with_keys(256, 1) + with_keys(256) + with_keys(1, 255) + with_keys(255)
+    yield "lengths-at-31", in_arrays(31, with_keys(3, 1) + with_keys(2))
+    yield "fields-256-and-1", with_keys(*many(256, 1, 1)) + with_keys(2)
+
+
 def defaults():
     """Messages whose types, those of the default call as it was and as it is, are judged and merged by counting_types.py and merges.py."""
     yield "former-default", record(number(1)) + record(number(1), null(2))
@@ -230,14 +250,15 @@ def unknown():
 
 def known():
     """Names, tables and lengths, in the order of crates/trials."""
-    for group in document, faults, unions, contents, fields, key_lists, defaults, rooms, depths, fields_of_one_record, largest:
+    groups = document, faults, unions, contents, fields, key_lists, list_lengths, defaults, rooms, depths, fields_of_one_record, largest
+    for group in groups:
         yield from tables(group())
     yield from given_lengths()
 
 
 def default():
     yield from tables(document())
-    yield from tables([("lists-13-2-12", with_keys(1, 3) + with_keys(2) + with_keys(2, 1))])
+    yield from tables([("lists-13-2-12", with_keys(1, 3) + with_keys(2) + with_keys(2, 1)), ("lengths-backwards", BACKWARDS)])
     yield from tables(defaults())
     yield from tables([("fields-256", FIELDS_256), ("fields-257", with_fields(257)), ("fields-257-before-room", with_fields(257), 16)])
     yield from tables([("records-2047", one_field_each(many(2047, 1, 1)) + array()), ("records", one_field_each(many(1365, 1, 1)) + array())])

@@ -1,23 +1,23 @@
-"""Document 01's trials of call 5, written without the crates: reads both types as maps from places to counts, adds, writes, prints.
+"""Trials of call 5 by documents 01 and 02, written without the crates: reads both types as maps from places to counts, adds, writes, prints.
 
 A place is a tuple of classes and of fields, so that places in order are the rows of a type in order.
 """
 import zlib
 from collections import Counter
 
-from counting_types import DEFAULT, EVERY_KIND, FIELD, FORMER_DEFAULT, FORMER_SAME_KEYS, KNOWN, LABEL, LIMIT, NINE_BY_KIND, NINE_BY_LABEL
-from counting_types import RECORD, UNKNOWN, Row
+from counting_types import DEFAULT, EITHER_ORDER, EVERY_KIND, FIELD, FORMER_DEFAULT, FORMER_ORDER, FORMER_SAME_KEYS, KNOWN, LABEL, LIMIT
+from counting_types import NINE_BY_KIND, NINE_BY_LABEL, NINE_IN_FORMER_ORDER, NO_KEYS, RECORD, UNKNOWN, Row
 from counting_types import array, boolean, field, null, number, record, string
-from counting_types import bytes_of, front, joined, judge, nested, rows_in, split, wide, with_keys
+from counting_types import bytes_of, front, judge, key_list, lists, nested, rows_in, split, wide, with_keys
 
 LARGEST = 65536
 
 
 def keys_of(row, inner, equivalence):
-    """The keys that are part of a class."""
+    """The key list that is part of a class."""
     if row.kind == RECORD and equivalence == LABEL:
-        return tuple(field.key for field, _ in split(inner))
-    return ()
+        return key_list([field.key for field, _ in split(inner)])
+    return NO_KEYS
 
 
 def places(rows, equivalence, around=()):
@@ -106,10 +106,6 @@ def scalars(*kinds):
     return [row for row in EVERY_KIND if row.kind in kinds]
 
 
-def lists(*key_lists):
-    return joined(with_keys(*keys) for keys in key_lists)
-
-
 def empty_types():
     yield from both_ways("null-with-empty", "empty-with-null", null(), [])
     yield from both_ways("every-kind-with-empty", "empty-with-every-kind", EVERY_KIND, [])
@@ -157,13 +153,42 @@ def key_lists():
     yield from both_ways("lists-12-and-1", "lists-1-and-12", lists([1, 2]), lists([1]))
     yield from both_ways("lists-2-and-13", "lists-13-and-2", lists([2]), lists([1, 3]))
     yield from both_ways("lists-12-and-13", "lists-13-and-12", lists([1, 2]), lists([1, 3]))
-    yield from both_ways("lists-12-3-and-1-123-2", "lists-1-123-2-and-12-3", lists([1, 2], [3]), lists([1], [1, 2, 3], [2]))
+    yield from both_ways("lists-3-12-and-1-2-123", "lists-1-2-123-and-3-12", lists([3], [1, 2]), lists([1], [2], [1, 2, 3]))
     yield from both_ways("lists-1-2-3-and-1", "lists-1-and-1-2-3", lists([1], [2], [3]), lists([1]))
     yield from both_ways("lists-1-2-3-and-3", "lists-3-and-1-2-3", lists([1], [2], [3]), lists([3]))
-    yield "lists-1-12-2-and-1-12-2", lists([1], [1, 2], [2]), lists([1], [1, 2], [2])
+    yield "lists-1-2-12-and-1-2-12", lists([1], [2], [1, 2]), lists([1], [2], [1, 2])
     yield from both_ways("lists-and-array", "array-and-lists", null() + lists([1], [2]), lists([1, 2]) + array())
     yield "lists-in-array", array(lists([1], [2])), array(lists([1], [1, 2]))
     yield "lists-in-field", record(field(1, with_keys(9))), record(field(1, with_keys(8)))
+
+
+def list_lengths():
+    """Lists of several lengths, also with keys that compare in another way as bytes."""
+    first, second = lists([], [3], [1, 9], [2, 3, 4]), lists([1], [5], [2, 3], [1, 2, 8])
+    yield from both_ways("lengths-0-to-3", "lengths-0-to-3-turned", first, second)
+    first, second = lists([2], [1, 3], [1, 2, 3]), lists([1], [1, 3], [2, 3], [1, 2, 3])
+    yield "lengths-with-same-lists", first, second
+    yield from both_ways("lists-8-9-and-12-123", "lists-12-123-and-8-9", lists([8], [9]), lists([1, 2], [1, 2, 3]))
+    yield "lengths-of-255-and-256", lists([256], [1, 255]), lists([255], [1, 256])
+    first, second = lists([2], [1, 3]), lists([3], [1, 2])
+    yield "lengths-in-array", array(first), array(second)
+    yield "lengths-in-field", record(field(5, first, count=2), count=2), record(field(5, second, count=2), count=2)
+    yield "lengths-at-31", nested(31, lists([1, 3])), nested(31, lists([2]))
+    yield from both_ways("255-keys-and-256", "256-keys-and-255", with_keys(*range(2, 257)), with_keys(*range(1, 257)))
+    yield "256-keys-and-other-last", with_keys(*range(1, 256), 257), with_keys(*range(1, 257))
+
+
+def former_order():
+    """A type in the former order is refused, unless both orders agree."""
+    yield "former-order-first", FORMER_ORDER, lists([2])
+    yield "former-order-second", lists([2]), FORMER_ORDER
+    yield "former-order-both", FORMER_ORDER, FORMER_ORDER
+    yield "former-order-in-array-first", array(FORMER_ORDER), array()
+    yield "nine-in-former-order-and-nine", NINE_IN_FORMER_ORDER, NINE_BY_LABEL
+    yield "nine-and-nine-in-former-order", NINE_BY_LABEL, NINE_IN_FORMER_ORDER
+    yield "either-order-first", EITHER_ORDER, lists([2])
+    yield "either-order-second", lists([2]), EITHER_ORDER
+    yield "either-order-both", EITHER_ORDER, EITHER_ORDER
 
 
 def totals():
@@ -317,7 +342,7 @@ def unknown():
 
 def known():
     """Names, both types and arena lengths, in the order of crates/trials."""
-    for group in empty_types, unions, contents, fields, key_lists, totals, malformed, defaults:
+    for group in empty_types, unions, contents, fields, key_lists, list_lengths, former_order, totals, malformed, defaults:
         yield from pairs(group())
     yield from pairs((f"{name}-twice", rows, rows) for name, rows in same_twice())
     for group in arenas, depths, largest:

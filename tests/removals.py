@@ -3,10 +3,11 @@ left only if it is well formed and, merged with the part, gives the whole.
 """
 from collections import Counter
 
-from counting_types import EVERY_KIND, KNOWN, LIMIT, NINE_BY_KIND, NINE_BY_LABEL, UNKNOWN, Row
+from counting_types import EITHER_ORDER, EVERY_KIND, FORMER_ORDER, KNOWN, LIMIT, NINE_BY_KIND, NINE_BY_LABEL, NINE_IN_FORMER_ORDER
+from counting_types import UNKNOWN, Row
 from counting_types import array, boolean, field, null, number, record, string
-from counting_types import bytes_of, changed, front, nested, rows_in, wide, with_keys
-from merges import LARGEST, fitted, in_fields, lists, merge, odd_and_even, pairs, places, refusal_of, report, rows_of, scalars
+from counting_types import bytes_of, changed, digits, front, lists, nested, rows_in, spelled, wide, with_keys
+from merges import LARGEST, fitted, in_fields, merge, odd_and_even, pairs, places, refusal_of, report, rows_of, scalars
 
 ZEROS = [Row(0, 0, 0, 0, 0)]
 
@@ -73,10 +74,6 @@ def unions():
     yield "record-goes", rest, rest[1:4]
     yield "array-goes", rest, rest[4:]
     yield "content-less-one-each", rest, record(field(1, null())) + array(number())
-
-
-def digits(numbers):
-    return "".join(map(str, numbers))
 
 
 def contents():
@@ -176,14 +173,14 @@ def fields_beside_records():
 
 def key_lists():
     """Under kind a union of several records is malformed."""
-    whole = times(lists([1], [1, 2], [1, 3], [2]), 3)
-    for keys in ([1],), ([1, 2],), ([2],), ([1], [2]), ([1, 2], [1, 3]), ([1], [1, 2], [1, 3], [2]):
-        yield f"lists-1-12-13-2-less-{spelled(keys)}", whole, lists(*keys)
-    for keys in ([],), ([1, 2, 3],), ([1, 4],), ([3],), ([1], [1, 2, 3]), ([1, 2], [3]):
-        yield f"lists-1-12-13-2-less-{spelled(keys)}", whole, lists(*keys)
+    whole = times(lists([1], [2], [1, 2], [1, 3]), 3)
+    for keys in ([1],), ([1, 2],), ([2],), ([1], [2]), ([1, 2], [1, 3]), ([1], [2], [1, 2], [1, 3]):
+        yield f"lists-1-2-12-13-less-{spelled(keys)}", whole, lists(*keys)
+    for keys in ([],), ([1, 2, 3],), ([1, 4],), ([3],), ([1], [1, 2, 3]), ([3], [1, 2]):
+        yield f"lists-1-2-12-13-less-{spelled(keys)}", whole, lists(*keys)
     yield "lists-first-goes", whole, times(lists([1]), 3)
-    yield "lists-middle-go", whole, times(lists([1, 2], [1, 3]), 3)
-    yield "lists-last-goes", whole, times(lists([2]), 3)
+    yield "lists-middle-go", whole, times(lists([2], [1, 2]), 3)
+    yield "lists-last-goes", whole, times(lists([1, 3]), 3)
     yield "lists-count-too-high", whole, times(lists([1, 2]), 4)
     yield "lists-among-others", null(2) + whole + array(count=2), lists([1, 2]) + array()
     yield "lists-in-array", array(whole), array(lists([2]))
@@ -191,8 +188,28 @@ def key_lists():
     yield "lists-in-field", times(record(field(5, with_keys(9))), 2) + with_keys(6), record(field(5, with_keys(9)))
 
 
-def spelled(keys):
-    return "-".join(digits(one) or "none" for one in keys)
+def list_lengths():
+    """Lists of several lengths. Those that the part lacks stay, those that the whole lacks are refused."""
+    whole = times(lists([], [3], [5], [1, 9], [2, 4], [1, 2, 3]), 2)
+    for keys in ([3], [2, 4]), ([], [1, 2, 3]), ([4],), ([1, 2, 3, 4],):
+        yield f"lengths-0-to-3-less-{spelled(keys)}", whole, lists(*keys)
+    yield "lengths-0-to-3-last-of-1-and-first-of-2-go", whole, times(lists([5], [1, 9]), 2)
+    yield "lengths-in-arrays", array(whole, count=2), array(lists([5], [1, 9]))
+    yield "lengths-of-255-and-256", lists([255], [256], [1, 255], [1, 256]), lists([256], [1, 255])
+
+
+def former_order():
+    """A type in the former order is refused, unless both orders agree."""
+    in_order = lists([2], [1, 3])
+    yield "former-order-whole", FORMER_ORDER, lists([2])
+    yield "former-order-part", in_order, FORMER_ORDER
+    yield "former-order-both", FORMER_ORDER, FORMER_ORDER
+    yield "former-order-in-array-part", array(in_order), array(FORMER_ORDER)
+    yield "nine-in-former-order-less-nine", NINE_IN_FORMER_ORDER, NINE_BY_LABEL
+    yield "nine-less-nine-in-former-order", NINE_BY_LABEL, NINE_IN_FORMER_ORDER
+    yield "either-order-whole", EITHER_ORDER, lists([1])
+    yield "either-order-part", lists([1], [2], [2, 3]), EITHER_ORDER
+    yield "either-order-both", EITHER_ORDER, EITHER_ORDER
 
 
 def one_list():
@@ -399,8 +416,8 @@ def unknown():
 
 def known():
     """Names, whole and part, and arena lengths, in the order of crates/trials."""
-    groups = nothing_and_all, unions, contents, inner_contents, fields, values, fields_beside_records, key_lists, one_list
-    for group in (*groups, single_messages, totals, malformed):
+    groups = nothing_and_all, unions, contents, inner_contents, fields, values, fields_beside_records, key_lists, list_lengths, former_order
+    for group in (*groups, one_list, single_messages, totals, malformed):
         yield from pairs(group())
     yield from pairs((f"{name}-same", rows, rows) for name, rows in same_slice())
     for group in arenas, depths, largest, interleaved:

@@ -19,7 +19,7 @@ ALL = many(MOST_KEYS, 1, 1)
 def entries_of(counts):
     """The word and the number of keys of each record among the places, in their order. Key k is bit k - 1 of the word."""
     records = (place[-1] for place in sorted(counts) if place[-1][0] == RECORD)
-    return [(sum(2 ** (key - 1) for key in keys), len(keys)) for _, _, keys in records]
+    return [(sum(2 ** (key - 1) for key in keys), len(keys)) for _, _, (_, keys) in records]
 
 
 def infer(table, arena, work, entries):
@@ -187,6 +187,19 @@ def key_lists():
     yield "lists-2-12-empty-1", with_keys(2) + with_keys(1, 2) + record() + with_keys(1)
 
 
+SEVERAL = with_keys(1, 2, 3) + with_keys(3, 2) + with_keys(63, 1) + with_keys(2, 1) + with_keys(64)
+
+
+def list_lengths():
+    """Shorter lists come first, and lists of one length go by the first key that differs, also with larger words."""
+    yield "lists-23-1-64", with_keys(2, 3) + with_keys(64, 1)
+    yield "lengths-1-to-3", SEVERAL
+    yield "lengths-in-array", array(SEVERAL, record())
+    yield "lengths-in-fields", messages(*(record(with_keys(*keys, key=64)) for keys in ([3, 2, 1], [63, 1], [], [2, 1], [64])))
+    yield "lengths-of-records-in-records", record(with_keys(1, 2, 3, key=64)) + record(array(with_keys(2, 1), with_keys(64), key=2), null(1))
+    yield "lengths-64-and-63", with_keys(*ALL) + with_keys(*ALL[1:]) + with_keys(*ALL[:-1])
+
+
 def without_fields():
     yield "empty-record", record()
     yield "empty-record-entries-16", record(), 16
@@ -289,7 +302,7 @@ def given_lengths():
 def trials():
     """Names, tables and lengths, in the order of crates/trials."""
     groups = document, keys, elsewhere, in_fields_and_arrays, repeats, one_value_record, field_257, records_before_and_behind
-    for group in (*groups, words, key_lists, without_fields, nested_records, rooms, depths, largest):
+    for group in (*groups, words, key_lists, list_lengths, without_fields, nested_records, rooms, depths, largest):
         yield from lent(group())
     yield from given_lengths()
 

@@ -12,8 +12,10 @@ mod crowded;
 mod damage;
 mod extremes;
 mod folds;
+mod former_order;
 mod full_records;
 mod json;
+mod key_lists;
 mod library;
 mod messages;
 mod parts;
@@ -61,13 +63,14 @@ fn main() {
     let mut case = Case::new(seed, 0, &mut once);
     full_records::compare(&mut case);
     extremes::compare(&mut case);
+    key_lists::compare(&mut case);
     small_types::compare(&mut case);
     small_tables::compare(&mut case);
     println!("{} calls tried once each: no difference", once.calls());
 }
 
 fn run(case: &mut Case) {
-    match case.random.below(21) {
+    match case.random.below(22) {
         0..=2 => single::table(case),
         3..=4 => single::one_type(case),
         5..=7 => single::two_types(case),
@@ -79,6 +82,7 @@ fn run(case: &mut Case) {
         14 => folds::table(case),
         15 => folds::merges(case),
         16..=17 => folds::one_type(case),
+        18 => former_order::stored(case),
         _ => removals::whole_and_part(case),
     }
     if case.index % 2 == 0 {

@@ -37,11 +37,13 @@ impl Keys {
 }
 
 impl Ord for Keys {
+    /// Shorter lists come first; among lists of one length the first key that differs settles.
     fn cmp(&self, other: &Keys) -> Ordering {
         if Rc::ptr_eq(&self.0, &other.0) {
             return Ordering::Equal;
         }
-        self.0.cmp(&other.0)
+        let lengths = self.0.len().cmp(&other.0.len());
+        lengths.then_with(|| self.0.cmp(&other.0))
     }
 }
 

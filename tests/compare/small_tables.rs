@@ -97,7 +97,7 @@ fn null(key: u16) -> Value {
 }
 
 /// A record with nulls at these keys.
-fn with_nulls(keys: impl IntoIterator<Item = u16>) -> Value {
+pub fn with_nulls(keys: impl IntoIterator<Item = u16>) -> Value {
     Value {
         kind: RECORD,
         key: 0,

@@ -1,7 +1,8 @@
 //! Counts how often each call and each way answered each number. A number that can occur must.
 
 /// The rows of ways over tables, of merge trees over types, of merges taken apart, of merges of former default types, of tables' types
-/// that are folded, of folds with merges, and of folds that have no room; a call's row has its number.
+/// that are folded, of folds with merges, of folds that have no room, and of calls on types in the former order of key lists, where 8 and
+/// 9 refuse that order and any other number says that both orders agree; a call's row has its number.
 pub const WAY: usize = 10;
 pub const MERGES: usize = 11;
 pub const APART: usize = 12;
@@ -9,11 +10,15 @@ pub const FORMER: usize = 13;
 pub const FOLDED: usize = 14;
 pub const FOLDED_MERGES: usize = 15;
 pub const FOLD_FULL: usize = 16;
+pub const FORMER_JUDGED: usize = 17;
+pub const FORMER_MERGED: usize = 18;
+pub const FORMER_REMOVED: usize = 19;
+pub const FORMER_FOLDED: usize = 20;
 
 /// One more than the largest number that a call answers.
 const NUMBERS: usize = 18;
 
-const ROWS: [(&str, &[u64]); 16] = [
+const ROWS: [(&str, &[u64]); 20] = [
     ("1 judge a table", &[0, 1, 3, 4, 5, 6, 7, 15]),
     ("2 infer", &[0, 1, 2, 3, 4, 5, 6, 7, 11, 15]),
     ("3 infer, default", &[0, 1, 3, 4, 5, 6, 7, 11, 15]),
@@ -30,6 +35,10 @@ const ROWS: [(&str, &[u64]); 16] = [
     ("tables folded", &[0, 1, 11]),
     ("merges folded", &[0, 10, 11]),
     ("folds, no room", &[10, 11]),
+    ("former order, 4", &[0, 8]),
+    ("former order, 5", &[0, 8, 9]),
+    ("former order, 7", &[0, 8, 9]),
+    ("former order, 9", &[0, 8]),
 ];
 
 #[derive(Default)]

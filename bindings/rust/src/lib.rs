@@ -14,6 +14,10 @@ pub enum Equivalence {
     /// When they have one kind.
     Kind = 0,
     /// When they have one kind and, if they are records, the same keys.
+    ///
+    /// The records of a union ascend by their key lists: shorter lists first, and lists of one length by their first differing key.
+    /// Earlier the first differing key alone settled the order, and a list that begins the other came first: a type stored in that
+    /// order is not well formed, [`Refusal::FirstType`] or [`Refusal::SecondType`], unless both orders agree.
     Label = 1,
 }
 
@@ -152,7 +156,21 @@ pub fn infer_default(table: &[u8], arena: &mut [u8], work: &mut [u8]) -> Result<
 /// Call 4. Gives the number of records of a type that is well formed under the equivalence, fields included.
 ///
 /// Any other type is refused, and so is a whole arena with zeros behind its type. The empty type is well formed, and a record
-/// of a type may have any number of fields.
+/// of a type may have any number of fields. The order of key lists is told at [`Equivalence::Label`].
+///
+/// ```
+/// use ct::{judge_type, Equivalence, Refusal};
+///
+/// // Type records of kind, key and span with count 1: a record with key 2, and one with the keys 1 and 2.
+/// let row = |kind, key, span| [kind, 0, key, 0, span, 0, 0, 0, 1, 0, 0, 0, 0, 0, 0, 0];
+/// let short = [row(5, 0, 3), row(7, 2, 2), row(1, 0, 1)].concat();
+/// let long = [row(5, 0, 5), row(7, 1, 2), row(1, 0, 1), row(7, 2, 2), row(1, 0, 1)].concat();
+/// assert_eq!(judge_type(&[&short[..], &long].concat(), Equivalence::Label), Ok(8));
+///
+/// // The former order, in which key 1 came before key 2 in lists of any length.
+/// let former = [long, short].concat();
+/// assert_eq!(judge_type(&former, Equivalence::Label), Err(Refusal::FirstType));
+/// ```
 pub fn judge_type(bytes: &[u8], equivalence: Equivalence) -> Result<usize, Refusal> {
     raw::judge_type(bytes, equivalence as u64).result()
 }

@@ -1,8 +1,8 @@
 -- The laws of labels and counts.
-use mathlib.Core.Path.{_≡_, refl, ap}
+use mathlib.Core.Path.{_≡_, ap}
 use mathlib.Core.Bool.{Bool, true, false, cond}
 use mathlib.Core.List.{[]}
-use Prim.Native.Nat.{ℕ, _+_, compare, Ordering, Ordering·lt as lt, Ordering·eq as eq, Ordering·gt as gt}
+use Prim.Native.Nat.{ℕ, _+_, compare}
 use native.Mathlib.Omega.{arith}
 use lib.Dec.{eqb}
 use Rattle.counting_theory.specs.Payload.{Payload, join}
@@ -10,7 +10,7 @@ use Rattle.counting_theory.specs.Order.{then, comparePair, compareOn}
 use Rattle.counting_theory.specs.Inside.TrieLaws.{IsOrder, TrieLaws}
 use Rattle.counting_theory.specs.Label.{Label, fieldKind, fieldLabel, parts, compareLabel, Counting}
 use Rattle.counting_theory.proofs.Payload.{join-comm, join-assoc, count-join}
-use Rattle.counting_theory.proofs.Order.{number-order, pair-order, order-on}
+use Rattle.counting_theory.proofs.Order.{number-order, then-same, pair-order, order-on}
 use Rattle.counting_theory.proofs.KeyOrder.{keys-order}
 
 parts-apart : (l m : Label) → parts l ≡ parts m → l ≡ m
@@ -30,12 +30,7 @@ keys-eq e = ap (λ (n : Label). n .keys) e
 
 pub compare-fields : (k j : ℕ) → compareLabel (fieldLabel k) (fieldLabel j) ≡ compare k j
 unfolding compareOn comparePair then
-compare-fields k j = rw (keys-order .compare-refl []) (go (compare k j))
-  where
-    go : (o : Ordering) → then o eq ≡ o
-    go lt = refl
-    go eq = refl
-    go gt = refl
+compare-fields k j = rw (keys-order .compare-refl []) (then-same (compare k j))
 
 weight-add : (t : Bool) (a b : Payload) → cond t 0 (join a b .count) ≡ cond t 0 (a .count) + cond t 0 (b .count)
 weight-add true a b = omega arith

@@ -66,6 +66,18 @@ then-flip lt u = refl
 then-flip eq u = refl
 then-flip gt u = refl
 
+pub then-same : (o : Ordering) → then o eq ≡ o
+unfolding then
+then-same lt = refl
+then-same eq = refl
+then-same gt = refl
+
+pub then-assoc : (o u v : Ordering) → then o (then u v) ≡ then (then o u) v
+unfolding then
+then-assoc lt u v = refl
+then-assoc eq u v = refl
+then-assoc gt u v = refl
+
 module _ {A : Type 0} {compareA : A → A → Ordering} (O : IsOrder compareA) where
   open IsOrder O using (compare-refl, compare-eq, compare-flip, compare-trans)
 

@@ -22,7 +22,7 @@ unfolding tableBytes typeBytes trials inferred merged flatMap bytesOf numberOf n
     judging.close judging.enter judging.walk judging.judgedUpTo judging.judged judging.decode judging.messages
     numbers ofNumbers one oneField join proper listed insertKey ascending raw profileOf then comparePair compareList compareOn compareKeys
     trie.size trie.insertStep trie.insert trie.add trie.reduceNode trie.reduce trie.total trie.largestBelow trie.largestTotal
-    types.typeKind types.typeZero types.typeKey types.typeSpan types.typePayload types.header types.encode types.decode types.typeOf
+    types.typeKind types.typeZero types.typeKey types.typeSpan types.typePayload types.header types.encode types.siblingKeys types.decode types.typeOf
     rules.typeRecord rules.laidOut rules.counted rules.withinLimit rules.ascends rules.fieldTotals rules.fieldCounts rules.measured rules.wellFormed rules.badTypeLength
 trials-hold =
     ((refl & refl & done) & (refl & refl & done) & done)
@@ -34,5 +34,7 @@ trials-hold =
     & ((refl & done) & (refl & done) & done)
     & ((refl & done) & (refl & done) & done)
     & ((refl & done) & (refl & done) & done)
+    & ((refl & done) & done)
+    & ((refl & done) & done)
     & ((refl & done) & done)
     & done

@@ -3,8 +3,9 @@ use mathlib.Core.Bool.{cond}
 use mathlib.Core.List.{List, []}
 use Prim.Native.Nat.{ℕ, compare, Ordering}
 use lib.Dec.{eqb}
+use lib.ListN.{length}
 use Rattle.value_table.specs.Value.{recordKind}
-use Rattle.counting_theory.specs.Order.{comparePair, compareList, compareOn}
+use Rattle.counting_theory.specs.Order.{then, comparePair, compareList, compareOn}
 use Rattle.counting_theory.specs.Payload.{Payload, join}
 use Rattle.counting_theory.specs.Trie.{TrieOps, Trie}
 
@@ -32,9 +33,9 @@ labelOf eq kind key keys = record { kind = kind; key = key; keys = listed eq kin
 abbrev pub fieldLabel : ℕ → Label
 fieldLabel key = record { kind = fieldKind; key = key; keys = [] }
 
--- the first key that differs settles, and a list that begins the other comes first
+-- the shorter list comes first, and of one length the first key that differs settles
 unfoldable pub compareKeys : List ℕ → List ℕ → Ordering
-compareKeys = compareList compare
+compareKeys xs ys = then (compare (length xs) (length ys)) (compareList compare xs ys)
 
 -- by kind, then by key, then by key list
 abbrev pub parts : Label → ℕ × (ℕ × List ℕ)

@@ -1,4 +1,5 @@
--- 'Trials at the edges' of document 01: the ten trials marked with a star as one table, and one claim over the table.
+-- 'Trials at the edges' of document 01: the ten trials marked with a star, and key lists in the former order of document 02's change 9, as
+-- one table with one claim over it.
 use mathlib.Core.Path.{_≡_}
 use mathlib.Core.List.{List, [], _∷_, flatMap}
 use Prim.Native.Nat.{ℕ, _*_}
@@ -47,7 +48,7 @@ abbrev pub roomFor : ℕ → List ℕ
 roomFor records = typeSize * records ∷ []
 
 -- {1: number, 2: [number, number]}, {1: null}, {2: []}: their table, their type under kind, and that under label, in the key lists
--- (1), (1, 2), (2)
+-- (1), (2), (1, 2)
 abbrev pub nine : List ValueRecord
 nine = (5, 0, 5) ∷ (3, 1, 1) ∷ (6, 2, 3) ∷ (3, 0, 1) ∷ (3, 0, 1) ∷ (5, 0, 2) ∷ (1, 1, 1) ∷ (5, 0, 2) ∷ (6, 2, 1) ∷ []
 
@@ -57,8 +58,14 @@ nineByKind = (5, 0, 7, 3 ∷ []) ∷ (7, 1, 3, 2 ∷ []) ∷ (1, 0, 1, 1 ∷ [])
 abbrev pub nineByLabel : List TypeRecord
 nineByLabel =
     (5, 0, 3, 1 ∷ []) ∷ (7, 1, 2, 1 ∷ []) ∷ (1, 0, 1, 1 ∷ [])
-    ∷ (5, 0, 6, 1 ∷ []) ∷ (7, 1, 2, 1 ∷ []) ∷ (3, 0, 1, 1 ∷ []) ∷ (7, 2, 3, 1 ∷ []) ∷ (6, 0, 2, 1 ∷ []) ∷ (3, 0, 1, 2 ∷ [])
-    ∷ (5, 0, 3, 1 ∷ []) ∷ (7, 2, 2, 1 ∷ []) ∷ (6, 0, 1, 1 ∷ []) ∷ []
+    ∷ (5, 0, 3, 1 ∷ []) ∷ (7, 2, 2, 1 ∷ []) ∷ (6, 0, 1, 1 ∷ [])
+    ∷ (5, 0, 6, 1 ∷ []) ∷ (7, 1, 2, 1 ∷ []) ∷ (3, 0, 1, 1 ∷ []) ∷ (7, 2, 3, 1 ∷ []) ∷ (6, 0, 2, 1 ∷ []) ∷ (3, 0, 1, 2 ∷ []) ∷ []
+
+-- {1: null, 2: null} before {2: null}: by their first keys, but the longer key list first
+abbrev pub longerFirst : List TypeRecord
+longerFirst =
+    (5, 0, 5, 1 ∷ []) ∷ (7, 1, 2, 1 ∷ []) ∷ (1, 0, 1, 1 ∷ []) ∷ (7, 2, 2, 1 ∷ []) ∷ (1, 0, 1, 1 ∷ [])
+    ∷ (5, 0, 3, 1 ∷ []) ∷ (7, 2, 2, 1 ∷ []) ∷ (1, 0, 1, 1 ∷ []) ∷ []
 
 abbrev pub oneNull : List TypeRecord
 oneNull = (1, 0, 1, 1 ∷ []) ∷ []
@@ -75,6 +82,8 @@ trials =
     ∷ trial (infer ((0, 0, 0) ∷ [])) underBoth largest 3 0 0 []
     ∷ trial (infer ((5, 0, 3) ∷ (1, 1, 1) ∷ (3, 1, 1) ∷ [])) underBoth largest 6 2 0 []
     ∷ trial (merge oneNull []) underKind largest 0 0 1 oneNull
+    ∷ trial (merge longerFirst oneNull) underLabel largest 8 0 0 []
+    ∷ trial (merge oneNull longerFirst) underLabel largest 9 0 0 []
     ∷ []
 
 -- the working buffer is as long as the arena

@@ -29,6 +29,7 @@ trials-hold =
       room = refl;
       no-room = refl;
       kind-only = refl;
+      longer-first = refl;
       to-limit = refl;
       above-limit = refl;
       above-limit-no-room = refl;

@@ -5,7 +5,7 @@ use Prim.Native.Nat.{ℕ, _*_, _-_}
 use Rattle.counting_theory.specs.Encoding.{typeSize}
 use Rattle.counting_theory.specs.WellFormed.{maxTotal}
 use Rattle.counting_theory.specs.Answers.{Written, turnedDown, largestArena}
-use Rattle.counting_theory.specs.Trials.{TypeRecord, typeBytes, nineByKind, nineByLabel, oneNull, expected}
+use Rattle.counting_theory.specs.Trials.{TypeRecord, typeBytes, nineByKind, nineByLabel, longerFirst, oneNull, expected}
 use Rattle.folding.specs.Folded.{folded, foldedIn}
 
 -- {1: [..]} and {1: [..], 2: null}, with n numbers in the first array and one in the second; and their type under kind
@@ -36,8 +36,9 @@ pub record TrialsHold : Type 0 where
   -- 11 goes by the folded type's records
   pub room : tried nineByLabel (typeSize * 7) ≡ expected 0 0 7 nineByKind
   pub no-room : tried nineByLabel (typeSize * 6) ≡ turnedDown 11 0
-  -- 8 for a type that is well formed under kind only
+  -- 8 for a type that is well formed under kind only, and where the longer key list comes first
   pub kind-only : tried nineByKind largestArena ≡ turnedDown 8 0
+  pub longer-first : tried longerFirst largestArena ≡ turnedDown 8 0
   -- the contents of both arrays add up: to the limit, and above it, with room or without
   pub to-limit : tried (twoArrays (maxTotal - 1)) largestArena ≡ expected 0 0 6 (oneArray maxTotal)
   pub above-limit : tried (twoArrays maxTotal) largestArena ≡ turnedDown 10 0

@@ -72,8 +72,8 @@ fn start_for(b: &[u8], from: usize, n: usize, key: usize, field: bool) -> usize
 }
 
 // Adds the first addend or field of x, with what stands inside it, to n records of siblings. No key list is in the working buffer. A
-// search inside may begin at `inside` if the label is found at `from`: key lists ascend, so the next one's first key is not below the
-// last one's.
+// search inside may begin at `inside` if the label is found at `from`: key lists of one length ascend, so the next one's first key is
+// mostly not below the last one's.
 fn fold_addend(
     a: &mut [u8],
     from: usize,

@@ -1,8 +1,8 @@
 // Adds a payload at a label among siblings in an arena: to that of its record, or in a new one.
+use crate::finding::find;
 use crate::key_list::Listed;
 use crate::key_list::list_label;
 use crate::search::Found;
-use crate::search::search;
 use type_arena::payload::Payload;
 use type_arena::payload::given;
 use type_arena::record_store::insert_record;
@@ -43,7 +43,7 @@ pub fn place(
     ensures { λ r. ⌜ ((field : Bool) (f : CountingType) (q free : List ℕ) → ArenaHolds (byFlag label) field (now (a .entry)) n rest f q free → Starts from f →
         PlacedAt (wanted (byFlag label) kind key keys (now (work .entry))) (payloadOf more) f q rest r (now (a .exit))) ⌝ }
 {
-    match search(a, from, n, kind, key, work, keys, label) {
+    match find(a, from, n, kind, key, work, keys, label) {
         Found::Here(p) => {
             join_payload(a, p, more);
             Put::At(p, n)

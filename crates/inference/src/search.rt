@@ -2,6 +2,8 @@
 use crate::key_list::KEY_SIZE;
 use byte_records::little_endian::number16;
 use type_arena::label_order::Order;
+use type_arena::label_order::compare_numbers;
+use type_arena::label_order::then_order;
 use type_arena::type_record::key_at;
 use type_arena::type_record::kind_at;
 use type_arena::type_record::span_at;
@@ -24,13 +26,13 @@ pub enum Found {
 }
 
 // What kind and key tell of the order of two labels: the order, or that key lists settle it, and where the second one's ends.
-enum Head {
+pub enum Head {
     Settled(Order),
     Lists(usize),
 }
 
 // A label against that of the record at p, by kind, then by key. Only records have key lists, and only under label.
-fn compare_head(b: &[u8], p: usize, kind: u8, key: usize, label: bool) -> Head
+pub fn compare_head(b: &[u8], p: usize, kind: u8, key: usize, label: bool) -> Head
     requires { ⌜ typeSize * p + typeSize ≤ length (now b) ⌝ }
     ensures { λ r. ⌜ HeadTells (byFlag label) kind key (now (b .entry)) p r ⌝ }
 {
@@ -58,7 +60,7 @@ fn compare_head(b: &[u8], p: usize, kind: u8, key: usize, label: bool) -> Head
 }
 
 // Where a search may begin that follows one which ended at `from`.
-fn search_start(from: usize, n: usize) -> usize
+pub fn search_start(from: usize, n: usize) -> usize
     ensures { λ r. ⌜ r ≡ cond (ltb from n) from 0 ⌝ }
 {
     if from < n { from } else { 0 }
@@ -78,7 +80,8 @@ pub fn resume_at(b: &[u8], p: usize, n: usize, field: bool) -> usize
 }
 
 // Where the label stands among n records of siblings, or would. The search begins where the last one ended, at `from`, and starts again
-// if the label comes before the sibling there. The first key at which two key lists differ settles the order.
+// if the label comes before the sibling there. Key lists go by their lengths, which what is left of both tells apart where one ends, then
+// by the first key that differs.
 pub fn search(
     b: &[u8],
     from: usize,
@@ -99,20 +102,15 @@ pub fn search(
     while at < n {
         let mut i = 0;
         let mut j = at + 1;
+        let mut so_far = Order::Same;
         let order = match compare_head(b, at, kind, key, label) {
             Head::Settled(order) => order,
             Head::Lists(end) => loop {
-                if i == keys {
-                    break if j == end { Order::Same } else { Order::Less };
-                }
-                if j == end {
-                    break Order::More;
+                if i == keys || j == end {
+                    break then_order(compare_numbers(keys - i, end - j), so_far);
                 }
                 let k = number16(work, KEY_SIZE * i);
-                let m = key_at(b, j);
-                if k != m {
-                    break if k < m { Order::Less } else { Order::More };
-                }
+                so_far = then_order(so_far, compare_numbers(k, key_at(b, j)));
                 i += 1;
                 j += span_at(b, j);
             },

@@ -4,7 +4,7 @@ use mathlib.Core.List.{List, [], _∷_}
 use Prim.Native.Nat.{ℕ, _*_}
 use Rattle.counting_theory.specs.Encoding.{typeSize}
 use Rattle.counting_theory.specs.Answers.{Written, turnedDown, largestArena}
-use Rattle.counting_theory.specs.Trials.{TypeRecord, typeBytes, nineByKind, nineByLabel, oneNull, expected}
+use Rattle.counting_theory.specs.Trials.{TypeRecord, typeBytes, nineByKind, nineByLabel, longerFirst, oneNull, expected}
 use Rattle.removal.specs.Removed.{removed}
 
 -- {1: null}, one of the three messages of the nine records, and what the two others are under kind and under label
@@ -16,8 +16,8 @@ othersByKind = (5, 0, 6, 2 ∷ []) ∷ (7, 1, 2, 1 ∷ []) ∷ (3, 0, 1, 1 ∷ [
 
 abbrev pub othersByLabel : List TypeRecord
 othersByLabel =
-    (5, 0, 6, 1 ∷ []) ∷ (7, 1, 2, 1 ∷ []) ∷ (3, 0, 1, 1 ∷ []) ∷ (7, 2, 3, 1 ∷ []) ∷ (6, 0, 2, 1 ∷ []) ∷ (3, 0, 1, 2 ∷ [])
-    ∷ (5, 0, 3, 1 ∷ []) ∷ (7, 2, 2, 1 ∷ []) ∷ (6, 0, 1, 1 ∷ []) ∷ []
+    (5, 0, 3, 1 ∷ []) ∷ (7, 2, 2, 1 ∷ []) ∷ (6, 0, 1, 1 ∷ [])
+    ∷ (5, 0, 6, 1 ∷ []) ∷ (7, 1, 2, 1 ∷ []) ∷ (3, 0, 1, 1 ∷ []) ∷ (7, 2, 3, 1 ∷ []) ∷ (6, 0, 2, 1 ∷ []) ∷ (3, 0, 1, 2 ∷ []) ∷ []
 
 -- n records with no field; and one array with n numbers
 abbrev pub emptyRecords : ℕ → List TypeRecord
@@ -40,6 +40,9 @@ pub record TrialsHold : Type 0 where
   pub all-by-kind : tried nineByKind nineByKind 0 0 ≡ expected 0 0 0 []
   pub all-by-label : tried nineByLabel nineByLabel 1 0 ≡ expected 0 0 0 []
   pub nothing : tried nineByKind [] 0 largestArena ≡ expected 0 0 7 nineByKind
+  -- 8 and 9: the longer key list comes first
+  pub ill-formed-whole : tried longerFirst oneNull 1 largestArena ≡ turnedDown 8 0
+  pub ill-formed-part : tried oneNull longerFirst 1 largestArena ≡ turnedDown 9 0
   -- 16, with room or without: a place that the whole lacks; more of one than it has; what stands inside an array that goes; and under
   -- kind a field that would pass its records
   pub lacking : tried oneNull (emptyRecords 1) 0 0 ≡ turnedDown 16 0

@@ -22,9 +22,9 @@ entryBytes es = flatMap (λ e. recordBytes entryFormat (e .0 ∷ e .1 ∷ [])) e
 pub data Trial : Type 0 where
   trial : (source : List ValueRecord) (arena room number place count : ℕ) (type : List TypeRecord) (entries : List Entry) → Trial
 
--- the entries of the nine records: the key lists (1), (1, 2), (2)
+-- the entries of the nine records: the key lists (1), (2), (1, 2)
 abbrev pub nineEntries : List Entry
-nineEntries = (1, 1) ∷ (3, 2) ∷ (2, 1) ∷ []
+nineEntries = (1, 1) ∷ (2, 1) ∷ (3, 2) ∷ []
 
 -- {64: null}
 abbrev pub largestKey : Trial

@@ -4,6 +4,8 @@ use crate::type_record::kind_at;
 use crate::type_record::span_at;
 use value_table::record;
 ghost use mathlib.Core.Path.{_≡_};
+ghost use Prim.Native.Nat.{compare};
+ghost use Rattle.counting_theory.specs.Order.{then};
 ghost use Rattle.counting_theory.specs.Label.{compareKeys, compareLabel};
 ghost use Rattle.type_arena.specs.Inside.Arena.{byFlag, keysIn, labelAt, FieldsInside, Labelled};
 ghost use Rattle.type_arena.specs.Inside.LabelOrder.{orderingOf};
@@ -15,8 +17,32 @@ pub enum Order {
     More,
 }
 
-// How the key list of record x of b stands to that of record y of c: the first key that differs settles it, and a list that begins the
-// other comes first.
+// How one number stands to another.
+pub fn compare_numbers(x: usize, y: usize) -> Order
+    ensures { λ r. ⌜ orderingOf r ≡ compare x y ⌝ }
+{
+    if x < y {
+        return Order::Less;
+    }
+    if y < x {
+        return Order::More;
+    }
+    Order::Same
+}
+
+// The first of two orders, or the second where the first tells nothing apart.
+pub fn then_order(first: Order, second: Order) -> Order
+    ensures { λ r. ⌜ orderingOf r ≡ then (orderingOf first) (orderingOf second) ⌝ }
+{
+    match first {
+        Order::Less => Order::Less,
+        Order::Same => second,
+        Order::More => Order::More,
+    }
+}
+
+// How the key list of record x of b stands to that of record y of c: by their lengths, then by the first key that differs. Where one ends,
+// what is left of both tells their lengths apart.
 fn compare_keys(b: &[u8], x: usize, c: &[u8], y: usize) -> Order
     requires { ⌜ FieldsInside (now b) x × FieldsInside (now c) y ⌝ }
     ensures { λ r. ⌜ orderingOf r ≡ compareKeys (keysIn (now (b .entry)) x) (keysIn (now (c .entry)) y) ⌝ }
@@ -25,24 +51,12 @@ fn compare_keys(b: &[u8], x: usize, c: &[u8], y: usize) -> Order
     let y_end = y + span_at(c, y);
     let mut i = x + 1;
     let mut j = y + 1;
+    let mut so_far = Order::Same;
     let order = loop {
-        if i == x_end {
-            if j == y_end {
-                break Order::Same;
-            }
-            break Order::Less;
+        if i == x_end || j == y_end {
+            break then_order(compare_numbers(x_end - i, y_end - j), so_far);
         }
-        if j == y_end {
-            break Order::More;
-        }
-        let key = key_at(b, i);
-        let other = key_at(c, j);
-        if key != other {
-            if key < other {
-                break Order::Less;
-            }
-            break Order::More;
-        }
+        so_far = then_order(so_far, compare_numbers(key_at(b, i), key_at(c, j)));
         i += span_at(b, i);
         j += span_at(c, j);
     };

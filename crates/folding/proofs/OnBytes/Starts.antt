@@ -10,11 +10,8 @@ use Rattle.counting_theory.specs.Trie.{nil, node, size, insertStep, insert}
 use Rattle.counting_theory.specs.Inside.TrieLaws.{append}
 use Rattle.counting_theory.specs.Label.{Label, compareLabel, Counting, CountingType}
 use Rattle.inference.specs.Inside.Inferring.{Starts, splitHere, split}
+use Rattle.inference.proofs.InPlace.Seeking.{starts-zero}
 use Rattle.folding.specs.Inside.Folding.{Inside, startInside, lowestOf}
-
-pub starts-zero : (f : CountingType) → Starts 0 f
-unfolding append size
-starts-zero f = record { first = nil; last = f; whole = refl; count = refl }
 
 pub inside-zero : (from : ℕ) (f : CountingType) → Inside 0 from f
 inside-zero from f = record { begins = λ first l a c s e k i. starts-zero c }

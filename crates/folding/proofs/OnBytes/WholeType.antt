@@ -27,7 +27,7 @@ use Rattle.type_arena.proofs.FirstAddend.{type-coded}
 use Rattle.answers.proofs.Fronts.{front-stored, front-room, front-within, front-total}
 use Rattle.folding.proofs.KindType.{kind-size}
 use Rattle.folding.proofs.KindIsType.{kind-formed}
-use Rattle.folding.proofs.OnBytes.Starts.{starts-zero}
+use Rattle.inference.proofs.InPlace.Seeking.{starts-zero}
 use Rattle.folding.proofs.OnBytes.ReadByKind.{coded-kind, type-kind}
 use Rattle.folding.proofs.OnBytes.RunAdded.{run-full, run-records}
 

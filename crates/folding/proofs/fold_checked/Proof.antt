@@ -3,7 +3,7 @@ use mathlib.Core.Path.{sym, _∙_}
 use borrow.Author.Needs.{needs}
 use borrow.Author.Tests.{not-true, not-false}
 use Rattle.counting_theory.specs.Trie.{nil}
-use Rattle.folding.proofs.OnBytes.Starts.{starts-zero}
+use Rattle.inference.proofs.InPlace.Seeking.{starts-zero}
 use Rattle.folding.proofs.OnBytes.WholeType.{empty-holds, empty-held, whole-run, whole-front, whole-full, front-accepted, front-over, front-too-small}
 use Rattle.folding.proofs.fold_checked.Statement.{statement}
 use Rattle.folding.proofs.fold_checked.Tie as tie

@@ -2,7 +2,7 @@
 use native.Mathlib.Omega.{arith}
 use borrow.Author.Needs.{needs}
 use Rattle.counting_theory.specs.Trie.{nil}
-use Rattle.folding.proofs.OnBytes.Starts.{starts-zero}
+use Rattle.inference.proofs.InPlace.Seeking.{starts-zero}
 use Rattle.folding.proofs.OnBytes.WholeType.{empty-holds, empty-held, whole-run, whole-front, whole-full, never-full}
 use Rattle.folding.proofs.limit_kept_apart.Statement.{statement}
 use Rattle.folding.proofs.limit_kept_apart.Tie as tie

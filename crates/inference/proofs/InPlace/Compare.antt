@@ -1,7 +1,7 @@
 -- The key list in the working buffer, key by key, and beside that of a record.
 use mathlib.Core.Path.{_≡_, _∙_, ap}
 use mathlib.Core.List.{List, _∷_}
-use Prim.Native.Nat.{ℕ, zero, suc, _+_, _*_, _≤_}
+use Prim.Native.Nat.{ℕ, zero, suc, _+_, _*_, _≤_, compare, Ordering, Ordering·eq as eq}
 use native.Mathlib.Numerals.{add-one}
 use native.Mathlib.Omega.{arith}
 use lib.ListN.{length, drop, drop-of-length-le}
@@ -9,8 +9,10 @@ use lib.Seq.{drop-cons}
 use Rattle.byte_records.specs.Number.{numberAt}
 use Rattle.byte_records.specs.Inside.Chain.{Chain, done, next}
 use Rattle.byte_records.proofs.Chain.{chain-le}
+use Rattle.counting_theory.specs.Order.{then}
 use Rattle.counting_theory.specs.Encoding.{typeSize, typeKey, typeSpan}
-use Rattle.counting_theory.proofs.KeyOrder.{Comparing, comparing-start, left-sibling, right-sibling, heads-same}
+use Rattle.counting_theory.proofs.Order.{number-refl}
+use Rattle.counting_theory.proofs.KeyOrder.{Comparing, comparing-start, left-sibling, right-sibling, next-keys}
 use Rattle.type_arena.specs.Inside.Arena.{keysIn, FieldsInside}
 use Rattle.type_arena.proofs.Fields.{inside-chain}
 use Rattle.inference.specs.Inside.Inferring.{keysOf}
@@ -36,20 +38,29 @@ module _ (w : List ℕ) (n : ℕ) where
   keys-chain : Chain oneKey (keyIn w) n 0 (keysOf n w)
   keys-chain = chain-from n 0 (omega arith)
 
--- the first n keys of w and the key list of record p of b compare as what is left of them, from key i and from record j on
-pub record KeysLeft (b : List ℕ) (p : ℕ) (w : List ℕ) (n end i j : ℕ) : Type 0 where
-  pub comparing : Comparing oneKey (keyIn w) n (typeSpan b) (typeKey b) end (keysOf n w) (keysIn b p) i j
+-- the first n keys of w and the key list of record p of b compare as the keys before, by o, and what is left of them, from key i and from
+-- record j on
+pub record KeysLeft (b : List ℕ) (p : ℕ) (w : List ℕ) (n end : ℕ) (o : Ordering) (i j : ℕ) : Type 0 where
+  pub comparing : Comparing oneKey (keyIn w) n (typeSpan b) (typeKey b) end (keysOf n w) (keysIn b p) o i j
   pub most : i ≤ n
   pub upto : j ≤ end
   pub within : typeSize * end ≤ length b
 
 module _ {b : List ℕ} {p : ℕ} {w : List ℕ} {n : ℕ} where
-  pub left-start : FieldsInside b p → KeysLeft b p w n (p + typeSpan b p) 0 (p + 1)
+  pub left-start : FieldsInside b p → KeysLeft b p w n (p + typeSpan b p) eq 0 (p + 1)
   left-start h =
       record { comparing = comparing-start (keys-chain w n) (inside-chain h); most = omega arith; upto = chain-le (h .chain); within = h .within }
 
-  pub left-next : {end i j : ℕ} → KeysLeft b p w n end i j → (i ≡ n → ⊥) → (j ≡ end → ⊥) → keyIn w i ≡ typeKey b j → KeysLeft b p w n end (i + 1) (j + typeSpan b j)
-  left-next s f g k =
+  pub left-room : {end i j : ℕ} {o : Ordering} → KeysLeft b p w n end o i j → (j ≡ end → ⊥) → typeSize * j + typeSize ≤ length b
+  left-room s f = omega (arith, s .upto, s .within)
+
+  pub left-next : {end i j : ℕ} {o : Ordering} → KeysLeft b p w n end o i j → (i ≡ n → ⊥) → (j ≡ end → ⊥) →
+      KeysLeft b p w n end (then o (compare (keyIn w i) (typeKey b j))) (i + 1) (j + typeSpan b j)
+  left-next s f g =
       let x = left-sibling (s .comparing) f g in
       let y = right-sibling (s .comparing) f g in
-      record { comparing = heads-same (s .comparing) f g k; most = omega arith; upto = omega arith; within = s .within }
+      record { comparing = next-keys (s .comparing) f g; most = omega arith; upto = omega arith; within = s .within }
+
+  pub left-same : {end i j : ℕ} → KeysLeft b p w n end eq i j → (i ≡ n → ⊥) → (j ≡ end → ⊥) → keyIn w i ≡ typeKey b j → KeysLeft b p w n end eq (i + 1) (j + typeSpan b j)
+  unfolding then
+  left-same {j = j} s f g k = rw (k, number-refl (typeKey b j)) at (left-next s f g)

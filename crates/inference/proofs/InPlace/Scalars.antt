@@ -32,7 +32,7 @@ use Rattle.inference.proofs.InPlace.Append.{siblings-last}
 use Rattle.inference.proofs.InPlace.Items.{label-is}
 use Rattle.inference.proofs.InPlace.Nodes.{node-in}
 use Rattle.inference.proofs.InPlace.Placing.{holds-length, here-as-is}
-use Rattle.inference.proofs.InPlace.Seeking.{Seen, from-bytes, from-count, seen-start, seen-at, stop, not-both}
+use Rattle.inference.proofs.InPlace.Seeking.{Seen, starts-zero, from-bytes, from-count, seen-start, seen-at, stop, not-both}
 use Rattle.inference.proofs.InPlace.Splits.{HereAt, here-at}
 use Rattle.inference.proofs.InPlace.AddItem.{step-within, step-span, step-empty, step-holds, step-kept}
 use Rattle.inference.proofs.InPlace.RunLoop.{ran-first, below, grown as grownBy, turn-room, turn-added}
@@ -96,8 +96,7 @@ pub record Begun (e : Equivalence) (b : List ℕ) (n : ℕ) (l : Label) (f : Cou
   pub starts : Starts at f
 
 pub begun-first : {e : Equivalence} {field : Bool} {b : List ℕ} {n rest : ℕ} {f : CountingType} {q free : List ℕ} → ArenaHolds e field b n rest f q free → (l : Label) → Begun e b n l f 0
-unfolding append size
-begun-first {f = f} h l = record { seen = seen-start h l; starts = record { first = nil; last = f; whole = refl; count = refl } }
+begun-first {f = f} h l = record { seen = seen-start h l; starts = starts-zero f }
 
 module _ (label : Bool) {b : List ℕ} {n rest : ℕ} {f : CountingType} {q free : List ℕ} (h : ArenaHolds (byFlag label) true b n rest f q free) (key : ℕ) where
   abbrev wantedField : Label

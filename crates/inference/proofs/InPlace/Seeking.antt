@@ -23,6 +23,10 @@ use Rattle.inference.proofs.InPlace.Part.{tail-drop}
 use Rattle.inference.proofs.InPlace.Nodes.{node-in}
 use Rattle.inference.proofs.InPlace.Append.{encode-append, size-append, siblings-next, siblings-last, AllBefore, all-before}
 
+pub starts-zero : (f : CountingType) → Starts 0 f
+unfolding append size
+starts-zero f = record { first = nil; last = f; whole = refl; count = refl }
+
 -- The siblings g from record `at` on. A search among them gives what a search of all siblings f gives, unless it was resumed here and
 -- the label comes before the sibling here.
 pub record Seen (e : Equivalence) (a : List ℕ) (n : ℕ) (l : Label) (f : CountingType) (resumed : Bool) (at : ℕ) : Type 0 where
@@ -72,6 +76,14 @@ module _ {e : Equivalence} {field : Bool} {a : List ℕ} {n rest : ℕ} {f : Cou
         count = omega (arith, y .span-is, size-append first (node k c d nil));
       }
 
+  -- at the end the first one follows again
+  pub starts-again : {from p : ℕ} → Starts from f → 0 < n → p ≡ cond (ltb from n) from 0 → Starts p f × (p < n)
+  starts-again {from} s u e = rw e (go (decLt from n))
+    where
+      go : Dec (from < n) → (Starts (cond (ltb from n) from 0) f × (cond (ltb from n) from 0 < n))
+      go (yes v) = rw (lt-ltb from n v) (s, v)
+      go (no v) = rw (le-ltb from n (omega arith)) (starts-zero f, u)
+
   pub starts-next : (from : ℕ) → Starts from f → from < n → Starts (from + typeSpan a from) f
   starts-next from s u = next-start (s .first) (s .last) (s .whole) from (s .count) u
 
@@ -120,12 +132,16 @@ module _ {e : Equivalence} {field : Bool} {a : List ℕ} {n rest : ℕ} {f : Cou
   seen-at {from} s u m =
       seen-from (s .first) (s .last) (s .whole) from (s .count) false (λ z. absurd (true≢false (sym z))) (λ z. first-before (s .first) (s .last) (s .whole) from (s .count) u m)
 
+  -- one that is resumed at a sibling
+  pub seen-there : {from : ℕ} → Starts from f → from < n → Seen e a n l f true from
+  seen-there {from} s u = seen-from (s .first) (s .last) (s .whole) from (s .count) true (λ z. u) (λ z. absurd (true≢false z))
+
   -- one that is resumed, where it can be
   pub seen-resumed : {from : ℕ} → Starts from f → Seen e a n l f (ltb 0 (cond (ltb from n) from 0)) (cond (ltb from n) from 0)
   seen-resumed {from} s = go (decLt from n) (decLt 0 from)
     where
       go : Dec (from < n) → Dec (0 < from) → Seen e a n l f (ltb 0 (cond (ltb from n) from 0)) (cond (ltb from n) from 0)
-      go (yes u) (yes v) = rw (lt-ltb from n u, lt-ltb 0 from v) (seen-from (s .first) (s .last) (s .whole) from (s .count) true (λ z. u) (λ z. absurd (true≢false z)))
+      go (yes u) (yes v) = rw (lt-ltb from n u, lt-ltb 0 from v) (seen-there s u)
       go (yes u) (no v) = let z : from ≡ 0 = omega arith in rw (lt-ltb from n u, z) seen-start
       go (no u) w = rw (le-ltb from n (omega arith)) seen-start
 

@@ -25,7 +25,7 @@ module _ (c : tie.After-known-told) where
 
   stands : (field : Bool) (f : CountingType) (q free : List ℕ) → ArenaHolds (byFlag (c .before .before .before .before .before .before .before .args .label)) field (c .before .before .before .before .before .before .before .args .a .now) (c .before .before .before .before .before .before .before .args .n) (c .before .before .before .before .before .before .before .args .rest) f q free →
       Starts (c .before .before .before .before .before .before .before .args .from) f → StandsAt found-label f found-place
-  stands field f q free h s = sym (c .before .p .given .1) ∙ c .before .before .before .search .ensures field _ f q free h s
+  stands field f q free h s = sym (c .before .p .given .1) ∙ c .before .before .before .find .ensures field _ f q free h s
 
   found-room : typeSize * found-place + typeSize ≤ length (c .before .before .before .before .before .before .before .args .a .now)
   found-room =
@@ -43,15 +43,15 @@ module _ (c : tie.After-known-told2) where
   missed : (field : Bool) (f : CountingType) (q free : List ℕ) → ArenaHolds (byFlag (c .before .before .before .before .before .before .before .args .label)) field (c .before .before .before .before .before .before .before .args .a .now) (c .before .before .before .before .before .before .before .args .n) (c .before .before .before .before .before .before .before .args .rest) f q free →
       Starts (c .before .before .before .before .before .before .before .args .from) f → MissingAt (split missed-label f) 0 f missed-place
   missed field f q free h s =
-      missing-at missed-label 0 missed-place f (sym (c .before .p2 .given .1) ∙ c .before .before .before .search .ensures field _ f q free h s)
+      missing-at missed-label 0 missed-place f (sym (c .before .p2 .given .1) ∙ c .before .before .before .find .ensures field _ f q free h s)
 
   missed-room : (typeSize * missed-place ≤ typeSize * (c .before .before .before .before .before .before .before .args .n + c .before .before .before .before .before .before .before .args .rest)) × (typeSize * (c .before .before .before .before .before .before .before .args .n + c .before .before .before .before .before .before .before .args .rest) ≤ length (c .before .before .before .before .before .before .before .args .a .now))
   missed-room =
       let g = c .before .before .before .before .before .before .before .pre .0 in
       omega (arith, missing-within (g .holds) missed-label _ _ (missed (g .field) (g .f) (g .q) (g .free) (g .holds) (g .starts)), holds-length (g .holds))
 
-search-requires : tie.Need-search-requires
-search-requires c κs = let g = c .before .before .before .pre in (record { rest = _; held = g .0 }, g .1)
+find-requires : tie.Need-find-requires
+find-requires c κs = let g = c .before .before .before .pre in (record { rest = _; held = g .0 }, g .1)
 
 join-payload-requires : tie.Need-join-payload-requires
 join-payload-requires c κs = found-room (c .before)
@@ -97,7 +97,7 @@ pub place-spec : {M : Type 1} → statement M
 place-spec =
     tie.close
     (tie.spec
-    search-requires
+    find-requires
     (λ c. search needs)
     join-payload-requires
     (λ c. search needs)

@@ -1,27 +1,27 @@
 -- `search` meets its contract. Of its two loops the inner one, over key lists, comes first.
 use mathlib.Core.List.{List}
 use mathlib.Core.Bool.{Bool, cond}
-use mathlib.Core.Logic.{⊎-elim}
+use mathlib.Core.Logic.{⊎-elim, inl, inr}
 use mathlib.Core.Path.{_≡_, ap, sym, _∙_}
 use Prim.Native.Nat.{ℕ, _+_, _-_}
 use native.Mathlib.Omega.{arith}
-use borrow.Author.Tests.{not-true, not-false}
+use borrow.Author.Tests.{eqb-true, eqb-false, not-true, not-false}
 use borrow.Author.Needs.{needs}
 use Rattle.inference.specs.Inside.Inferring.{wanted, ArenaHolds, Starts}
 use Rattle.type_arena.specs.Inside.Arena.{byFlag, labelAt}
 use Rattle.type_arena.specs.Inside.LabelOrder.{orderingOf}
 use Rattle.counting_theory.specs.Label.{Equivalence, Label, compareLabel, CountingType}
-use Rattle.counting_theory.proofs.KeyOrder.{both-end, first-ends, second-ends, heads-less, heads-more}
-use Rattle.inference.proofs.InPlace.Compare.{KeysLeft, left-start, left-next}
+use Rattle.counting_theory.proofs.KeyOrder.{one-ends}
+use Rattle.inference.proofs.InPlace.Compare.{KeysLeft, left-start, left-room, left-next}
 use Rattle.inference.proofs.InPlace.Seeking.{Seen, Stop, seen-start, seen-resumed, stop, seen-end}
 use Rattle.inference.proofs.search.search.Statement.{statement}
 use Rattle.inference.proofs.search.search.Tie as tie
 
 abbrev Inv-loop2 : tie.InvT-loop2
-Inv-loop2 b from n kind key work keys label at resumed i₀ j₀ end i j = KeysLeft b at work keys end i j
+Inv-loop2 b from n kind key work keys label at resumed i₀ j₀ so-far₀ end i j so-far = KeysLeft b at work keys end (orderingOf so-far) i j
 
 abbrev μ-loop2 : tie.MeasureT-loop2
-μ-loop2 b from n kind key work keys label at resumed i₀ j₀ end i j = keys - i
+μ-loop2 b from n kind key work keys label at resumed i₀ j₀ so-far₀ end i j so-far = keys - i
 
 abbrev Inv-loop : tie.InvT-loop
 Inv-loop b from n kind key work keys label at₀ resumed₀ at resumed = (field : Bool) (rest : ℕ) (f : CountingType) (q free : List ℕ) → ArenaHolds (byFlag label) field b n rest f q free → Starts from f → Seen (byFlag label) b n (wanted (byFlag label) kind key keys work) f resumed at
@@ -58,15 +58,11 @@ verdict c =
     let head = c .before .compare-head .ensures in
     ⊎-elim
     (λ w. sym (rw (w .1 .given .1) at head _) ∙ ap orderingOf (sym (w .5)))
-    (⊎-elim
-    (λ w. sym (both-end (w .3 .inv .comparing) (w .4 .taken) (w .5 .taken) ∙ rw (w .1 .given .1) at head .2 _) ∙ ap orderingOf (sym (w .8)))
-    (⊎-elim
-    (λ w. sym (first-ends (w .3 .inv .comparing) (w .4 .taken) (w .5 .left) ∙ rw (w .1 .given .1) at head .2 _) ∙ ap orderingOf (sym (w .8)))
-    (⊎-elim
-    (λ w. sym (second-ends (w .3 .inv .comparing) (w .4 .left) (w .5 .taken) ∙ rw (w .1 .given .1) at head .2 _) ∙ ap orderingOf (sym (w .8)))
-    (⊎-elim
-    (λ w. sym (heads-less (w .3 .inv .comparing) (w .4 .left) (w .5 .left) (omega arith) ∙ rw (w .1 .given .1) at head .2 _) ∙ ap orderingOf (sym (w .12)))
-    (λ w. sym (heads-more (w .3 .inv .comparing) (w .4 .left) (w .5 .left) (omega arith) ∙ rw (w .1 .given .1) at head .2 _) ∙ ap orderingOf (sym (w .12)))))))
+    (λ w.
+    sym
+    (one-ends (w .3 .inv .comparing) (⊎-elim (λ v. inl (v .taken)) (λ v. inr (eqb-true _ _ (v .1 .taken))) (w .4 .came)) (w .5 .ensures) (w .6 .ensures)
+    ∙ rw (w .1 .given .1) at head .2 _)
+    ∙ ap orderingOf (sym (w .9)))
     (c .match .came)
 
 loop-holds : tie.Need-loop-holds Inv-loop2 μ-loop2 Inv-loop μ-loop
@@ -81,15 +77,25 @@ loop2-holds c =
     let head = rw (c .before .end .given .1) at (o .compare-head .ensures) in
     rw (head .0) (left-start (one (o .before) .here .fields (head .1)))
 
+-- a field is left where neither list has ended
+key-at-requires : tie.Need-key-at-requires Inv-loop2 μ-loop2 Inv-loop μ-loop
+key-at-requires c κs = left-room (c .before .before .before .loop2 .inv) (eqb-false _ _ (c .before .if2 .left))
+
+span-at-requires : tie.Need-span-at-requires Inv-loop2 μ-loop2 Inv-loop μ-loop
+span-at-requires c κs = key-at-requires (c .before .before .before) κs
+
 loop2-again : tie.Need-loop2-again Inv-loop2 μ-loop2 Inv-loop μ-loop
 loop2-again c =
-    let o = c .before .before .before .before in
-    rw (c .span-at .ensures .0) (left-next (o .before .before .loop2 .inv) (o .before .if1 .left) (o .if3 .left) (omega arith))
+    let t = c .before in
+    let k = t .before .before in
+    let o = k .before .before in
+    rw (c .span-at .ensures .0, t .then-order2 .ensures, t .before .compare-numbers2 .ensures, k .before .number16 .ensures .0, k .key-at .ensures)
+    (left-next (o .before .before .loop2 .inv) (o .before .if1 .left) (eqb-false _ _ (o .if2 .left)))
 
 returns : tie.Need-returns Inv-loop2 μ-loop2 Inv-loop μ-loop
 returns c field rest f q free h s =
     let m = c .before .before .before in
-    all (m .before .before) field rest f q free h s .less (verdict m ∙ ap orderingOf (c .before .enum-told .given .1)) (not-true _ (c .if6 .taken))
+    all (m .before .before) field rest f q free h s .less (verdict m ∙ ap orderingOf (c .before .enum-told .given .1)) (not-true _ (c .if3 .taken))
 
 returns-2 : tie.Need-returns-2 Inv-loop2 μ-loop2 Inv-loop μ-loop
 returns-2 c field rest f q free h s =
@@ -103,7 +109,7 @@ add-at : tie.Need-add-at Inv-loop2 μ-loop2 Inv-loop μ-loop
 add-at c = omega (arith, one (c .before .before .before .before .before) .upto)
 
 loop-less : tie.Need-loop-less Inv-loop2 μ-loop2 Inv-loop μ-loop
-loop-less c = rw (not-false (c .before .before .before .before .before .before .loop .resumed) (c .if6 .left)) (omega arith)
+loop-less c = rw (not-false (c .before .before .before .before .before .before .loop .resumed) (c .if3 .left)) (omega arith)
 
 loop-again : tie.Need-loop-again Inv-loop2 μ-loop2 Inv-loop μ-loop
 loop-again c field rest f q free h s = seen-start h _
@@ -135,10 +141,16 @@ search-spec =
     (λ c. search needs)
     loop2-holds
     (λ c. search needs)
+    (λ c. search needs)
     (λ c κs. search needs)
     (λ c κs. search needs)
     (λ c. search needs)
     (λ c κs. search needs)
+    key-at-requires
+    (λ c κs. search needs)
+    (λ c κs. search needs)
+    (λ c. search needs)
+    span-at-requires
     (λ c. search needs)
     (λ c. search needs)
     loop2-again

@@ -1,19 +1,23 @@
--- `compare_keys` meets its contract. The loop's invariant: the key lists compare as what is left of them.
+-- `compare_keys` meets its contract. The loop's invariant: the key lists compare as the keys before and what is left of them.
+use mathlib.Core.Logic.{⊎-elim, inl, inr}
 use Prim.Native.Nat.{_-_}
 use native.Mathlib.Omega.{arith}
+use borrow.Author.Needs.{needs}
+use borrow.Author.Tests.{eqb-true, eqb-false}
 use Rattle.byte_records.proofs.Chain.{chain-le}
 use Rattle.counting_theory.specs.Encoding.{typeKey, typeSpan}
-use Rattle.counting_theory.proofs.KeyOrder.{Comparing, comparing-start, both-end, first-ends, second-ends, left-sibling, right-sibling, heads-less, heads-more, heads-same}
+use Rattle.counting_theory.proofs.KeyOrder.{Comparing, comparing-start, one-ends, left-sibling, right-sibling, next-keys}
 use Rattle.type_arena.specs.Inside.Arena.{keysIn}
+use Rattle.type_arena.specs.Inside.LabelOrder.{orderingOf}
 use Rattle.type_arena.proofs.Fields.{inside-chain}
 use Rattle.type_arena.proofs.label_order.compare_keys.Statement.{statement}
 use Rattle.type_arena.proofs.label_order.compare_keys.Tie as tie
 
 abbrev Inv-loop : tie.InvT-loop
-Inv-loop b x c y x-end y-end i₀ j₀ i j = Comparing (typeSpan b) (typeKey b) x-end (typeSpan c) (typeKey c) y-end (keysIn b x) (keysIn c y) i j
+Inv-loop b x c y x-end y-end i₀ j₀ so-far₀ i j so-far = Comparing (typeSpan b) (typeKey b) x-end (typeSpan c) (typeKey c) y-end (keysIn b x) (keysIn c y) (orderingOf so-far) i j
 
 abbrev μ-loop : tie.MeasureT-loop
-μ-loop b x c y x-end y-end i₀ j₀ i j = x-end - i
+μ-loop b x c y x-end y-end i₀ j₀ so-far₀ i j so-far = x-end - i
 
 span-at-requires : tie.Need-span-at-requires Inv-loop μ-loop
 span-at-requires c κs = omega (arith, chain-le (c .before .before .pre .0 .chain))
@@ -38,70 +42,65 @@ loop-holds c =
     let p = c .before .before .before .before .pre in
     rw (c .before .span-at .ensures .0, c .span-at2 .ensures .0) (comparing-start (inside-chain (p .0)) (inside-chain (p .1)))
 
+sub-compare-numbers : tie.Need-sub-compare-numbers Inv-loop μ-loop
+sub-compare-numbers c = omega (arith, chain-le (c .before .loop .inv .left-chain))
+
+sub-compare-numbers-2 : tie.Need-sub-compare-numbers-2 Inv-loop μ-loop
+sub-compare-numbers-2 c = omega (arith, chain-le (c .before .loop .inv .right-chain))
+
 key-at-requires : tie.Need-key-at-requires Inv-loop μ-loop
 key-at-requires c κs =
-    let f = left-sibling (c .before .before .loop .inv) (c .before .if1 .left) (c .if3 .left) in
+    let f = left-sibling (c .before .before .loop .inv) (c .before .if1 .left) (eqb-false _ _ (c .if2 .left)) in
     omega arith
 
 key-at-requires-2 : tie.Need-key-at-requires-2 Inv-loop μ-loop
 key-at-requires-2 c κs =
     let o = c .before in
-    let g = right-sibling (o .before .before .loop .inv) (o .before .if1 .left) (o .if3 .left) in
+    let g = right-sibling (o .before .before .loop .inv) (o .before .if1 .left) (eqb-false _ _ (o .if2 .left)) in
     omega arith
 
 span-at-requires-3 : tie.Need-span-at-requires-3 Inv-loop μ-loop
 span-at-requires-3 c κs =
-    let o = c .before .before .before in
-    let f = left-sibling (o .before .before .loop .inv) (o .before .if1 .left) (o .if3 .left) in
+    let o = c .before .before .before .before in
+    let f = left-sibling (o .before .before .loop .inv) (o .before .if1 .left) (eqb-false _ _ (o .if2 .left)) in
     omega arith
 
 add-i-2 : tie.Need-add-i-2 Inv-loop μ-loop
 add-i-2 c =
-    let o = c .before .before .before .before in
-    let f = left-sibling (o .before .before .loop .inv) (o .before .if1 .left) (o .if3 .left) in
+    let o = c .before .before .before .before .before in
+    let f = left-sibling (o .before .before .loop .inv) (o .before .if1 .left) (eqb-false _ _ (o .if2 .left)) in
     omega arith
 
 span-at-requires-4 : tie.Need-span-at-requires-4 Inv-loop μ-loop
 span-at-requires-4 c κs =
-    let o = c .before .before .before .before in
-    let g = right-sibling (o .before .before .loop .inv) (o .before .if1 .left) (o .if3 .left) in
+    let o = c .before .before .before .before .before in
+    let g = right-sibling (o .before .before .loop .inv) (o .before .if1 .left) (eqb-false _ _ (o .if2 .left)) in
     omega arith
 
 add-j-2 : tie.Need-add-j-2 Inv-loop μ-loop
 add-j-2 c =
-    let o = c .before .before .before .before .before in
-    let g = right-sibling (o .before .before .loop .inv) (o .before .if1 .left) (o .if3 .left) in
+    let o = c .before .before .before .before .before .before in
+    let g = right-sibling (o .before .before .loop .inv) (o .before .if1 .left) (eqb-false _ _ (o .if2 .left)) in
     omega arith
 
 loop-less : tie.Need-loop-less Inv-loop μ-loop
 loop-less c =
-    let o = c .before .before .before .before .before in
-    let f = left-sibling (o .before .before .loop .inv) (o .before .if1 .left) (o .if3 .left) in
+    let o = c .before .before .before .before .before .before in
+    let f = left-sibling (o .before .before .loop .inv) (o .before .if1 .left) (eqb-false _ _ (o .if2 .left)) in
     omega arith
 
 loop-again : tie.Need-loop-again Inv-loop μ-loop
 loop-again c =
-    let o = c .before .before .before .before .before in
-    rw (c .before .span-at3 .ensures .0, c .span-at4 .ensures .0) (heads-same (o .before .before .loop .inv) (o .before .if1 .left) (o .if3 .left) (omega arith))
+    let t = c .before .before in
+    let k = t .before .before in
+    let o = k .before .before in
+    rw (c .before .span-at3 .ensures .0, c .span-at4 .ensures .0, t .then-order2 .ensures, t .before .compare-numbers2 .ensures, k .before .key-at .ensures, k .key-at2 .ensures)
+    (next-keys (o .before .before .loop .inv) (o .before .if1 .left) (eqb-false _ _ (o .if2 .left)))
 
 returns : tie.Need-returns Inv-loop μ-loop
-returns c = both-end (c .before .before .loop .inv) (c .before .if1 .taken) (c .if2 .taken)
-
-returns-2 : tie.Need-returns-2 Inv-loop μ-loop
-returns-2 c = first-ends (c .before .before .loop .inv) (c .before .if1 .taken) (c .if2 .left)
-
-returns-3 : tie.Need-returns-3 Inv-loop μ-loop
-returns-3 c = second-ends (c .before .before .loop .inv) (c .before .if1 .left) (c .if3 .taken)
-
-returns-4 : tie.Need-returns-4 Inv-loop μ-loop
-returns-4 c =
-    let o = c .before .before .before .before in
-    heads-less (o .before .before .loop .inv) (o .before .if1 .left) (o .if3 .left) (omega arith)
-
-returns-5 : tie.Need-returns-5 Inv-loop μ-loop
-returns-5 c =
-    let o = c .before .before .before .before in
-    heads-more (o .before .before .loop .inv) (o .before .if1 .left) (o .if3 .left) (omega arith)
+returns c =
+    let e = c .before .before in
+    one-ends (e .before .loop .inv) (⊎-elim (λ w. inl (w .taken)) (λ w. inr (eqb-true _ _ (w .1 .taken))) (e .if1 .came)) (c .before .compare-numbers .ensures) (c .then-order .ensures)
 
 pub compare-keys-spec : {M : Type 1} → statement M
 compare-keys-spec =
@@ -116,16 +115,18 @@ compare-keys-spec =
     add-i
     add-j
     loop-holds
+    sub-compare-numbers
+    sub-compare-numbers-2
+    (λ c κs. search needs)
+    (λ c κs. search needs)
     key-at-requires
     key-at-requires-2
+    (λ c κs. search needs)
+    (λ c κs. search needs)
     span-at-requires-3
     add-i-2
     span-at-requires-4
     add-j-2
     loop-less
     loop-again
-    returns
-    returns-2
-    returns-3
-    returns-4
-    returns-5)
+    returns)
