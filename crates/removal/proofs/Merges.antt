@@ -1,4 +1,4 @@
--- When call 5 gives a whole: exactly when the types of its two inputs reduce to that of the whole.
+-- When a merge gives a whole: exactly when the types of its two inputs reduce to that of the whole.
 use mathlib.Core.Path.{_≡_, refl, ap}
 use mathlib.Core.Bool.{cond}
 use mathlib.Core.List.{List}

@@ -56,7 +56,7 @@ removed whole part equivalence arena =
 abbrev pub writes : List ℕ → Written
 writes b = record { outcome = accepted (typeRecords b); bytes = b }
 
--- call 5 merges the type of bytes b with the part, and that gives the whole
+-- the type of bytes b, merged with the part, gives the whole
 abbrev pub MergesTo : Equivalence → List ℕ → List ℕ → List ℕ → Type 0
 MergesTo e b part whole = merged b part (equivalenceNumber e) largestArena ≡ writes whole
 

@@ -22,7 +22,7 @@ stored n f = cond (ltb n (typeSize * size f)) (turnedDown 11 0) (record { outcom
 abbrev pub largestArena : ℕ
 largestArena = typeSize * (maxLength / typeSize)
 
--- Call 5: 1, 2, 8, 9, 10, 11.
+-- The merge of two such types: 1, 2, 8, 9, 10, 11.
 abbrev pub mergedTypes : CountingType → ℕ → Written
 mergedTypes f n = cond (withinLimit f) (stored n f) (turnedDown 10 0)
 
