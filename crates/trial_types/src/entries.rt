@@ -20,6 +20,7 @@ use trial_output::print_answer;
 use trial_output::print_checksum;
 use trial_output::print_type;
 use trial_output::type_in;
+use value_table::Answer;
 use value_table::record;
 ghost use Prim.Native.Nat.{_+_, _*_, _≤_};
 ghost use lib.ListN.{length};
@@ -71,8 +72,8 @@ fn entry_bytes(bytes: &[u8]) -> usize {
     end
 }
 
-fn infer_into(table: &[u8], arena: &mut [u8], work: &mut [u8], entries: &mut [u8]) {
-    let answer = answers::answer_of(tag_bus::infer_tag_bus(table, arena, work, entries));
+// The answer, and what the call has left.
+fn print_left(answer: Answer, arena: &[u8], work: &[u8], entries: &[u8]) {
     let written = type_in(arena, Layout::Type, answer.count);
     let end = entry_bytes(written);
     print_answer(answer);
@@ -81,6 +82,11 @@ fn infer_into(table: &[u8], arena: &mut [u8], work: &mut [u8], entries: &mut [u8
     print(nonzero(part(entries, end, entries.len())));
     print_type(written, Layout::Type);
     print_entries(part(entries, 0, end));
+}
+
+fn infer_into(table: &[u8], arena: &mut [u8], work: &mut [u8], entries: &mut [u8]) {
+    let answer = answers::answer_of(tag_bus::infer_tag_bus(table, arena, work, entries));
+    print_left(answer, arena, work, entries);
 }
 
 // Call 8. The line may name the lengths of the entries, of the arena, of the working buffer and of the table.
