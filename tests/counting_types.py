@@ -494,6 +494,10 @@ WITHOUT_LENGTHS = {
     "string": (string(), 0),
     "record": (with_keys(1), 0),
     "field": (with_keys(1), 1),
+    "value": (with_keys(1), 2),
+    "field-of-two": (record(field(1, null(), boolean()), count=2), 1),
+    "value-of-two": (record(field(1, null(), boolean()), count=2), 3),
+    "field-of-array": (record(field(1, array())), 1),
 }
 
 
@@ -506,7 +510,6 @@ def other_kinds():
         yield f"null-shortest-2^{bits}", changed(null(), 0, shortest=2**bits)
         yield f"null-longest-2^{bits}", changed(null(), 0, longest=2**bits)
     yield "element-longest-1", changed(array(null()), 1, longest=1)
-    yield "value-longest-1", changed(with_keys(1), 2, longest=1)
     yield "empty-record-longest-1", changed(record(), 0, longest=1)
     yield "all-ones", changed(null(), 0, shortest=2**32 - 1, longest=2**32 - 1)
 
