@@ -133,7 +133,8 @@ def array_lengths():
     yield "array-lengths-in-array", array(together(few, more), lengths=(4, 4))
     yield "array-lengths-of-folded-elements", arrays_of_lists(3, 1, 5)
     yield "array-lengths-of-folded-elements-of-two-lists", together(arrays_of_lists(3, 1, 5), arrays_of_lists(2, 0, 7))
-    yield "array-lengths-in-two-fields", record(field(1, few), field(2, more), count=2) + record(field(1, more), field(2, few), field(3, null(2)), count=2)
+    turned = record(field(1, more), field(2, few), field(3, null(2)), count=2)
+    yield "array-lengths-in-two-fields", record(field(1, few), field(2, more), count=2) + turned
     yield "array-lengths-at-32", nested(29, together(array(few), array(more, count=2)))
     one, others = arrays(1, 1, 1, 1), arrays(LIMIT - 1, LIMIT - 1, 1, 1)
     yield "array-lengths-of-10^15-arrays", together(one, others)
@@ -377,7 +378,8 @@ def given_lengths():
     yield "arena-25-above-limit", above, 25, 25
     yield "work-0-above-limit", above, LARGEST, 0
     yield "type-25-arena-0", front(NINE_BY_LABEL, 25), 0, 0
-    for name, rows in ("null", null()), ("two-lists", lists([1], [2])), ("array-of-two", array(null(), boolean())), ("nine-by-label", NINE_BY_LABEL):
+    plain = {"null": null(), "two-lists": lists([1], [2]), "array-of-two": array(null(), boolean()), "nine-by-label": NINE_BY_LABEL}
+    for name, rows in plain.items():
         yield f"plain-{name}", PLAIN.bytes_of(rows), LARGEST, LARGEST
 
 
@@ -392,8 +394,8 @@ def drawn_ones():
 
 def trials():
     """Names, types and lengths, in the order of crates/trials."""
-    groups = document, as_they_are, key_lists, list_lengths, one_place, array_lengths, inside, levels, large_counts, totals, totals_and_rooms
-    for group in (*groups, malformed, depths, largest):
+    groups = document, as_they_are, key_lists, list_lengths, one_place, array_lengths, inside, levels, large_counts
+    for group in (*groups, totals, totals_and_rooms, malformed, depths, largest):
         yield from lent(group())
     yield from given_lengths()
     yield from lent(drawn_ones())

@@ -172,7 +172,7 @@ def array_lengths():
     yield "array-lengths-256-and-2", of_length(256) + of_length(2)
     yield "array-lengths-of-equal-messages", 3 * of_length(2) + of_length(1) + 2 * of_length(2)
     yield "array-lengths-of-two-kinds", array(null(), number()) + array(number(), number(), null())
-    yield "array-lengths-of-records", array(with_keys(1), with_keys(2)) + array(with_keys(2)) + array(with_keys(1), with_keys(1), with_keys(1))
+    yield "array-lengths-of-records", array(with_keys(1), with_keys(2)) + array(with_keys(2)) + array(3 * with_keys(1))
     yield "array-lengths-of-arrays", array(of_length(3), of_length(1)) + array(of_length(2), of_length(2), of_length(2))
     yield "array-lengths-of-equal-elements", array(of_length(2), of_length(2), of_length(2))
     yield "array-lengths-of-equal-arrays-of-arrays", 2 * array(array(of_length(1), of_length(2)), array(of_length(1), of_length(2)))

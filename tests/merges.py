@@ -1,4 +1,4 @@
-"""Trials of call 5 by documents 01 and 02, written without the crates: reads both types as maps from places to tallies, adds, writes, prints.
+"""Trials of call 5 by documents 01 and 02, written without the crates: reads both types as maps from places to tallies, adds these, prints.
 
 A place is a tuple of classes and of fields, so that places in order are the rows of a type in order.
 """
@@ -260,7 +260,7 @@ def malformed():
 
 
 def array_lengths():
-    """Lengths apart, within each other, overlapping, touching and equal, of elements of one kind or of two; also bytes that compare otherwise."""
+    """Lengths apart, within each other, overlapping, touching and equal; of one kind of elements or two; with bytes that compare otherwise."""
     pairs = {
         "2-and-5": (arrays(1, 2, 2, 2), arrays(1, 5, 5, 5)),
         "1-to-4-and-2-to-3": (arrays(2, 5, 1, 4), arrays(2, 5, 2, 3)),
@@ -293,7 +293,8 @@ def lengths_inside():
     yield "array-lengths-at-32", nested(31, arrays(1, 3, 3, 3)), nested(31, array())
     yield from both_ways("array-lengths-in-rest", "array-lengths-in-rest-turned", null() + few, boolean())
     yield from both_ways("array-lengths-in-rest-of-content", "array-lengths-in-rest-of-content-turned", array(null(), few), array(null()))
-    yield "array-lengths-of-first-list-only", record(field(1, few), count=2) + record(field(2, more), count=2), record(field(1, more), count=2)
+    first, second = record(field(1, few), count=2), record(field(2, more), count=2)
+    yield "array-lengths-of-first-list-only", first + second, record(field(1, more), count=2)
 
 
 def wrong_lengths():
