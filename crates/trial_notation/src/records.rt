@@ -14,7 +14,7 @@ pub enum Layout {
 }
 
 // The bytes of a record of a plain type.
-pub const PLAIN_SIZE: usize = 16;
+pub const PLAIN_SIZE: usize = removal_arena::type_record::SIZE;
 
 // Where a number begins in its record, and how many bytes it has.
 struct Extent {
