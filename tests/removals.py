@@ -5,10 +5,9 @@ from collections import Counter
 
 import merges
 from counting_types import DEFAULT, EITHER_ORDER, EVERY_KIND, FORMER_DEFAULT, FORMER_ORDER, FORMER_SAME_KEYS, KNOWN, LIMIT
-from counting_types import NINE_BY_KIND, NINE_BY_LABEL, NINE_IN_FORMER_ORDER, UNKNOWN
+from counting_types import MOST_RECORDS, NINE_BY_KIND, NINE_BY_LABEL, NINE_IN_FORMER_ORDER, UNKNOWN
 from counting_types import array, boolean, field, null, number, record, string
-from counting_types import changed, digits, lists, nested, spelled, with_keys
-from counting_types import MOST_RECORDS, wide as wide_of
+from counting_types import changed, digits, lists, nested, spelled, wide as wide_of, with_keys
 from merges import ZEROS, Tally, fitted, in_fields, merge, odd_and_even, places, refusal_of, rows_of, scalars
 from type_records import PLAIN, WITH_LENGTHS
 
@@ -455,6 +454,10 @@ def unknown():
     yield "part-17-zeros-whole", zeros, front(null(), 17), LARGEST
 
 
+def pairs(trials):
+    return merges.pairs(trials, PLAIN)
+
+
 def known():
     """Names, whole and part, and arena lengths, in the order of crates/trials."""
     groups = nothing_and_all, unions, contents, inner_contents, fields, values, fields_beside_records, key_lists, list_lengths, former_order
@@ -465,10 +468,6 @@ def known():
         yield from pairs(group())
     yield from given_lengths()
     yield from with_lengths()
-
-
-def pairs(trials):
-    return merges.pairs(trials, PLAIN)
 
 
 if __name__ == "__main__":
