@@ -537,6 +537,8 @@ def plain_types():
     """Types stored before records had lengths. An allowed length have only those with a number of records that is a multiple of 3."""
     for name, rows in ("null", null()), ("two", null() + boolean()), ("three", null() + boolean() + number()), ("array", array(null())):
         yield f"plain-{name}", PLAIN.bytes_of(rows)
+    # Read with lengths this is a null and a boolean, in which nothing but the lengths is wrong.
+    yield "plain-three-but-for-lengths", PLAIN.bytes_of(null() + boolean(2**32 + BOOLEAN) + number())
     yield "plain-array-of-two", PLAIN.bytes_of(array(null(), boolean(), count=2))
     yield "plain-nine-by-kind", PLAIN.bytes_of(NINE_BY_KIND)
     yield "plain-nine-by-label", PLAIN.bytes_of(NINE_BY_LABEL)
