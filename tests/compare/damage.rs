@@ -3,7 +3,8 @@
 use crate::lengths::MOST_ELEMENTS;
 use crate::profile::LIMIT;
 use crate::random::Random;
-use crate::{types, value};
+use crate::types;
+use crate::value::{self, ARRAY};
 
 /// Bytes of records of this size, with one to three changes.
 pub fn damaged(bytes: &[u8], size: usize, random: &mut Random) -> Vec<u8> {
@@ -33,9 +34,20 @@ fn damage(bytes: &mut Vec<u8>, size: usize, random: &mut Random) {
         7 => swap_siblings(bytes, at, size),
         8 => repeat_or_drop(bytes, at, size, random),
         9 if size > value::SIZE => change_count(bytes, at, random),
-        10..=11 if size == types::SIZE => change_lengths(bytes, at, random),
+        10 if size == types::SIZE => change_lengths(bytes, at, random),
+        11 if size == types::SIZE => {
+            let at = some_array(bytes, random).unwrap_or(at);
+            change_lengths(bytes, at, random);
+        }
         _ => change_key(bytes, at, size, random),
     }
+}
+
+/// Where a record of an array stands in a type, if it has any.
+fn some_array(bytes: &[u8], random: &mut Random) -> Option<usize> {
+    let starts = (0..bytes.len() / types::SIZE).map(|record| types::SIZE * record);
+    let arrays: Vec<usize> = starts.filter(|at| bytes[*at] == ARRAY).collect();
+    (!arrays.is_empty()).then(|| random.pick(&arrays))
 }
 
 /// Changes one length by one or to a number at a border, swaps the two, or makes them equal.
