@@ -16,9 +16,9 @@ extern "C" {
  * 6. All numbers are unsigned and little-endian. Where arrays come together, by ct_merge or ct_fold, the smaller of the shortest and the
  * larger of the longest lengths stay.
  *
- * The types that ct_remove takes and leaves end before that: their records are the first 16 bytes. Types stored before there were lengths
+ * The records of types that ct_remove takes and leaves end before the lengths, and have 16 bytes. Types stored before there were lengths
  * are such types. Every other call refuses them, as CT_LENGTH, CT_FIRST_TYPE or CT_SECOND_TYPE, and what they tell of must be inferred anew;
- * in the same way ct_remove refuses types with lengths. */
+ * in the same way ct_remove refuses types with lengths. Only the empty type is one for every call. */
 #define CT_VALUE_RECORD 8
 #define CT_TYPE_RECORD 24
 #define CT_REMOVAL_RECORD 16
@@ -57,7 +57,7 @@ extern "C" {
  *
  * Under CT_BY_LABEL the addends of kind 5 in a union ascend by their key lists: shorter lists first, and lists of one length by their first
  * differing key. Earlier the first differing key alone settled the order, and a list that begins the other came first: a type stored in
- * that order is not well formed (CT_FIRST_TYPE, CT_SECOND_TYPE), unless both orders agree. Types under CT_BY_KIND are as they were. */
+ * that order is not well formed (CT_FIRST_TYPE, CT_SECOND_TYPE), unless both orders agree. Under CT_BY_KIND there is no such order. */
 #define CT_BY_KIND 0
 #define CT_BY_LABEL 1
 

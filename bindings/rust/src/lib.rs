@@ -21,7 +21,8 @@ pub const TYPE_RECORD: usize = 24;
 /// Bytes of a record of the types that [`remove`] takes and leaves: the first ones of a type record, without the lengths.
 ///
 /// Types stored before there were lengths are such types. Every other call refuses them, by [`Refusal::Length`], [`Refusal::FirstType`]
-/// or [`Refusal::SecondType`], and what they tell of must be inferred anew; in the same way [`remove`] refuses types with lengths.
+/// or [`Refusal::SecondType`], and what they tell of must be inferred anew; in the same way [`remove`] refuses types with lengths. Only
+/// the empty type is one for every call.
 pub const REMOVAL_RECORD: usize = 16;
 
 /// Bytes of an entry of [`infer_tag_bus`].
