@@ -14,7 +14,7 @@ pub const DIRT: u8 = 165;
 pub fn largest(layout: Layout) -> usize {
     match layout {
         Layout::Value => record::MAX_LENGTH / record::SIZE * record::SIZE,
-        Layout::Type => record::MAX_LENGTH / type_record::SIZE * type_record::SIZE,
+        Layout::Type => type_record::LARGEST_ARENA,
         Layout::Plain => record::MAX_LENGTH / PLAIN_SIZE * PLAIN_SIZE,
     }
 }

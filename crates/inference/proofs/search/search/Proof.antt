@@ -1,7 +1,7 @@
 -- `search` meets its contract.
 use mathlib.Core.List.{List}
 use mathlib.Core.Bool.{Bool, cond}
-use mathlib.Core.Path.{_≡_, ap, sym, _∙_}
+use mathlib.Core.Path.{ap, sym, _∙_}
 use Prim.Native.Nat.{ℕ, _+_, _-_}
 use native.Mathlib.Omega.{arith}
 use borrow.Author.Tests.{not-true, not-false}
