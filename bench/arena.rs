@@ -1,6 +1,6 @@
-//! An arena that is written as far as there is room, for the plain merge, removal, fold and inferences.
+//! An arena that is written as far as there is room, for the plain merge, fold and inferences.
 
-use crate::type_validator::SIZE;
+use crate::type_validator::{Lengths, SIZE};
 
 const NO_ROOM: u64 = 11;
 
@@ -33,13 +33,15 @@ impl<'a> Arena<'a> {
     }
 
     /// Writes the record at a place that was left open; what was written since then stands inside it.
-    pub fn close(&mut self, at: usize, kind: u8, key: u16, count: u64) {
+    pub fn close(&mut self, at: usize, kind: u8, key: u16, count: u64, lengths: Lengths) {
         let span = ((self.used - at) / SIZE) as u32;
         let mut record = [0; SIZE];
         record[0] = kind;
         record[2..4].copy_from_slice(&key.to_le_bytes());
         record[4..8].copy_from_slice(&span.to_le_bytes());
-        record[8..].copy_from_slice(&count.to_le_bytes());
+        record[8..16].copy_from_slice(&count.to_le_bytes());
+        record[16..20].copy_from_slice(&lengths.shortest.to_le_bytes());
+        record[20..].copy_from_slice(&lengths.longest.to_le_bytes());
         self.put(at, &record);
     }
 

@@ -4,6 +4,9 @@
 //! `removals` for removal, `tagbus` for the inference for the tag bus beside call 2, or `folds` for folding.
 
 mod arena;
+mod bare_arena;
+mod bare_front;
+mod bare_validator;
 mod comparing;
 mod folds;
 mod front;
@@ -32,18 +35,17 @@ mod validator;
 
 use pair::Workload;
 
-/// The calls that write a type, with tables of n records and types of half as many.
+/// The calls that write a type, with tables of n records and types of a third as many, or half as many where they have no lengths.
 fn writers(n: usize, log: &[u8]) -> Vec<Workload> {
     let mut workloads = inferences::workloads(n, log);
-    let n = n as u16 / 2;
-    workloads.extend(merges::workloads(n));
-    workloads.extend(removals::workloads(n, log));
+    workloads.extend(merges::workloads(n as u16 / 3));
+    workloads.extend(removals::workloads(n as u16 / 2, log));
     workloads
 }
 
 fn workloads(n: usize, log: &[u8]) -> Vec<Workload> {
     let mut workloads = judges::of_tables(n);
-    workloads.extend(judges::of_types(n as u16 / 2));
+    workloads.extend(judges::of_types(n as u16 / 3));
     workloads.extend(writers(n, log));
     workloads.extend(removals::refused_workloads(n as u16 / 2));
     workloads
@@ -65,7 +67,7 @@ fn compare(workloads: &[Workload], turns: usize) {
 /// `all` and `growing` give workloads for a number of records.
 fn types(all: impl Fn(usize) -> Vec<Workload>, growing: impl Fn(usize) -> Vec<Workload>) {
     let largest = all(8192);
-    compare(&all(100), 20_000);
+    compare(&all(150), 20_000);
     compare(&largest, 10);
     timing::report(&largest);
     println!();
@@ -85,9 +87,9 @@ fn tag_bus(log: &[u8]) {
 }
 
 fn folds(log: &[u8]) {
-    let largest = folds::rows(4096, log);
-    let refused = folds::refused_workloads(4096);
-    for (rows, turns) in [(&folds::rows(100, log), 20_000), (&largest, 10)] {
+    let largest = folds::rows(8192, log);
+    let refused = folds::refused_workloads(8192 / 3);
+    for (rows, turns) in [(&folds::rows(300, log), 20_000), (&largest, 10)] {
         for row in rows {
             folds::compare(row, turns);
         }
@@ -98,7 +100,7 @@ fn folds(log: &[u8]) {
     println!();
     timing::report(&refused);
     println!();
-    growth::report(|kib| folds::growing(64 * kib));
+    growth::report(|kib| folds::growing(128 * kib / 3));
     println!();
 }
 

@@ -3,7 +3,8 @@
 use crate::pair::{Buffers, Inputs, Pair, Workload, ROOM};
 use crate::sequence::Sequence;
 use crate::type_validator::{MAX_TOTAL, SIZE as TYPE_RECORD};
-use crate::validator::{header, SIZE as VALUE_RECORD};
+use crate::types;
+use crate::validator::{header, ARRAY, SIZE as VALUE_RECORD};
 use ct::raw::Answer;
 
 /// Buffers with something in them beforehand.
@@ -36,11 +37,25 @@ pub fn agree(pair: &Pair, name: &str, inputs: &Inputs, lengths: [usize; 3]) -> A
 
 /// Puts all records into one more array.
 fn wrap(bytes: &mut Vec<u8>, size: usize) {
+    if size == TYPE_RECORD {
+        *bytes = types::array(bytes);
+        return;
+    }
     let span = 1 + (bytes.len() / size) as u32;
     let mut array = vec![6, 0, 0, 0];
     array.extend(span.to_le_bytes());
     array.extend(&1u64.to_le_bytes()[..size - 8]);
     bytes.splice(0..0, array);
+}
+
+/// Changes a length of an array by one, if there is one from this record on.
+fn change_length(bytes: &mut [u8], record: usize, sequence: &mut Sequence) {
+    let from = bytes.chunks_exact_mut(TYPE_RECORD).skip(record);
+    let array = from.into_iter().find(|record| record[0] == ARRAY);
+    if let Some(array) = array {
+        let at = [16, 20][sequence.below(2)];
+        array[at] = array[at].wrapping_add([1, 255][sequence.below(2)]);
+    }
 }
 
 /// Gives the first record of a type a count by which totals are near the limit.
@@ -68,8 +83,9 @@ fn damage(bytes: &mut Vec<u8>, size: usize, sequence: &mut Sequence) {
         0 => bytes.truncate(at),
         1 => bytes.truncate(at / size * size),
         2 => wrap(bytes, size),
-        3 | 4 if size == TYPE_RECORD => raise(bytes, sequence.below(6) as u64),
+        3 | 4 if size > VALUE_RECORD => raise(bytes, sequence.below(6) as u64),
         3 if size == VALUE_RECORD => widen(bytes),
+        5 if size == TYPE_RECORD => change_length(bytes, at / size, sequence),
         turn => {
             if let Some(byte) = bytes.get_mut(at) {
                 *byte = sequence.below(if turn % 2 == 0 { 8 } else { 256 }) as u8;
@@ -98,12 +114,13 @@ fn damaged(inputs: &Inputs, size: usize, sequence: &mut Sequence) -> Inputs {
 
 /// Lengths of an arena around the one that just holds the type that a call has written, or around the workload's if it has written none.
 fn rooms(workload: &Workload, answer: Answer) -> [usize; 4] {
+    let record = workload.pair.writes;
     let room = match answer.number {
-        0 => TYPE_RECORD * answer.count as usize,
+        0 => record * answer.count as usize,
         _ => workload.room,
     };
-    let less = room.saturating_sub(TYPE_RECORD);
-    [room, less, room + TYPE_RECORD, room + 1]
+    let less = room.saturating_sub(record);
+    [room, less, room + record, room + 1]
 }
 
 /// On the workload, and with each of those rooms, which are the answer.
@@ -114,7 +131,7 @@ fn compare_rooms(workload: &Workload) -> [usize; 4] {
     let entries = workload.entries;
     let answer = agree(pair, name, inputs, [workload.room, workload.room, entries]);
     assert_eq!(answer.number, workload.number, "{} of {name}", pair.name);
-    if !pair.writes {
+    if pair.writes == 0 {
         return [0; 4];
     }
     let rooms = rooms(workload, answer);

@@ -1,11 +1,11 @@
 //! Call 9, which folds types, beside a plain fold, and beside call 2 under kind on tables that have these types under label.
 
 use crate::comparing::{self, used_buffers};
+use crate::inferences::inferred;
 use crate::pair::{answered, Buffers, Call, Inputs, Pair, Workload, KIND, LABEL, ROOM};
 use crate::plain_fold;
-use crate::removals::inferred;
 use crate::tables::{
-    fifty_shapes, fifty_varied, first_messages, messages, one_each, one_field_shapes,
+    fifty_shapes, fifty_varied, first_messages, messages, mixed_arrays, one_each, one_field_shapes,
     two_field_shapes, varied,
 };
 use crate::timing::{self, Times, TIME};
@@ -30,7 +30,7 @@ fn plain(inputs: &Inputs, buffers: &mut Buffers) -> Answer {
 static FOLD: Pair = Pair {
     name: "9 fold",
     size: SIZE,
-    writes: true,
+    writes: SIZE,
     proved,
     plain,
 };
@@ -85,8 +85,8 @@ fn of_type((name, bytes): (&str, Vec<u8>)) -> Row {
 fn types(n: u16) -> Vec<(&'static str, Vec<u8>)> {
     vec![
         ("eight key lists", eight_lists(n)),
-        ("arrays of records", nested_records(1..=n / 63)),
-        ("deep", deep(1..=n / 47)),
+        ("arrays of records", nested_records(1..=(n / 63).max(1))),
+        ("deep", deep(1..=(n / 47).max(1))),
         ("lists of nine keys", lists(1..=n / 19)),
         ("lists of one key", one_key(n)),
         ("pairs, outside in", outside_in(n / 5)),
@@ -112,20 +112,21 @@ fn keys_before_last(n: u16) -> Vec<u8> {
     before_last((n - n / 512 - 6) / 2)
 }
 
-/// Types of tables of 2 n records or a few less, and those above.
+/// Types of tables of n records or a few less, and those above, which have a third as many.
 pub fn rows(n: usize, log: &[u8]) -> Vec<Row> {
-    let shapes = (n / 6 - 1).min(64);
+    let shapes = (n / 9 - 1).min(64);
     let tables = [
-        ("log", first_messages(log, 2 * n)),
-        ("messages", messages(2 * n / 13)),
-        ("varied", varied(2 * n / 13)),
-        ("fifty shapes", fifty_shapes(2 * n / 11, 100)),
-        ("fifty varied", fifty_varied(2 * n / 11, 100)),
-        ("64 shapes", one_field_shapes(shapes as u16, n / shapes)),
-        ("pairs of keys", two_field_shapes(2 * n)),
+        ("log", first_messages(log, n)),
+        ("messages", messages(n / 13)),
+        ("varied", varied(n / 13)),
+        ("fifty shapes", fifty_shapes(n / 11, 100)),
+        ("fifty varied", fifty_varied(n / 11, 100)),
+        ("64 shapes", one_field_shapes(shapes as u16, n / 2 / shapes)),
+        ("pairs of keys", two_field_shapes(n)),
+        ("mixed arrays", mixed_arrays(n)),
     ];
     let mut rows: Vec<Row> = tables.into_iter().map(of_table).collect();
-    rows.extend(types(n as u16).into_iter().map(of_type));
+    rows.extend(types(n as u16 / 3).into_iter().map(of_type));
     rows
 }
 
@@ -146,7 +147,7 @@ fn refused(number: u64, name: &str, bytes: Vec<u8>, room: usize) -> Workload {
 /// A type whose last count is not that of its field.
 fn bad_last(n: u16) -> Vec<u8> {
     let mut bytes = eight_lists(n);
-    let count = bytes.len() - 8;
+    let count = bytes.len() - SIZE + 8;
     bytes[count] = 2;
     bytes
 }

@@ -1,5 +1,5 @@
-//! The first addend or field of a run of type records, and the order of two, for the plain merge, removal and fold. Inlined, as a function
-//! with one caller is: none pays for the others.
+//! The first addend or field of a run of type records, and the order of two, for the plain merge and fold. Inlined, as a function with one
+//! caller is: none pays for the others.
 
 use crate::type_validator::{header, order_of_lists, Header, RECORD, SIZE};
 use std::cmp::Ordering;

@@ -1,12 +1,13 @@
 //! Calls 2 and 3, which infer types, beside a plain inference.
 
-use crate::pair::{answered_at, Buffers, Inputs, Pair, Workload, KIND, LABEL};
+use crate::pair::{answered_at, Buffers, Inputs, Pair, Workload, KIND, LABEL, ROOM};
 use crate::plain_inference;
 use crate::sequence::{shuffled, Sequence};
 use crate::tables::{
     far_keys, far_shapes, fifty_shapes, fifty_varied, first_messages, many_keys, matrices,
-    messages, mixed_lengths, nested, one_field_shapes, same_keys, varied,
+    messages, mixed_arrays, mixed_lengths, nested, one_field_shapes, same_keys, varied,
 };
+use crate::type_validator::SIZE;
 use crate::validator::MAX_FIELDS;
 use ct::raw::{self, Answer};
 
@@ -41,7 +42,7 @@ fn plain_default(inputs: &Inputs, buffers: &mut Buffers) -> Answer {
 static INFER: Pair = Pair {
     name: "2 infer",
     size: 8,
-    writes: true,
+    writes: SIZE,
     proved,
     plain,
 };
@@ -49,7 +50,7 @@ static INFER: Pair = Pair {
 static INFER_DEFAULT: Pair = Pair {
     name: "3 infer by default",
     size: 8,
-    writes: true,
+    writes: SIZE,
     proved: proved_default,
     plain: plain_default,
 };
@@ -61,6 +62,14 @@ pub fn workload(pair: &'static Pair, name: &str, equivalence: u64, first: &[u8])
         equivalence,
     };
     Workload::accepted(pair, name, inputs)
+}
+
+/// The type of a table.
+pub fn inferred(table: &[u8], equivalence: u64) -> Vec<u8> {
+    let mut arena = vec![0; ROOM];
+    let records = plain_inference::infer(table, equivalence, &mut arena, &mut vec![0; ROOM]);
+    arena.truncate(SIZE * records.expect("a table"));
+    arena
 }
 
 /// Workloads with tables of n records or a few less.
@@ -77,13 +86,14 @@ pub fn workloads(n: usize, log: &[u8]) -> Vec<Workload> {
         ("log", first_messages(log, n)),
         ("nested", nested(n / 32)),
         ("matrices", matrices(n / 21)),
+        ("mixed arrays", mixed_arrays(n)),
         ("fields ascending", same_keys(n, MAX_FIELDS, |keys| keys)),
         ("fields descending", same_keys(n, MAX_FIELDS, descending)),
         ("fields mixed", same_keys(n, MAX_FIELDS, mixed)),
         ("many fields", many_keys(n)),
         ("far fields", far_keys(n)),
-        ("many shapes", one_field_shapes((n / 6) as u16, 3)),
-        ("far shapes", far_shapes(n, (n / 6 - 1) as u16)),
+        ("many shapes", one_field_shapes((n / 9) as u16, 4)),
+        ("far shapes", far_shapes(n, (n / 9 - 1) as u16)),
     ];
     let mut workloads = Vec::new();
     for (name, table) in &tables {

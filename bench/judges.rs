@@ -2,7 +2,7 @@
 
 use crate::pair::{accepted, answered, refused, Buffers, Inputs, Pair, Workload, KIND, LABEL};
 use crate::tables::{flat, messages, nested, wide};
-use crate::types::{deep, fields, lists, mixed, records};
+use crate::types::{arrays, deep, fields, lists, mixed, records};
 use crate::{type_validator, validator};
 use ct::raw::{self, Answer};
 
@@ -28,15 +28,15 @@ fn plain_type(inputs: &Inputs, _: &mut Buffers) -> Answer {
 static TABLES: Pair = Pair {
     name: "1 judge table",
     size: 8,
-    writes: false,
+    writes: 0,
     proved: proved_table,
     plain: plain_table,
 };
 
 static TYPES: Pair = Pair {
     name: "4 judge type",
-    size: 16,
-    writes: false,
+    size: type_validator::SIZE,
+    writes: 0,
     proved: proved_type,
     plain: plain_type,
 };
@@ -65,13 +65,15 @@ pub fn of_tables(n: usize) -> Vec<Workload> {
 /// Workloads with types of n records or a few less.
 pub fn of_types(n: u16) -> Vec<Workload> {
     let f = n / 2 - 1;
+    let d = (n / 47).max(1);
     vec![
         workload(&TYPES, "fields, kind", KIND, fields(1..=f)),
         workload(&TYPES, "fields, label", LABEL, fields(1..=f)),
-        workload(&TYPES, "records, label", LABEL, records(1..=n / 3)),
-        workload(&TYPES, "deep, kind", KIND, deep(1..=n / 47)),
-        workload(&TYPES, "deep, label", LABEL, deep(1..=n / 47)),
+        workload(&TYPES, "records, label", LABEL, records(1..=(n - 1) / 3)),
+        workload(&TYPES, "deep, kind", KIND, deep(1..=d)),
+        workload(&TYPES, "deep, label", LABEL, deep(1..=d)),
         workload(&TYPES, "lists, label", LABEL, lists(1..=n / 19)),
         workload(&TYPES, "mixed lists, label", LABEL, mixed(1..=n / 18)),
+        workload(&TYPES, "arrays, kind", KIND, arrays(1..=n / 4, 1)),
     ]
 }

@@ -3,7 +3,8 @@
 
 use crate::pair::{answered, Buffers, Inputs, Pair, Workload, KIND, LABEL};
 use crate::plain_merge;
-use crate::types::{deep, fields, lists, mixed, records};
+use crate::type_validator::SIZE;
+use crate::types::{arrays, deep, fields, lists, mixed, records};
 use ct::raw::{self, Answer};
 
 fn proved(inputs: &Inputs, buffers: &mut Buffers) -> Answer {
@@ -26,8 +27,8 @@ fn plain(inputs: &Inputs, buffers: &mut Buffers) -> Answer {
 
 static MERGE: Pair = Pair {
     name: "5 merge",
-    size: 16,
-    writes: true,
+    size: SIZE,
+    writes: SIZE,
     proved,
     plain,
 };
@@ -53,10 +54,11 @@ pub type Types = (&'static str, u64, [Vec<u8>; 2]);
 /// Types whose merged type has n records or a few less.
 pub fn types(n: u16) -> Vec<Types> {
     let f = n / 2 - 1;
-    let r = n / 3;
+    let r = (n - 1) / 3;
     let l = n / 19;
     let m = n / 18;
-    let d = n / 47;
+    let d = (n / 47).max(1);
+    let a = n / 4;
     vec![
         ("disjoint fields, kind", KIND, disjoint(fields, f)),
         ("interleaved fields, kind", KIND, interleaved(fields, f)),
@@ -69,6 +71,11 @@ pub fn types(n: u16) -> Vec<Types> {
         ("interleaved mixed, label", LABEL, interleaved(mixed, m)),
         ("equal deep, kind", KIND, equal(deep, d)),
         ("equal deep, label", LABEL, equal(deep, d)),
+        (
+            "arrays of mixed lengths",
+            KIND,
+            [1, 4].map(|s| arrays(1..=a, s)),
+        ),
     ]
 }
 

@@ -1,5 +1,6 @@
 //! A call of the library beside the same call in plain Rust.
 
+use crate::type_validator::SIZE;
 use ct::raw::Answer;
 
 pub fn accepted(count: usize) -> Answer {
@@ -61,14 +62,17 @@ pub struct Pair {
     pub name: &'static str,
     /// The size of a record of the inputs.
     pub size: usize,
-    /// Whether the call writes to the arena.
-    pub writes: bool,
+    /// The size of a record that the call writes to the arena; 0 if it writes none.
+    pub writes: usize,
     pub proved: Call,
     pub plain: Call,
 }
 
-/// The length of the largest arena.
-pub const ROOM: usize = 65_536;
+/// What a table, a text, a book, entries and removal's types have at most.
+pub const LONGEST: usize = 65_536;
+
+/// The length of the largest arena, and of the longest type.
+pub const ROOM: usize = LONGEST / SIZE * SIZE;
 
 /// A call on inputs, with an arena and entries of a length. A working buffer is as long as the arena.
 pub struct Workload {

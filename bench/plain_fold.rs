@@ -3,7 +3,7 @@
 use crate::arena::{clear_rest, Arena};
 use crate::front::{front, Front};
 use crate::pair::LABEL;
-use crate::type_validator::{bad_length, validate, ARRAY, FIELD, MAX_TOTAL, RECORD};
+use crate::type_validator::{bad_length, validate, Lengths, ARRAY, FIELD, MAX_TOTAL, RECORD};
 use std::collections::BTreeMap;
 
 const LENGTH: u64 = 1;
@@ -38,23 +38,33 @@ impl Fold<'_> {
     fn unions(&mut self, unions: &[&[u8]]) {
         let mut counts = [0; 1 + ARRAY as usize];
         let (mut records, mut contents) = (Vec::new(), Vec::new());
+        let mut lengths = None;
         for addend in unions.iter().flat_map(|union| fronts(union)) {
             counts[usize::from(addend.header.kind)] += addend.header.count;
             match addend.header.kind {
                 RECORD => records.push(addend.inside),
-                ARRAY => contents.push(addend.inside),
+                ARRAY => {
+                    contents.push(addend.inside);
+                    let of_addend = addend.header.lengths;
+                    lengths = Some(lengths.map_or(of_addend, |l: Lengths| l.join(of_addend)));
+                }
                 _ => {}
             }
         }
         self.over |= counts.iter().sum::<u64>() > MAX_TOTAL;
         for kind in (1..=ARRAY).filter(|kind| counts[usize::from(*kind)] > 0) {
             let at = self.arena.open();
+            let mut of_kind = Lengths::default();
             match kind {
                 RECORD => self.records(&records),
-                ARRAY => self.unions(&contents),
+                ARRAY => {
+                    self.unions(&contents);
+                    of_kind = lengths.unwrap_or_default();
+                }
                 _ => {}
             }
-            self.arena.close(at, kind, 0, counts[usize::from(kind)]);
+            let count = counts[usize::from(kind)];
+            self.arena.close(at, kind, 0, count, of_kind);
         }
     }
 
@@ -69,7 +79,7 @@ impl Fold<'_> {
         for (key, Fields { count, unions }) in of_key {
             let at = self.arena.open();
             self.unions(&unions);
-            self.arena.close(at, FIELD, key, count);
+            self.arena.close(at, FIELD, key, count, Lengths::default());
         }
     }
 }

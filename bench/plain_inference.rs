@@ -2,8 +2,8 @@
 
 use crate::arena::{clear_rest, Arena};
 use crate::pair::LABEL;
-use crate::type_validator::FIELD;
-use crate::validator::{header, RECORD, SIZE};
+use crate::type_validator::{Lengths, FIELD};
+use crate::validator::{header, ARRAY, RECORD, SIZE};
 use crate::{type_validator, validator};
 use std::cmp::Ordering;
 use std::collections::BTreeMap;
@@ -52,6 +52,7 @@ pub type Union<K> = BTreeMap<Class<K>, Addend<K>>;
 #[derive(Default)]
 pub struct Addend<K> {
     count: u64,
+    lengths: Lengths,
     pub fields: BTreeMap<u16, Field<K>>,
     pub elements: Union<K>,
 }
@@ -89,14 +90,23 @@ fn add_value<K: Keys>(union: &mut Union<K>, value: &[u8], label: bool) {
     let content = &value[SIZE..];
     let addend = union.entry(class_of(kind, content, label)).or_default();
     addend.count += 1;
+    let mut elements = 0;
     for (key, inner) in values(content) {
         if kind == RECORD {
             let field = addend.fields.entry(key).or_default();
             field.count += 1;
             add_value(&mut field.union, inner, label);
         } else {
+            elements += 1;
             add_value(&mut addend.elements, inner, label);
         }
+    }
+    if kind == ARRAY {
+        let of_one = Lengths::of_one(elements);
+        addend.lengths = match addend.count {
+            1 => of_one,
+            _ => addend.lengths.join(of_one),
+        };
     }
 }
 
@@ -114,7 +124,7 @@ pub fn write_union<K>(union: &Union<K>, arena: &mut Arena) {
         let at = arena.open();
         write_fields(&addend.fields, arena);
         write_union(&addend.elements, arena);
-        arena.close(at, class.kind, 0, addend.count);
+        arena.close(at, class.kind, 0, addend.count, addend.lengths);
     }
 }
 
@@ -122,7 +132,7 @@ fn write_fields<K>(fields: &BTreeMap<u16, Field<K>>, arena: &mut Arena) {
     for (key, field) in fields {
         let at = arena.open();
         write_union(&field.union, arena);
-        arena.close(at, FIELD, *key, field.count);
+        arena.close(at, FIELD, *key, field.count, Lengths::default());
     }
 }
 

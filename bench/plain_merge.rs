@@ -60,8 +60,10 @@ impl Merge<'_> {
     fn addends(&mut self, x: &Front, y: &Front) {
         let at = self.arena.open();
         self.runs(x.inside, y.inside, x.header.kind == RECORD);
-        let count = x.header.count + y.header.count;
-        self.arena.close(at, x.header.kind, x.header.key, count);
+        let (x, y) = (&x.header, &y.header);
+        let lengths = x.lengths.join(y.lengths);
+        self.arena
+            .close(at, x.kind, x.key, x.count + y.count, lengths);
     }
 }
 
@@ -74,6 +76,16 @@ fn merged(first: &[u8], second: &[u8], equivalence: u64, arena: &mut [u8]) -> Re
     }
     validate(first, equivalence)?;
     validate(second, equivalence).map_err(|_| SECOND)?;
+    merged_unjudged(first, second, equivalence, arena)
+}
+
+/// The same of types that need no judging, which may be longer than those that a call takes.
+pub fn merged_unjudged(
+    first: &[u8],
+    second: &[u8],
+    equivalence: u64,
+    arena: &mut [u8],
+) -> Result<usize, u64> {
     let mut merge = Merge {
         arena: Arena::new(arena),
         label: equivalence == LABEL,

@@ -1,9 +1,9 @@
-//! Removal, which change 3 asks for, in plain Rust: what the proved removal is measured against.
+//! Removal, which change 3 asks for, in plain Rust: what the proved removal is measured against. Its types have records of 16 bytes.
 
-use crate::arena::{clear_rest, Arena};
-use crate::front::{front, order, Front};
+use crate::bare_arena::{clear_bare_rest, BareArena};
+use crate::bare_front::{bare_front, bare_order, BareFront};
+use crate::bare_validator::{bad_bare_length, validate_bare, BareHeader, RECORD};
 use crate::pair::LABEL;
-use crate::type_validator::{bad_length, validate, Header, RECORD};
 use std::cmp::Ordering;
 
 const LENGTH: u64 = 1;
@@ -13,7 +13,7 @@ const NO_PART: u64 = 16;
 /// Whether an addend or a field of a run counts more than this.
 fn counts_above(mut run: &[u8], most: u64) -> bool {
     while !run.is_empty() {
-        let first = front(run);
+        let first = bare_front(run);
         if first.header.count > most {
             return true;
         }
@@ -23,7 +23,7 @@ fn counts_above(mut run: &[u8], most: u64) -> bool {
 }
 
 struct Removal<'a> {
-    arena: Arena<'a>,
+    arena: BareArena<'a>,
     label: bool,
 }
 
@@ -34,8 +34,8 @@ impl Removal<'_> {
             if a.is_empty() {
                 return Err(NO_PART);
             }
-            let (x, y) = (front(a), front(b));
-            match order(&x, &y, self.label) {
+            let (x, y) = (bare_front(a), bare_front(b));
+            match bare_order(&x, &y, self.label) {
                 Ordering::Less => self.keep(x.all, most)?,
                 Ordering::Greater => return Err(NO_PART),
                 Ordering::Equal => {
@@ -58,8 +58,8 @@ impl Removal<'_> {
     }
 
     /// Two addends, or two fields, with one label.
-    fn addends(&mut self, x: &Front, y: &Front, most: Option<u64>) -> Result<(), u64> {
-        let Header {
+    fn addends(&mut self, x: &BareFront, y: &BareFront, most: Option<u64>) -> Result<(), u64> {
+        let BareHeader {
             kind, key, count, ..
         } = x.header;
         let count = count.checked_sub(y.header.count).ok_or(NO_PART)?;
@@ -81,14 +81,14 @@ impl Removal<'_> {
 fn removed(whole: &[u8], part: &[u8], equivalence: u64, arena: &mut [u8]) -> Result<usize, u64> {
     if [whole.len(), part.len(), arena.len()]
         .into_iter()
-        .any(bad_length)
+        .any(bad_bare_length)
     {
         return Err(LENGTH);
     }
-    validate(whole, equivalence)?;
-    validate(part, equivalence).map_err(|_| SECOND)?;
+    validate_bare(whole, equivalence)?;
+    validate_bare(part, equivalence).map_err(|_| SECOND)?;
     let mut removal = Removal {
-        arena: Arena::new(arena),
+        arena: BareArena::new(arena),
         label: equivalence == LABEL,
     };
     removal.runs(whole, part, None)?;
@@ -98,6 +98,6 @@ fn removed(whole: &[u8], part: &[u8], equivalence: u64, arena: &mut [u8]) -> Res
 /// The number of type records, or a refusal number.
 pub fn remove(whole: &[u8], part: &[u8], equivalence: u64, arena: &mut [u8]) -> Result<usize, u64> {
     let answer = removed(whole, part, equivalence, arena);
-    clear_rest(arena, &answer);
+    clear_bare_rest(arena, &answer);
     answer
 }

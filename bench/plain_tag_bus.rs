@@ -1,6 +1,7 @@
 //! Call 8, which change 6 asks for, in plain Rust: the plain inference with a word for the keys of a record, in the judge and in the maps.
 
 use crate::arena::{clear_rest, Arena};
+use crate::pair::LONGEST;
 use crate::plain_inference::{union_of, write_union, Keys, Union, LENGTH};
 use crate::validator::{header, Header, ARRAY, MAX_DEPTH, RECORD, SIZE};
 use crate::{type_validator, validator};
@@ -133,9 +134,10 @@ fn inferred(
     work: usize,
     entries: &mut [u8],
 ) -> Result<(usize, usize), (u64, usize)> {
-    let bad = type_validator::bad_length;
     let bad_table = validator::bad_length(table.len());
-    if bad_table || bad(arena.len()) || work != arena.len() || bad(entries.len()) {
+    let bad_arena = type_validator::bad_length(arena.len());
+    let bad_entries = entries.len() % ENTRY != 0 || entries.len() > LONGEST;
+    if bad_table || bad_arena || work != arena.len() || bad_entries {
         return Err((LENGTH, 0));
     }
     judge(table)?;

@@ -1,7 +1,7 @@
 //! Call 6, which reads texts, beside a plain reader.
 
 use crate::comparing::agree;
-use crate::pair::{accepted, refused, Buffers, Inputs, Pair, KIND, ROOM};
+use crate::pair::{accepted, refused, Buffers, Inputs, Pair, KIND, LONGEST};
 use crate::plain_reader;
 use crate::sequence::Sequence;
 use crate::texts::{self, Texts};
@@ -25,7 +25,7 @@ fn plain(inputs: &Inputs, buffers: &mut Buffers) -> Answer {
 static READ: Pair = Pair {
     name: "6 read text",
     size: 1,
-    writes: true,
+    writes: VALUE,
     proved,
     plain,
 };
@@ -77,10 +77,10 @@ fn damage(bytes: &mut Vec<u8>, sequence: &mut Sequence) {
 /// Both on a text, in tables around the one that just holds its records, and on damaged forms of the text and of the book; one of them has
 /// two records made one.
 fn compare_on(name: &str, inputs: &Inputs, turns: usize, sequence: &mut Sequence) {
-    let answer = agree(&READ, name, inputs, [ROOM, 0, 0]);
+    let answer = agree(&READ, name, inputs, [LONGEST, 0, 0]);
     assert_eq!(answer.number, 0, "{name} is not accepted");
     let exact = VALUE * answer.count as usize;
-    for room in [exact, exact - VALUE, exact + 1, ROOM + VALUE] {
+    for room in [exact, exact - VALUE, exact + 1, LONGEST + VALUE] {
         agree(&READ, name, inputs, [room, 0, 0]);
     }
     let mut joined = inputs.clone();
@@ -118,7 +118,7 @@ pub fn report(workloads: &[Workload]) {
             proved,
             plain,
             ratio,
-        } = measure(&READ, &workload.inputs, [ROOM, 0], TIME);
+        } = measure(&READ, &workload.inputs, [LONGEST, 0], TIME);
         println!(
             "{:<20}{:<28}{bytes:>7.0}{:>14.0}{:>16.0}{ratio:>9.2}{:>10.3}{:>10.3}",
             READ.name,

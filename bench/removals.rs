@@ -1,10 +1,14 @@
 //! The removal of a part from a whole type, beside a plain removal. A whole is merged from its part and from the rest, which comes back.
+//! Types are made as for the other calls, and then have their lengths cut off.
 
+use crate::bare_validator::BARE;
+use crate::inferences::inferred;
 use crate::merges::{self, Types};
-use crate::pair::{answered, Buffers, Inputs, Pair, Workload, KIND, LABEL, ROOM};
+use crate::pair::{answered, Buffers, Inputs, Pair, Workload, KIND, LABEL, LONGEST};
 use crate::tables::first_messages;
-use crate::types::{deep, fields, lists, records, with_keys};
-use crate::{plain_inference, plain_merge, plain_removal};
+use crate::type_validator::SIZE;
+use crate::types::{bared, deep, fields, lists, records, with_keys};
+use crate::{plain_merge, plain_removal};
 use ct::raw::{self, Answer};
 
 fn proved(inputs: &Inputs, buffers: &mut Buffers) -> Answer {
@@ -27,8 +31,8 @@ fn plain(inputs: &Inputs, buffers: &mut Buffers) -> Answer {
 
 static REMOVE: Pair = Pair {
     name: "7 remove",
-    size: 16,
-    writes: true,
+    size: BARE,
+    writes: BARE,
     proved,
     plain,
 };
@@ -36,18 +40,11 @@ static REMOVE: Pair = Pair {
 const NO_ROOM: u64 = 11;
 const NO_PART: u64 = 16;
 
+/// With lengths the merged type may be longer than one that a call takes.
 fn merged(first: &[u8], second: &[u8], equivalence: u64) -> Vec<u8> {
-    let mut arena = vec![0; ROOM];
-    let records = plain_merge::merge(first, second, equivalence, &mut arena);
-    arena.truncate(REMOVE.size * records.expect("types that merge"));
-    arena
-}
-
-/// The type of a table.
-pub fn inferred(table: &[u8], equivalence: u64) -> Vec<u8> {
-    let mut arena = vec![0; ROOM];
-    let records = plain_inference::infer(table, equivalence, &mut arena, &mut vec![0; ROOM]);
-    arena.truncate(REMOVE.size * records.expect("a table"));
+    let mut arena = vec![0; first.len() + second.len()];
+    let records = plain_merge::merged_unjudged(first, second, equivalence, &mut arena);
+    arena.truncate(SIZE * records.expect("types that merge"));
     arena
 }
 
@@ -96,11 +93,14 @@ fn types(n: u16) -> Vec<Types> {
 
 fn removal(name: &str, equivalence: u64, whole: Vec<u8>, part: Vec<u8>) -> Workload {
     let inputs = Inputs {
-        first: whole,
-        second: part,
+        first: bared(&whole),
+        second: bared(&part),
         equivalence,
     };
-    Workload::accepted(&REMOVE, name, inputs)
+    Workload {
+        room: LONGEST,
+        ..Workload::accepted(&REMOVE, name, inputs)
+    }
 }
 
 fn workload((name, equivalence, [rest, part]): Types) -> Workload {

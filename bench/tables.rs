@@ -137,10 +137,11 @@ pub fn same_keys(n: usize, fields: usize, mut order: impl FnMut(Vec<u16>) -> Vec
     filled(n, std::iter::repeat_with(message))
 }
 
-/// Eight lists of descending keys, in all as many as fit a type of n / 2 records. For the largest table a list has as many as a record may.
+/// Six lists of descending keys, in all as many as fit a type of n / 3 records. For the largest table a list has nearly as many as a record
+/// may.
 fn key_lists(n: usize) -> Vec<Vec<u16>> {
-    let keys: Vec<u16> = (1..=(n / 4 - 5) as u16).rev().collect();
-    let lists = keys.chunks(keys.len().div_ceil(8));
+    let keys: Vec<u16> = (1..=(n / 6 - 4) as u16).rev().collect();
+    let lists = keys.chunks(keys.len().div_ceil(6));
     lists.map(<[u16]>::to_vec).collect()
 }
 
@@ -190,12 +191,46 @@ pub fn fifty_varied(n: usize, keys: u16) -> Vec<u8> {
     fifty(n, keys, || null_or_string(&mut sequence))
 }
 
-/// Messages with lists of one to sixteen keys, nine of each length with first keys of their own, in a mixed order. The fields are now a
+/// Messages with arrays of none to nine numbers in four fields, in the last of them inside another array.
+pub fn mixed_arrays(n: usize) -> Vec<u8> {
+    let mut sequence = Sequence::new();
+    let mut numbers = || array(&flat_numbers(sequence.below(10)));
+    let message = || {
+        let mut fields: Vec<Vec<u8>> = (0..3).map(|_| numbers()).collect();
+        fields.push(array(&[numbers(), numbers()].concat()));
+        record(fields)
+    };
+    filled(n, std::iter::repeat_with(message))
+}
+
+fn flat_numbers(n: usize) -> Vec<u8> {
+    let mut numbers = Vec::new();
+    for _ in 0..n {
+        put(&mut numbers, NUMBER, 0, 1);
+    }
+    numbers
+}
+
+/// A record with these values at the keys from 1 on.
+fn record(values: Vec<Vec<u8>>) -> Vec<u8> {
+    let mut fields = Vec::new();
+    for (value, key) in values.into_iter().zip(1u16..) {
+        let at = fields.len();
+        fields.extend(value);
+        fields[at + 2..at + 4].copy_from_slice(&key.to_le_bytes());
+    }
+    let mut record = Vec::new();
+    put(&mut record, RECORD, 0, 1 + (fields.len() / SIZE) as u32);
+    record.extend(fields);
+    record
+}
+
+/// Messages with lists of one to sixteen keys, six of each length with first keys of their own, in a mixed order. The fields are now a
 /// null, now a string.
 pub fn mixed_lengths(n: usize) -> Vec<u8> {
     let mut sequence = Sequence::new();
     let message = || {
-        let first = 1 + 3 * sequence.below(9) as u16;
+        let first = 1 + 3 * sequence.below(6) as u16;
         let length = 1 + sequence.below(16) as u16;
         with_kinds(first..first + length, || null_or_string(&mut sequence))
     };
@@ -216,10 +251,10 @@ pub fn one_field_shapes(n: u16, times: usize) -> Vec<u8> {
     shapes((1..=n).map(|key| [key]), times)
 }
 
-/// Messages of two fields with different pairs of keys up to 64, three times each. They fit a type of n / 2 records.
+/// Messages of two fields with different pairs of keys up to 64, five times each. They fit a type of n / 3 records.
 pub fn two_field_shapes(n: usize) -> Vec<u8> {
     let pairs = (1..=64).flat_map(|key| (1..key).map(move |other| [key, other]));
-    shapes(pairs.take(n / 10), 3)
+    shapes(pairs.take(n / 15), 5)
 }
 
 /// An array of arrays: the first has records of one field with the keys up to the last, each other one only the record with the last key

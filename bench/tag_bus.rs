@@ -2,12 +2,12 @@
 
 use crate::comparing::{self, agree, used_buffers};
 use crate::inferences;
-use crate::pair::{answered_at, Buffers, Call, Inputs, Pair, Workload, LABEL, ROOM};
+use crate::pair::{answered_at, Buffers, Call, Inputs, Pair, Workload, LABEL, LONGEST, ROOM};
 use crate::plain_tag_bus;
 use crate::sequence::{shuffled, Sequence};
 use crate::tables::{
-    far_shapes, fifty_shapes, fifty_varied, first_messages, matrices, messages, mixed_lengths,
-    nested, one_field_shapes, same_keys, two_field_shapes, varied,
+    far_shapes, fifty_shapes, fifty_varied, first_messages, matrices, messages, mixed_arrays,
+    mixed_lengths, nested, one_field_shapes, same_keys, two_field_shapes, varied,
 };
 use crate::timing::{self, TIME};
 use crate::type_validator::SIZE;
@@ -38,7 +38,7 @@ fn plain(inputs: &Inputs, buffers: &mut Buffers) -> Answer {
 static TAG_BUS: Pair = Pair {
     name: "8 infer, tag bus",
     size: 8,
-    writes: true,
+    writes: SIZE,
     proved,
     plain,
 };
@@ -53,7 +53,7 @@ static BESIDE_CALL_2: Pair = Pair {
 pub fn workloads(n: usize, log: &[u8]) -> Vec<Workload> {
     let mut sequence = Sequence::new();
     let fields = usize::from(KEYS);
-    let shapes = KEYS.min((n / 6 - 1) as u16);
+    let shapes = KEYS.min((n / 9 - 1) as u16);
     let descending = |keys: Vec<u16>| keys.into_iter().rev().collect();
     let mixed = |keys| shuffled(keys, &mut sequence);
     let tables = [
@@ -65,6 +65,7 @@ pub fn workloads(n: usize, log: &[u8]) -> Vec<Workload> {
         ("log", first_messages(log, n)),
         ("nested", nested(n / 32)),
         ("matrices", matrices(n / 21)),
+        ("mixed arrays", mixed_arrays(n)),
         ("64 fields ascending", same_keys(n, fields, |keys| keys)),
         ("64 fields descending", same_keys(n, fields, descending)),
         ("64 fields mixed", same_keys(n, fields, mixed)),
@@ -76,7 +77,7 @@ pub fn workloads(n: usize, log: &[u8]) -> Vec<Workload> {
         ("far shapes", far_shapes(n, shapes)),
     ];
     let of_table = |(name, table): (&str, Vec<u8>)| Workload {
-        entries: ROOM,
+        entries: LONGEST,
         ..inferences::workload(&TAG_BUS, name, LABEL, &table)
     };
     tables.into_iter().map(of_table).collect()
@@ -84,7 +85,7 @@ pub fn workloads(n: usize, log: &[u8]) -> Vec<Workload> {
 
 /// The arena that a call leaves, and its answer.
 fn left(call: Call, inputs: &Inputs) -> (Answer, Vec<u8>) {
-    let mut buffers = used_buffers([ROOM; 3]);
+    let mut buffers = used_buffers([ROOM, ROOM, LONGEST]);
     (call(inputs, &mut buffers), buffers.arena)
 }
 
@@ -126,7 +127,7 @@ pub fn report(workloads: &[Workload]) {
             exact.proved / 1e6,
             exact.plain / 1e6,
             exact.ratio,
-            beside(ROOM).ratio,
+            beside(LONGEST).ratio,
             workload.measure(TIME).ratio
         );
     }

@@ -1,18 +1,53 @@
 //! Call 4 of document 01 in plain Rust: what the proved judge of types is measured against.
 
+use crate::pair::ROOM;
 use std::cmp::Ordering;
 
 pub const RECORD: u8 = 5;
 pub const ARRAY: u8 = 6;
 pub const FIELD: u8 = 7;
-pub const SIZE: usize = 16;
+pub const SIZE: usize = 24;
 const MAX_DEPTH: usize = 32;
 pub const MAX_TOTAL: u64 = 1_000_000_000_000_000;
+pub const MAX_ELEMENTS: u32 = 8_192;
 
 #[derive(Clone, Copy, PartialEq)]
 enum Equivalence {
     Kind,
     Label,
+}
+
+/// Of the arrays at a place; zero in records of other kinds.
+#[derive(Clone, Copy, Default, PartialEq)]
+pub struct Lengths {
+    pub shortest: u32,
+    pub longest: u32,
+}
+
+impl Lengths {
+    pub fn of_one(elements: u32) -> Lengths {
+        Lengths {
+            shortest: elements,
+            longest: elements,
+        }
+    }
+
+    pub fn join(self, other: Lengths) -> Lengths {
+        Lengths {
+            shortest: self.shortest.min(other.shortest),
+            longest: self.longest.max(other.longest),
+        }
+    }
+
+    /// Whether so many arrays can have these elements in all. The products fit once the lengths are known to be small.
+    fn allowed(self, arrays: u64, elements: u64) -> bool {
+        if self.shortest > self.longest || self.longest > MAX_ELEMENTS || arrays > MAX_TOTAL {
+            return false;
+        }
+        let (shortest, longest) = (u64::from(self.shortest), u64::from(self.longest));
+        let others = arrays - 1;
+        longest + others * shortest <= elements && elements <= shortest + others * longest
+    }
 }
 
 pub struct Header {
@@ -21,6 +56,7 @@ pub struct Header {
     pub key: u16,
     pub span: usize,
     pub count: u64,
+    pub lengths: Lengths,
 }
 
 pub fn header(run: &[u8]) -> Header {
@@ -31,6 +67,10 @@ pub fn header(run: &[u8]) -> Header {
         key: u16::from_le_bytes([b[2], b[3]]),
         span: u32::from_le_bytes([b[4], b[5], b[6], b[7]]) as usize,
         count: u64::from_le_bytes([b[8], b[9], b[10], b[11], b[12], b[13], b[14], b[15]]),
+        lengths: Lengths {
+            shortest: u32::from_le_bytes([b[16], b[17], b[18], b[19]]),
+            longest: u32::from_le_bytes([b[20], b[21], b[22], b[23]]),
+        },
     }
 }
 
@@ -39,6 +79,9 @@ fn split(run: &[u8]) -> Option<(Header, &[u8], &[u8])> {
     let first = header(run);
     let end = SIZE * first.span;
     if first.zero != 0 || first.span == 0 || end > run.len() || first.count == 0 {
+        return None;
+    }
+    if first.kind != ARRAY && first.lengths != Lengths::default() {
         return None;
     }
     Some((first, &run[SIZE..end], &run[end..]))
@@ -72,6 +115,18 @@ pub fn order_of_lists(x: &[u8], y: &[u8]) -> Ordering {
     }
 }
 
+/// Whether an addend may follow another, each with its kind and what stands inside it.
+#[inline]
+fn ascend(x: (u8, &[u8]), y: (u8, &[u8]), equivalence: Equivalence) -> bool {
+    match x.0.cmp(&y.0) {
+        Ordering::Less => true,
+        Ordering::Equal => {
+            x.0 == RECORD && equivalence == Equivalence::Label && order_of_lists(x.1, y.1).is_lt()
+        }
+        Ordering::Greater => false,
+    }
+}
+
 /// The total of a union, if it is well formed.
 fn union_total(mut run: &[u8], depth: usize, equivalence: Equivalence) -> Option<u64> {
     let mut total = 0;
@@ -85,23 +140,15 @@ fn union_total(mut run: &[u8], depth: usize, equivalence: Equivalence) -> Option
             1..=4 if inner.is_empty() => {}
             RECORD => fields(inner, addend.count, depth, equivalence)?,
             ARRAY => {
-                union_total(inner, depth + 1, equivalence)?;
+                let elements = union_total(inner, depth + 1, equivalence)?;
+                if !addend.lengths.allowed(addend.count, elements) {
+                    return None;
+                }
             }
             _ => return None,
         }
-        if let Some((kind, content)) = last {
-            let ascends = match kind.cmp(&addend.kind) {
-                Ordering::Less => true,
-                Ordering::Equal => {
-                    kind == RECORD
-                        && equivalence == Equivalence::Label
-                        && order_of_lists(content, inner).is_lt()
-                }
-                Ordering::Greater => false,
-            };
-            if !ascends {
-                return None;
-            }
+        if last.is_some_and(|last| !ascend(last, (addend.kind, inner), equivalence)) {
+            return None;
         }
         if addend.count > MAX_TOTAL - total {
             return None;
@@ -135,7 +182,7 @@ fn fields(mut run: &[u8], of_record: u64, depth: usize, equivalence: Equivalence
 }
 
 pub fn bad_length(n: usize) -> bool {
-    n % SIZE != 0 || n > 65536
+    n % SIZE != 0 || n > ROOM
 }
 
 /// The number of type records, or a refusal number.

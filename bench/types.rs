@@ -1,35 +1,76 @@
-//! Types for the workloads. But for full arrays their counts are 1, so that most of them are well formed under both equivalences.
+//! Types for the workloads. But for full arrays and elements their counts are 1, so that most of them are well formed under both
+//! equivalences.
 
-use crate::type_validator::{MAX_TOTAL, SIZE};
+use crate::bare_validator::BARE;
+use crate::front::front;
+use crate::type_validator::{Lengths, ARRAY, FIELD, MAX_ELEMENTS, MAX_TOTAL, RECORD, SIZE};
 use crate::validator::MAX_FIELDS;
 
-fn counted(kind: u8, key: u16, count: u64, inner: &[u8]) -> Vec<u8> {
+const NULL: u8 = 1;
+
+fn row(kind: u8, key: u16, count: u64, lengths: Lengths, inner: &[u8]) -> Vec<u8> {
     let mut bytes = vec![kind, 0];
     bytes.extend(key.to_le_bytes());
     bytes.extend((1 + (inner.len() / SIZE) as u32).to_le_bytes());
     bytes.extend(count.to_le_bytes());
+    bytes.extend(lengths.shortest.to_le_bytes());
+    bytes.extend(lengths.longest.to_le_bytes());
     bytes.extend(inner);
     bytes
 }
 
-fn row(kind: u8, key: u16, inner: &[u8]) -> Vec<u8> {
-    counted(kind, key, 1, inner)
+fn counted(kind: u8, key: u16, count: u64, inner: &[u8]) -> Vec<u8> {
+    row(kind, key, count, Lengths::default(), inner)
 }
 
 fn null() -> Vec<u8> {
-    row(1, 0, &[])
+    counted(NULL, 0, 1, &[])
 }
 
 fn field(key: u16, union: &[u8]) -> Vec<u8> {
-    row(7, key, union)
+    counted(FIELD, key, 1, union)
 }
 
 fn record(fields: &[Vec<u8>]) -> Vec<u8> {
-    row(5, 0, &fields.concat())
+    counted(RECORD, 0, 1, &fields.concat())
 }
 
-fn array(union: &[u8]) -> Vec<u8> {
-    row(6, 0, union)
+/// The total of a union.
+pub fn total(mut union: &[u8]) -> u64 {
+    let mut total = 0;
+    while !union.is_empty() {
+        let addend = front(union);
+        total += addend.header.count;
+        union = addend.rest;
+    }
+    total
+}
+
+/// One array, whose length is the total of its content.
+pub fn array(union: &[u8]) -> Vec<u8> {
+    row(ARRAY, 0, 1, Lengths::of_one(total(union) as u32), union)
+}
+
+/// Removal's type of the same counts, whose records end before the lengths.
+pub fn bared(bytes: &[u8]) -> Vec<u8> {
+    let records = bytes.chunks(SIZE);
+    records
+        .flat_map(|record| &record[..BARE])
+        .copied()
+        .collect()
+}
+
+/// A record with an array of nulls and of an empty array at each key, of which there are none to nine; `step` says how that changes from
+/// key to key.
+pub fn arrays(keys: impl IntoIterator<Item = u16>, step: u16) -> Vec<u8> {
+    let content = |key| match u64::from(step * key % 10) {
+        0 => Vec::new(),
+        1 => array(&[]),
+        n => [counted(NULL, 0, n - 1, &[]), array(&[])].concat(),
+    };
+    let with = |key| field(key, &array(&content(key)));
+    let fields: Vec<_> = keys.into_iter().map(with).collect();
+    record(&fields)
 }
 
 /// A record with a null at each key.
@@ -128,9 +169,15 @@ pub fn before_last(f: u16) -> Vec<u8> {
     lists.into_iter().flat_map(with_keys).collect()
 }
 
-/// For each key a record with that key and with an array of as many nulls as a union may have, at one key.
+/// For each key records with that key and with the longest arrays, which have as many nulls as a union may have, at one key.
 pub fn full_arrays(keys: impl IntoIterator<Item = u16>) -> Vec<u8> {
-    let full = field(1, &array(&counted(1, 0, MAX_TOTAL, &[])));
-    let with = |key| record(&[full.clone(), field(1 + key, &null())]);
+    let count = MAX_TOTAL / u64::from(MAX_ELEMENTS);
+    let nulls = counted(NULL, 0, MAX_TOTAL, &[]);
+    let arrays = row(ARRAY, 0, count, Lengths::of_one(MAX_ELEMENTS), &nulls);
+    let full = counted(FIELD, 1, count, &arrays);
+    let with = |key| {
+        let other = counted(FIELD, 1 + key, count, &counted(NULL, 0, count, &[]));
+        counted(RECORD, 0, count, &[&full[..], &other].concat())
+    };
     keys.into_iter().flat_map(with).collect()
 }

@@ -1,5 +1,7 @@
 //! Call 1 of document 01 in plain Rust: what the proved judge is measured against.
 
+use crate::pair::LONGEST;
+
 pub const RECORD: u8 = 5;
 pub const ARRAY: u8 = 6;
 pub const SIZE: usize = 8;
@@ -45,7 +47,7 @@ fn fields_before(table: &[u8], key: u16, first: usize, i: usize) -> Option<usize
 }
 
 pub fn bad_length(n: usize) -> bool {
-    n % SIZE != 0 || n > 65536
+    n % SIZE != 0 || n > LONGEST
 }
 
 /// The refusal number of record i, whose parent ends at `end` and, if it is a record, has its first field at `first_field`.

@@ -1,14 +1,18 @@
-/* Reads three messages, the example of document 01, from JSON text, infers their type, merges it with itself, takes one message out of it,
-   folds it to the type under kind, prints the types, and the key sets of the records as for the tag bus. */
+/* Reads three messages, the example of document 01, from JSON text, infers their type, merges it with itself, takes one message out of its
+   counts, folds it to the type under kind, prints the types, and the key sets of the records as for the tag bus. */
 #include "ct.h"
 
 #include <inttypes.h>
 #include <stdio.h>
+#include <string.h>
 
-enum { VALUE = 8, TABLE = 16 * VALUE, RECORD = 16, ARENA = 12 * RECORD, ENTRY = 16, ENTRIES = 3 * ENTRY };
+enum { VALUE = CT_VALUE_RECORD, TABLE = 16 * VALUE, RECORD = CT_TYPE_RECORD, ARENA = 12 * RECORD, ENTRIES = 3 * CT_ENTRY };
+
+/* Types that something is taken out of have no lengths. */
+enum { SHORT_RECORD = CT_REMOVAL_RECORD, SHORT_ARENA = 12 * SHORT_RECORD };
 
 /* A key's number is its place in the book, from 1; the keys ascend. */
-static const uint8_t book[][32] = {"lane", "weights"};
+static const uint8_t book[][CT_BOOK_RECORD] = {"lane", "weights"};
 
 static const char text[] = "{\"lane\": 3, \"weights\": [412, 415.5]}\n"
                            "{\"lane\": null}\n"
@@ -27,25 +31,52 @@ static void print_answer(const char *name, struct ct_answer answer)
     printf("%s: number %" PRIu64 ", place %" PRIu64 ", count %" PRIu64 "\n", name, answer.number, answer.place, answer.count);
 }
 
-static void print_type(const uint8_t *type, uint64_t records)
+/* A record of any type, up to its count. */
+static void print_record(const uint8_t *record)
 {
     static const char *const words[] = {"", "null", "bool", "num", "str", "rec", "arr", "field"};
-    for (const uint8_t *record = type; record < type + records * RECORD; record += RECORD)
-        printf("  %s key %" PRIu64 " span %" PRIu64 " count %" PRIu64 "\n", words[record[0]], number(record + 2, 2),
-               number(record + 4, 4), number(record + 8, 8));
+    printf("  %s key %" PRIu64 " span %" PRIu64 " count %" PRIu64, words[record[0]], number(record + 2, 2), number(record + 4, 4),
+           number(record + 8, 8));
+}
+
+static void print_type(const uint8_t *type, uint64_t records)
+{
+    enum { ARRAY = 6 };
+    for (const uint8_t *record = type; record < type + records * RECORD; record += RECORD) {
+        print_record(record);
+        if (record[0] == ARRAY)
+            printf(" shortest %" PRIu64 " longest %" PRIu64, number(record + 16, 4), number(record + 20, 4));
+        printf("\n");
+    }
+}
+
+/* The same type without lengths: the front of each record. */
+static void cut_lengths(const uint8_t *type, uint64_t records, uint8_t *cut)
+{
+    for (uint64_t i = 0; i < records; i++)
+        memcpy(cut + i * SHORT_RECORD, type + i * RECORD, SHORT_RECORD);
 }
 
 /* Takes the second message out of a type of all three. Its two records follow the five of the first. */
-static void take_out(const uint8_t *table, const uint8_t *type, size_t used)
+static void take_out(const uint8_t *table, const uint8_t *type, uint64_t records)
 {
-    uint8_t part[ARENA], work[ARENA], rest[ARENA];
-    size_t part_used = ct_infer_default(table + 5 * VALUE, 2 * VALUE, part, ARENA, work, ARENA).count * RECORD;
+    uint8_t one[ARENA], work[ARENA], whole[SHORT_ARENA], part[SHORT_ARENA], rest[SHORT_ARENA];
+    uint64_t part_records = ct_infer_default(table + 5 * VALUE, 2 * VALUE, one, ARENA, work, ARENA).count;
+    size_t used = records * SHORT_RECORD, part_used = part_records * SHORT_RECORD;
+    cut_lengths(type, records, whole);
+    cut_lengths(one, part_records, part);
 
-    struct ct_answer answer = ct_remove(type, used, part, part_used, CT_BY_LABEL, rest, ARENA);
+    struct ct_answer answer = ct_remove(whole, used, part, part_used, CT_BY_LABEL, rest, SHORT_ARENA);
     print_answer("take the second message out", answer);
-    print_type(rest, answer.count);
+    for (uint64_t i = 0; i < answer.count; i++) {
+        print_record(rest + i * SHORT_RECORD);
+        printf("\n");
+    }
 
-    print_answer("take all out of the second", ct_remove(part, part_used, type, used, CT_BY_LABEL, rest, ARENA));
+    print_answer("take all out of the second", ct_remove(part, part_used, whole, used, CT_BY_LABEL, rest, SHORT_ARENA));
+    print_answer("take the second out of a type with lengths",
+                 ct_remove(type, records * RECORD, part, part_used, CT_BY_LABEL, rest, SHORT_ARENA));
+    print_answer("judge a type without lengths", ct_judge_type(whole, used, CT_BY_LABEL));
 }
 
 /* The type under kind from that under label, without the messages. It is folded once only: under label it is not well formed. */
@@ -69,7 +100,7 @@ static void for_tag_bus(const uint8_t *table, size_t length)
     uint8_t type[ARENA], work[ARENA], entries[ENTRIES];
 
     print_answer("infer for the tag bus", ct_infer_tag_bus(table, length, type, ARENA, work, ARENA, entries, ENTRIES));
-    for (const uint8_t *entry = entries; entry < entries + ENTRIES; entry += ENTRY)
+    for (const uint8_t *entry = entries; entry < entries + ENTRIES; entry += CT_ENTRY)
         printf("  word %#" PRIx64 " fields %" PRIu64 "\n", number(entry, 8), number(entry + 8, 8));
 
     struct ct_answer answer = ct_infer_tag_bus(key_65, sizeof key_65, type, ARENA, work, ARENA, entries, ENTRIES);
@@ -98,7 +129,7 @@ int main(void)
     print_answer("merge with itself", answer);
     print_type(merged, answer.count);
 
-    take_out(table, type, used);
+    take_out(table, type, used / RECORD);
     fold(type, used);
 
     print_answer("merge with itself under kind", ct_merge(type, used, type, used, CT_BY_KIND, merged, ARENA));

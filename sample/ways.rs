@@ -1,14 +1,11 @@
 //! Reads a log from JSON text, brings its messages together in several ways, and says whether all of them end in the same bytes; then takes
-//! the first messages out again. At last folds the log's type, and infers it for the tag bus. `tests/ways.py` says which bytes.
+//! the first messages out of its counts. At last folds the log's type, and infers it for the tag bus. `tests/ways.py` says which bytes.
 //!
 //! Arguments: the files with the log, as a value table and as text, and with the key book.
 
 use ct::{Equivalence, Refusal};
+use ct::{LARGEST_ARENA, LONGEST, REMOVAL_RECORD, TYPE_RECORD, VALUE_RECORD};
 use std::collections::VecDeque;
-
-const VALUE: usize = 8;
-const RECORD: usize = 16;
-const LONGEST: usize = 65_536;
 
 /// In which order types are merged.
 #[derive(Clone, Copy, PartialEq)]
@@ -86,7 +83,14 @@ struct Written {
 
 impl Written {
     fn in_use(&self) -> &[u8] {
-        &self.arena[..RECORD * self.records]
+        &self.arena[..TYPE_RECORD * self.records]
+    }
+
+    /// The records as removal takes them, without lengths.
+    fn without_lengths(&self) -> Vec<u8> {
+        let records = self.in_use().chunks(TYPE_RECORD);
+        let cut = records.flat_map(|record| &record[..REMOVAL_RECORD]);
+        cut.copied().collect()
     }
 }
 
@@ -105,14 +109,15 @@ impl Fixed {
         Ok(Written { arena, records })
     }
 
+    /// The arena has as many records as the others.
     fn remove(self, whole: &Written, part: &Written) -> Result<Written, Refusal> {
-        let mut arena = vec![0; self.arena];
-        let (whole, part) = (whole.in_use(), part.in_use());
-        let records = ct::remove(whole, part, self.equivalence, &mut arena)?;
+        let mut arena = vec![0; self.arena / TYPE_RECORD * REMOVAL_RECORD];
+        let (whole, part) = (whole.without_lengths(), part.without_lengths());
+        let records = ct::remove(&whole, &part, self.equivalence, &mut arena)?;
         Ok(Written { arena, records })
     }
 
-    /// What a log's type is without that of the first messages.
+    /// What the counts of a log's type are without those of the first messages.
     fn without_shift(self, log: &[u8]) -> Result<Written, Refusal> {
         let whole = self.infer(log)?;
         let part = self.infer(&messages(log)[..SHIFT].concat())?;
@@ -150,7 +155,7 @@ fn messages(mut table: &[u8]) -> Vec<&[u8]> {
     let mut messages = Vec::new();
     while !table.is_empty() {
         let span = u32::from_le_bytes(table[4..8].try_into().unwrap());
-        let (message, rest) = table.split_at(VALUE * span as usize);
+        let (message, rest) = table.split_at(VALUE_RECORD * span as usize);
         messages.push(message);
         table = rest;
     }
@@ -212,17 +217,18 @@ fn compare(log: &[u8], fixed: Fixed) -> bool {
 fn folded(log: &[u8]) -> Result<Written, Refusal> {
     let by_label = Fixed {
         equivalence: Equivalence::Label,
-        arena: LONGEST,
+        arena: LARGEST_ARENA,
     };
     let detailed = by_label.infer(log)?;
-    let [mut arena, mut work] = [(); 2].map(|()| vec![0; LONGEST]);
+    let [mut arena, mut work] = [(); 2].map(|()| vec![0; LARGEST_ARENA]);
     let records = ct::fold(detailed.in_use(), &mut arena, &mut work)?;
     Ok(Written { arena, records })
 }
 
 /// The log has seventeen keys, which the tag bus may have: its type is that under label, and the entries have the key sets.
 fn for_tag_bus(log: &[u8]) {
-    let [mut arena, mut work, mut entries] = [(); 3].map(|()| vec![0; LONGEST]);
+    let [mut arena, mut work] = [(); 2].map(|()| vec![0; LARGEST_ARENA]);
+    let mut entries = vec![0; LONGEST];
     let result = ct::infer_tag_bus(log, &mut arena, &mut work, &mut entries);
     let written = result.map(|records| Written { arena, records });
     print_line("for the tag bus", "", &written);
@@ -233,7 +239,7 @@ fn for_tag_bus(log: &[u8]) {
 fn table(text: &[u8], book: &[u8]) -> Vec<u8> {
     let mut table = vec![0; LONGEST];
     let records = ct::read_text(text, book, &mut table).expect("a text that call 6 accepts");
-    table.truncate(VALUE * records);
+    table.truncate(VALUE_RECORD * records);
     table
 }
 
@@ -247,9 +253,9 @@ fn main() {
     println!("{}: {} bytes, the same table\n", paths[1], text.len());
     let mut alike = true;
     for (equivalence, arena) in [
-        (Equivalence::Kind, LONGEST),
-        (Equivalence::Label, LONGEST),
-        (Equivalence::Label, RECORD * 64),
+        (Equivalence::Kind, LARGEST_ARENA),
+        (Equivalence::Label, LARGEST_ARENA),
+        (Equivalence::Label, TYPE_RECORD * 64),
     ] {
         alike &= compare(&log, Fixed { equivalence, arena });
     }

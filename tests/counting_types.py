@@ -1,20 +1,16 @@
 """Trials of call 4 by documents 01 and 02, written without the crates: builds each type, judges it by recursive descent, prints a line."""
-import struct
-from typing import NamedTuple
+from type_records import PLAIN, WITH_LENGTHS, Row
 
 NULL, BOOLEAN, NUMBER, STRING, RECORD, ARRAY, FIELD = range(1, 8)
 KIND, LABEL = 0, 1
 KNOWN = {"kind": KIND, "label": LABEL}
 UNKNOWN = {"2": 2, "2^64-1": 2**64 - 1}
 LIMIT = 10**15
-
-
-class Row(NamedTuple):
-    kind: int
-    zero: int
-    key: int
-    span: int
-    count: int
+MOST_ELEMENTS = 8192
+# The largest arena, and the most records of a type.
+LARGEST = WITH_LENGTHS.largest
+MOST_RECORDS = LARGEST // WITH_LENGTHS.size
+bytes_of, rows_in, front, room = WITH_LENGTHS.bytes_of, WITH_LENGTHS.rows_in, WITH_LENGTHS.front, WITH_LENGTHS.room
 
 
 class Malformed(Exception):
@@ -26,15 +22,17 @@ def demand(holds):
         raise Malformed
 
 
-def judge(data, equivalence):
+def judge(data, equivalence, layout=WITH_LENGTHS):
     """Refusal number, place and count."""
-    if len(data) % 16 or len(data) > 65536:
+    if layout.refuses(len(data)):
         return 1, 0, 0
     if equivalence not in (KIND, LABEL):
         return 2, 0, 0
-    rows = rows_in(data)
+    rows = layout.rows_in(data)
     try:
         union_total(rows, 1, equivalence)
+        if layout == WITH_LENGTHS:
+            demand_lengths(rows)
     except Malformed:
         return 8, 0, 0
     return 0, 0, len(rows)
@@ -46,10 +44,6 @@ def key_list(keys):
 
 
 NO_KEYS = key_list([])
-
-
-def rows_in(data):
-    return [Row(*numbers) for numbers in struct.iter_unpack("<BBHIQ", data)]
 
 
 def split(rows):
@@ -77,9 +71,8 @@ def union_total(rows, depth, equivalence):
             demand(inner == [])
         addends.append((row.kind, key_list(keys) if equivalence == LABEL else NO_KEYS))
     demand(all(a < b for a, b in zip(addends, addends[1:])))
-    total = sum(row.count for row, _ in split(rows))
-    demand(total <= LIMIT)
-    return total
+    demand(total(rows) <= LIMIT)
+    return total(rows)
 
 
 def field_keys(rows, of_record, depth, equivalence):
@@ -93,18 +86,35 @@ def field_keys(rows, of_record, depth, equivalence):
     return keys
 
 
+def demand_lengths(rows):
+    """Arrays have lengths that so many of them with so many elements may have, and other rows have none."""
+    for row, inner in split(rows):
+        if row.kind == ARRAY:
+            fewest = row.longest + (row.count - 1) * row.shortest
+            most = row.shortest + (row.count - 1) * row.longest
+            demand(row.shortest <= row.longest <= MOST_ELEMENTS)
+            demand(fewest <= total(inner) <= most)
+        else:
+            demand(row.shortest == row.longest == 0)
+        demand_lengths(inner)
+
+
 def joined(runs):
     return [row for run in runs for row in run]
 
 
-def total_of(runs):
-    return sum(run[0].count for run in runs)
+def total(union):
+    return sum(row.count for row, _ in split(union))
 
 
 def addend(kind, count, *content):
     """The rows of an addend, its span counted."""
     inner = joined(content)
     return [Row(kind, 0, 0, 1 + len(inner), count), *inner]
+
+
+def changed(rows, place, **numbers):
+    return [*rows[:place], rows[place]._replace(**numbers), *rows[place + 1 :]]
 
 
 def null(count=1):
@@ -127,14 +137,32 @@ def record(*fields, count=1):
     return addend(RECORD, count, *fields)
 
 
-def array(*union, count=1):
-    return addend(ARRAY, count, *union)
+def elements(rows):
+    """How many elements arrays have, whether their content is well formed or not."""
+    place = found = 0
+    while place < len(rows):
+        found += rows[place].count
+        place += max(rows[place].span, 1)
+    return found
+
+
+def array(*union, count=1, lengths=None):
+    """Arrays; unless they are given, their lengths differ by 1 at most."""
+    rows = addend(ARRAY, count, *union)
+    arrays, found = max(count, 1), elements(rows[1:])
+    shortest, longest = lengths or (found // arrays, -(-found // arrays))
+    return changed(rows, 0, shortest=shortest, longest=longest)
+
+
+def arrays_around(*union):
+    """As few arrays as can have these elements."""
+    return array(*union, count=max(1, -(-elements(joined(union)) // MOST_ELEMENTS)))
 
 
 def field(key, *union, count=None):
     """A field; unless it is given, its count is its union's total."""
     inner = joined(union)
-    return [Row(FIELD, 0, key, 1 + len(inner), total_of(union) if count is None else count), *inner]
+    return [Row(FIELD, 0, key, 1 + len(inner), elements(inner) if count is None else count), *inner]
 
 
 def with_keys(*keys):
@@ -156,18 +184,14 @@ def spelled(key_lists):
     return "-".join(digits(keys) or "none" for keys in key_lists)
 
 
-def changed(rows, place, **numbers):
-    return [*rows[:place], rows[place]._replace(**numbers), *rows[place + 1 :]]
-
-
 def nested(depth, inner):
     """Arrays around rows at a depth."""
     for _ in range(depth - 1):
-        inner = array(inner)
+        inner = arrays_around(inner)
     return inner
 
 
-NINE_BY_KIND = record(field(1, null(), number()), field(2, array(number(2), count=2)), count=3)
+NINE_BY_KIND = record(field(1, null(), number()), field(2, array(number(2), count=2, lengths=(0, 2))), count=3)
 NINE_BY_LABEL = joined(
     [
         record(field(1, null())),
@@ -218,8 +242,8 @@ def totals():
     yield "total-10^15", null(LIMIT - 1) + boolean()
     yield "total-10^15+1", null(LIMIT) + boolean()
     yield "total-of-three", null(LIMIT - 1) + boolean() + number()
-    yield "total-10^15-in-array", array(null(), boolean(LIMIT - 1))
-    yield "total-10^15+1-in-array", array(null(), boolean(LIMIT))
+    yield "total-10^15-in-array", arrays_around(null(), boolean(LIMIT - 1))
+    yield "total-10^15+1-in-array", arrays_around(null(), boolean(LIMIT))
     yield "total-10^15-in-field", record(field(1, null(LIMIT - 1), boolean()), count=LIMIT)
     yield "total-10^15+1-in-field", record(field(1, null(LIMIT), boolean()), count=LIMIT)
     yield "two-fields-of-10^15", record(field(1, null(LIMIT)), field(2, null(LIMIT)), count=LIMIT)
@@ -227,7 +251,7 @@ def totals():
     yield "count-2^56+1", null(2**56 + 1)
     yield "wrapped", null(largest) + boolean(2)
     yield "wrapped-last", null(2) + boolean(largest)
-    yield "wrapped-in-array", array(null(largest), boolean(2))
+    yield "wrapped-in-array", array(null(largest), boolean(2), lengths=(1, 1))
     yield "wrapped-in-field", record(field(1, null(largest), boolean(2), count=1))
     yield "array-of-2^64-1", array(null(), count=largest)
 
@@ -398,46 +422,165 @@ def depths():
     yield "value-at-33", nested(32, with_keys(1))
 
 
-def wide(last_key):
-    """A record of 4,096 rows."""
-    return record(*(field(key, null()) for key in range(1, 2047)), field(last_key, array(null())))
+def arrays(count, found, *lengths):
+    """So many arrays with so many elements, and the shortest and the longest of their lengths."""
+    return array(*([number(found)] if found else []), count=count, lengths=lengths)
+
+
+def short(n):
+    """A number as names have it."""
+    for name, near in ("10^15", LIMIT), ("2^49", 2**49), ("2^32", 2**32), ("2^31", 2**31), ("2^19", 2**19):
+        if abs(n - near) <= MOST_ELEMENTS:
+            return name + (f"{n - near:+}" if n != near else "")
+    return str(n)
+
+
+def of_lengths(*cases):
+    for count, found, shortest, longest in cases:
+        name = f"arrays-{short(count)}-of-{short(found)}-from-{short(shortest)}-to-{short(longest)}"
+        yield name, arrays(count, found, shortest, longest)
+
+
+def few_arrays():
+    """Lengths at each edge and beyond it. The first of two arrays has the shortest and the other the longest."""
+    yield from of_lengths(*((1, 5, *pair) for pair in [(5, 5), (4, 5), (5, 6), (4, 4), (6, 6), (0, 5), (6, 4), (0, 0)]))
+    yield from of_lengths(*((1, 0, *pair) for pair in [(0, 1), (1, 1), (1, 0)]))
+    yield from of_lengths(*((2, 5, *pair) for pair in [(2, 3), (1, 4), (0, 5), (3, 2), (5, 0)]))
+    yield from of_lengths(*((2, 5, *pair) for pair in [(2, 4), (2, 2), (3, 3), (1, 3), (0, 4), (0, 6)]))
+    yield from of_lengths(*((3, found, 1, 3) for found in range(4, 9)))
+    yield from of_lengths(*((3, found, 0, 4) for found in (3, 4, 8, 9)))
+    yield from of_lengths(*((3, found, 2, 2) for found in (5, 6, 7)))
+    yield from of_lengths(*((3, 2, *pair) for pair in [(0, 1), (0, 2), (0, 3), (1, 1), (0, 0)]))
+    yield from of_lengths(*((3, 0, *pair) for pair in [(0, 0), (0, 1), (1, 1)]))
+
+
+def long_arrays():
+    """Only the most elements of an array decide, up to the last, whose total has the length in its low 32 bits."""
+    most = MOST_ELEMENTS
+    yield from of_lengths((1, most, most, most), (1, most + 1, most + 1, most + 1))
+    yield from of_lengths((2, most + 1, 1, most), (2, most + 1, 0, most + 1), (3, most, 0, most))
+    yield from of_lengths((2, 2 * most, most, most), (2, 2 * most + 1, most, most + 1))
+    yield from of_lengths((2, 65536, 0, 65536), (2, 2**32 - 1, 0, 2**32 - 1), (LIMIT, LIMIT, 0, 2**32 - 1))
+    yield from of_lengths(*((1, length, length, length) for length in (65536, 2**31, 2**32 - 1)))
+    yield from of_lengths((1, 2**32 + 5, 5, 5))
+
+
+def many_arrays():
+    """Counts and totals up to the limit."""
+    most, fewest = MOST_ELEMENTS, LIMIT // MOST_ELEMENTS
+    yield from of_lengths((LIMIT, LIMIT, 1, 1), (LIMIT, LIMIT - 1, 1, 1), (LIMIT, LIMIT, 1, 2), (LIMIT, LIMIT, most, most))
+    yield from of_lengths((LIMIT, LIMIT, 0, 1), (LIMIT, LIMIT - 1, 0, 1), (LIMIT, 1, 0, 1), (LIMIT, 1, 0, 0), (LIMIT, 0, 0, 0))
+    yield from of_lengths((LIMIT - 1, LIMIT, 1, 1), (LIMIT - 1, LIMIT, 1, 2), (LIMIT - 1, LIMIT - 1, 1, 2))
+    yield from of_lengths((LIMIT, LIMIT, 0, most), (LIMIT, most, 0, most), (LIMIT, most - 1, 0, most))
+    yield from of_lengths((fewest, LIMIT, most, most), (fewest, LIMIT - 1, most, most), (fewest + 1, LIMIT, most, most))
+    yield from of_lengths((fewest, LIMIT, most - 1, most), (fewest, LIMIT - 1, most - 1, most))
+    yield from of_lengths((fewest, LIMIT - most, 0, most), (fewest, LIMIT - most + 1, 0, most))
+
+
+def wrapped_lengths():
+    """Products that would come right if they wrapped at 32 bits, and some that are right; then such that would if they wrapped at 64."""
+    most, largest = MOST_ELEMENTS, 2**32 - 1
+    yield from of_lengths((2**32 + 1, 1, 1, 1), (2**32 + 1, 2**32 + 1, 1, 1), (2**32 + 1, 1, 0, 1))
+    yield from of_lengths((2**19 + 1, most, most, most), (2**19 + 1, 2**32 + most, most, most))
+    for count in 2**32 + 2, 232829 * 2**32 + 232830:
+        yield from of_lengths((count, count * largest % 2**64, largest, largest))
+    yield from of_lengths((2**49 + 1, 2**15, 2**15, 2**15))
+
+
+# Rows of the kinds that have no lengths, with the place of each in its type.
+WITHOUT_LENGTHS = {
+    "null": (null(), 0),
+    "boolean": (boolean(2), 0),
+    "number": (number(), 0),
+    "string": (string(), 0),
+    "record": (with_keys(1), 0),
+    "field": (with_keys(1), 1),
+    "value": (with_keys(1), 2),
+    "field-of-two": (record(field(1, null(), boolean()), count=2), 1),
+    "value-of-two": (record(field(1, null(), boolean()), count=2), 3),
+    "field-of-array": (record(field(1, array())), 1),
+}
+
+
+def other_kinds():
+    for name, (rows, place) in WITHOUT_LENGTHS.items():
+        yield f"{name}-shortest-1", changed(rows, place, shortest=1)
+        yield f"{name}-longest-1", changed(rows, place, longest=1)
+        yield f"{name}-both-1", changed(rows, place, shortest=1, longest=1)
+    for bits in 8, 16, 24:
+        yield f"null-shortest-2^{bits}", changed(null(), 0, shortest=2**bits)
+        yield f"null-longest-2^{bits}", changed(null(), 0, longest=2**bits)
+    yield "element-longest-1", changed(array(null()), 1, longest=1)
+    yield "empty-record-longest-1", changed(record(), 0, longest=1)
+    yield "all-ones", changed(null(), 0, shortest=2**32 - 1, longest=2**32 - 1)
+
+
+def lengths_inside():
+    """Wrong lengths in every union. All elements count, whatever their kinds and key lists, and nothing inside them."""
+    wrong = arrays(1, 5, 4, 5)
+    yield "wrong-in-array", array(wrong)
+    yield "wrong-in-field", record(field(1, wrong))
+    yield "wrong-in-array-in-field", record(field(1, array(wrong)))
+    yield "wrong-in-last-list", with_keys(1) + record(field(2, wrong))
+    yield "wrong-behind-others", null() + with_keys(1) + wrong
+    yield "wrong-around-array", array(arrays(1, 5, 5, 5), lengths=(2, 2))
+    yield "wrong-at-32", nested(32, array(count=2, lengths=(0, 1)))
+    for length in 2, 3, 5:
+        yield f"of-two-kinds-{length}", array(null(2), boolean(3), lengths=(length, length))
+    for length in 1, 2, 6:
+        yield f"of-two-lists-{length}", array(lists([1], [2]), lengths=(length, length))
+    for length in 1, 5:
+        yield f"of-one-array-of-5-{length}", array(array(number(5)), lengths=(length, length))
+
+
+def plain_types():
+    """Types stored before records had lengths. An allowed length have only those with a number of records that is a multiple of 3."""
+    for name, rows in ("null", null()), ("two", null() + boolean()), ("three", null() + boolean() + number()), ("array", array(null())):
+        yield f"plain-{name}", PLAIN.bytes_of(rows)
+    # Read with lengths this is a null and a boolean, in which nothing but the lengths is wrong.
+    yield "plain-three-but-for-lengths", PLAIN.bytes_of(null() + boolean(2**32 + BOOLEAN) + number())
+    yield "plain-array-of-two", PLAIN.bytes_of(array(null(), boolean(), count=2))
+    yield "plain-nine-by-kind", PLAIN.bytes_of(NINE_BY_KIND)
+    yield "plain-nine-by-label", PLAIN.bytes_of(NINE_BY_LABEL)
+    yield "plain-largest", PLAIN.bytes_of(wide(PLAIN.largest // PLAIN.size))
+
+
+def wide(records, last_key=None):
+    """A record of so many rows, an even number: nulls in fields from key 1 on, and an array in the last one."""
+    last = records // 2 - 1
+    return record(*(field(key, null()) for key in range(1, last)), field(last_key or last, array(null())))
 
 
 def largest():
-    yield "largest", wide(2047)
-    yield "largest-field-twice", wide(2046)
-    yield "largest-addend-count-0", changed(wide(2047), 4095, count=0)
-    yield "one-record-more", with_keys(*range(1, 2049))
-
-
-def bytes_of(rows):
-    return b"".join(struct.pack("<BBHIQ", *row) for row in rows)
-
-
-def front(rows, length):
-    """The first bytes of rows with zeros behind them."""
-    return bytes_of(rows).ljust(length, b"\0")[:length]
+    widest = wide(MOST_RECORDS)
+    yield "largest", widest
+    yield "largest-field-twice", wide(MOST_RECORDS, MOST_RECORDS // 2 - 2)
+    yield "largest-addend-count-0", changed(widest, MOST_RECORDS - 1, count=0)
+    yield "largest-null-with-length", changed(widest, MOST_RECORDS - 1, longest=1)
+    yield "one-record-more", with_keys(*range(1, MOST_RECORDS // 2 + 1))
 
 
 def lengths():
     two = null() + boolean()
     yield "empty", b""
-    for n in 1, 8, 15, 16, 17, 24, 31:
+    for n in 1, 8, 12, 16, 23, 24, 25, 32, 40, 47, 48:
         yield f"length-{n}", front(two, n)
-    yield "zero-record-behind", front(null(), 32)
-    yield "whole-arena", front(null(), 65536)
-    yield "whole-arena-of-nine", front(NINE_BY_KIND, 65536)
-    yield "zeros", bytes(65536)
-    for n in 65535, 65536, 65537, 65552:
-        yield f"length-{n}", front(null() * 4097, n)
+    yield "zero-record-behind", front(null(), room(2))
+    yield "whole-arena", front(null(), LARGEST)
+    yield "whole-arena-of-nine", front(NINE_BY_KIND, LARGEST)
+    yield "zeros", bytes(LARGEST)
+    for n in 65504, 65519, 65520, 65521, 65535, 65536, 65537, 65544:
+        yield f"length-{n}", front(null() * (MOST_RECORDS + 1), n)
 
 
 def types():
     """Names and types, in the order of crates/trials, each to be judged under both equivalences."""
     groups = accepted, defaults, totals, zero_counts, field_counts, key_lists, list_lengths, lists_inside
-    for group in (*groups, addend_order, field_order, keys, kinds, spans, depths):
+    of_arrays = few_arrays, long_arrays, many_arrays, wrapped_lengths, other_kinds, lengths_inside
+    for group in (*groups, addend_order, field_order, keys, kinds, spans, depths, *of_arrays):
         for name, rows in group():
             yield name, bytes_of(rows)
+    yield from plain_types()
     yield from lengths()
     for name, rows in largest():
         yield name, bytes_of(rows)
@@ -445,11 +588,12 @@ def types():
 
 def few():
     """Names and types, to be judged under unknown equivalences."""
-    yield "one-null", front(null(), 16)
+    yield "one-null", bytes_of(null())
     yield "empty", b""
-    yield "zero-record", bytes(16)
-    yield "length-17", front(null(), 17)
-    yield "length-65552", front(null(), 65552)
+    yield "zero-record", bytes(room(1))
+    yield "length-25", front(null(), 25)
+    yield "length-65536", front(null(), 65536)
+    yield "length-65544", front(null(), 65544)
 
 
 def report(types, equivalences):

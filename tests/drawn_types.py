@@ -2,8 +2,8 @@
 from random import Random
 
 import tables
-from counting_types import ARRAY, LABEL, LIMIT, RECORD, STRING, addend, field, joined, key_list
-from inferences import counts_of
+from counting_types import ARRAY, LABEL, LIMIT, MOST_ELEMENTS, RECORD, STRING, addend, array, field, joined, key_list, total
+from inferences import tallies_of
 from merges import rows_of
 
 DEEPEST = 4
@@ -53,7 +53,7 @@ def value(numbers, depth, key=0):
 
 def of_table(numbers):
     messages = tables.messages(*(value(numbers, 1) for _ in range(3 + numbers.below(6))))
-    return rows_of(counts_of(tables.bytes_of(messages), LABEL))
+    return rows_of(tallies_of(tables.bytes_of(messages), LABEL))
 
 
 def union(numbers, total, depth):
@@ -63,15 +63,29 @@ def union(numbers, total, depth):
     counts = numbers.shares(total, 5 - depth)
     addends = {}
     for (kind, keys), count in zip(numbers.classes_at(depth, len(counts)), counts):
-        addends[kind, key_list(keys)] = addend(kind, count, *inside(numbers, kind, keys, count, depth + 1))
+        addends[kind, key_list(keys)] = drawn_addend(numbers, kind, keys, count, depth + 1)
     return joined(addends[one] for one in sorted(addends))
 
 
-def inside(numbers, kind, keys, count, depth):
+def drawn_addend(numbers, kind, keys, count, depth):
+    """An addend with what is inside it at a depth."""
     if kind == ARRAY:
-        limit = (9, LIMIT)[numbers.below(2)]
-        return [union(numbers, numbers.below(limit), depth)]
-    return [field(key, union(numbers, count, depth), count=count) for key in keys]
+        most = min((9, LIMIT)[numbers.below(2)], MOST_ELEMENTS * count + 1)
+        content = union(numbers, numbers.below(most), depth)
+        return array(content, count=count, lengths=lengths(numbers, count, total(content)))
+    return addend(kind, count, *(field(key, union(numbers, count, depth), count=count) for key in keys))
+
+
+def lengths(numbers, count, found):
+    """The shortest and the longest of so many arrays with so many elements: one has the shortest, and then another the longest."""
+    others = count - 1
+    if others == 0:
+        return found, found
+    least = max(0, found - others * MOST_ELEMENTS)
+    shortest = least + numbers.below(found // count - least + 1)
+    least = -(-(found - shortest) // others)
+    most = min(found - others * shortest, MOST_ELEMENTS)
+    return shortest, least + numbers.below(most - least + 1)
 
 
 def to_limit(numbers):

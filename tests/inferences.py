@@ -3,14 +3,12 @@ a line.
 
 A place is as in merges.py: a tuple of classes and of fields.
 """
-import struct
-from collections import Counter
-
-from counting_types import FIELD, KNOWN, LABEL, NO_KEYS, UNKNOWN, key_list
-from merges import LARGEST, rows_of, written
+from counting_types import FIELD, KNOWN, LABEL, LARGEST, NO_KEYS, UNKNOWN, digits, key_list, room
+from merges import Tally, fitted, rows_of, tallied, written
 from tables import ARRAY, BOOLEAN, EMPTY_ARRAY, EVERY, FIVE_INSIDE, NINE, NULL, NUMBER, ONE_NULL, RECORD, STRING
-from tables import array, bytes_of, in_arrays, in_fields, judge, many, messages, nested, null, one_field_each, record, value
+from tables import array, bytes_of, in_arrays, in_fields, judge, many, messages, nested, null, one_field_each, record, records_in, value
 from tables import with_fields, with_keys
+from type_records import WITH_LENGTHS
 
 
 def runs(records, start, end):
@@ -28,42 +26,43 @@ def class_of(records, start, equivalence):
     return kind, 0, key_list(keys)
 
 
+def tally_of(records, start):
+    """One value; an array is as long as it has elements."""
+    kind, _, _, span = records[start]
+    length = len(list(runs(records, start + 1, start + span))) if kind == ARRAY else 0
+    return Tally(1, length, length)
+
+
 def places(records, start, end, equivalence, around=(), fields=False):
-    """The place of each value from a start to an end, and of each field."""
+    """The place of each value from a start to an end, and of each field, with its tally."""
     for i in runs(records, start, end):
         kind, _, key, span = records[i]
         outer = around
         if fields:
             outer = (*around, (FIELD, key, NO_KEYS))
-            yield outer
+            yield outer, Tally(1)
         place = (*outer, class_of(records, i, equivalence))
-        yield place
+        yield place, tally_of(records, i)
         yield from places(records, i + 1, i + span, equivalence, place, kind == RECORD)
 
 
-def counts_of(table, equivalence):
-    """How many values of a table have each place."""
-    records = list(struct.iter_unpack("<BBHI", table))
-    return Counter(places(records, 0, len(records), equivalence))
-
-
-def bad_length(length):
-    return length % 16 or length > LARGEST
+def tallies_of(table, equivalence):
+    """The tally of each place that a value of a table has."""
+    records = records_in(table)
+    return tallied(places(records, 0, len(records), equivalence))
 
 
 def infer(table, equivalence, arena, work):
     """Refusal number, place, and the rows of the inferred type, none if it is refused."""
     refusal, place, _ = judge(table)
-    if refusal == 1 or bad_length(arena) or work != arena:
+    if refusal == 1 or WITH_LENGTHS.refuses(arena) or work != arena:
         return 1, 0, []
     if equivalence not in KNOWN.values():
         return 2, 0, []
     if refusal:
         return refusal, place, []
-    rows = rows_of(counts_of(table, equivalence))
-    if 16 * len(rows) > arena:
-        return 11, 0, []
-    return 0, 0, rows
+    number, rows = fitted(rows_of(tallies_of(table, equivalence)), arena)
+    return number, 0, rows
 
 
 def single(kind, key=0):
@@ -78,11 +77,11 @@ def document():
     yield "empty", []
     yield "empty-arena-0", [], 0
     yield "nine-records", NINE
-    for arena in 0, 96, 112, 128, 176, 192, 208:
+    for arena in map(room, (0, 6, 7, 8, 11, 12, 13)):
         yield f"nine-arena-{arena}", NINE, arena
     yield "one-null", null()
     yield "one-null-arena-0", null(), 0
-    yield "one-null-arena-16", null(), 16
+    yield "one-null-arena-24", null(), room(1)
     yield "null-span-2", [(NULL, 0, 2)]
     yield "all-zero", [(0, 0, 0)]
     yield "two-fields", record(null(1), number(1))
@@ -162,6 +161,38 @@ def list_lengths():
     yield "fields-256-and-1", with_keys(*many(256, 1, 1)) + with_keys(2)
 
 
+def of_length(length, key=0):
+    return array(*[null()] * length, key=key)
+
+
+def array_lengths():
+    """Lengths in several orders of arrival, also of equal messages and of equal elements, and of arrays at several places."""
+    for lengths in [0], [3], [0, 0], [2, 2, 2], [1, 4], [4, 1], [2, 0, 1], [0, 5, 0], [3, 1, 4, 1, 5]:
+        yield f"array-lengths-{digits(lengths)}", messages(*map(of_length, lengths))
+    yield "array-lengths-256-and-2", of_length(256) + of_length(2)
+    yield "array-lengths-of-equal-messages", 3 * of_length(2) + of_length(1) + 2 * of_length(2)
+    yield "array-lengths-of-two-kinds", array(null(), number()) + array(number(), number(), null())
+    yield "array-lengths-of-records", array(with_keys(1), with_keys(2)) + array(with_keys(2)) + array(3 * with_keys(1))
+    yield "array-lengths-of-arrays", array(of_length(3), of_length(1)) + array(of_length(2), of_length(2), of_length(2))
+    yield "array-lengths-of-equal-elements", array(of_length(2), of_length(2), of_length(2))
+    yield "array-lengths-of-equal-arrays-of-arrays", 2 * array(array(of_length(1), of_length(2)), array(of_length(1), of_length(2)))
+    yield "array-lengths-of-empty-arrays-in-arrays", array(array(), array()) + array(array())
+    yield "array-lengths-at-32", in_arrays(31, of_length(2) + array())
+    yield "elements-8191", of_length(8191)
+    yield "elements-8190-and-empty-array", of_length(8190) + array()
+
+
+def lengths_in_fields():
+    """Arrays of one field, under label of one key list, and of several."""
+    yield "array-lengths-in-field", record(of_length(2, 1)) + record(of_length(5, 1)) + record(null(1))
+    yield "array-lengths-in-field-of-equal-messages", 2 * record(of_length(2, 1)) + record(of_length(3, 1)) + 2 * record(of_length(2, 1))
+    yield "array-lengths-in-two-fields", record(of_length(2, 1), of_length(3, 2)) + record(of_length(1, 2), of_length(4, 1))
+    yield "array-lengths-in-two-lists", record(of_length(2, 1)) + record(null(2), of_length(5, 1)) + record(array(key=1))
+    yield "array-lengths-in-lists-of-elements", array(record(of_length(1, 1)), record(of_length(2, 1), null(2)), record(of_length(3, 1)))
+    yield "array-lengths-in-arrays-in-field", record(array(of_length(2), of_length(1), key=1)) + record(array(of_length(3), key=1))
+    yield "array-lengths-of-messages-and-elements", of_length(4) + array(of_length(1), of_length(3)) + record(of_length(2, 1))
+
+
 def defaults():
     """Messages whose types, those of the default call as it was and as it is, are judged and merged by counting_types.py and merges.py."""
     yield "former-default", record(number(1)) + record(number(1), null(2))
@@ -170,11 +201,11 @@ def defaults():
 
 
 def rooms():
-    for arena in 0, 16, 32, 64, 160, 176:
+    for arena in map(room, (0, 1, 2, 4, 10, 11)):
         yield f"five-fields-arena-{arena}", with_keys(5, 4, 3, 2, 1), arena
-    for arena in 32, 48, 64:
+    for arena in map(room, (2, 3, 4)):
         yield f"kinds-3-1-2-arena-{arena}", number() + null() + single(BOOLEAN) + null(), arena
-    for arena in 16, 32:
+    for arena in map(room, (1, 2)):
         yield f"array-of-null-arena-{arena}", array(null()), arena
 
 
@@ -189,30 +220,35 @@ FIELDS_256 = with_fields(255, array(null(), key=256))
 
 def fields_of_one_record():
     yield "fields-256", FIELDS_256
-    yield "fields-256-arena-8224", FIELDS_256, 8224
-    yield "fields-256-arena-8208", FIELDS_256, 8208
+    for arena in map(room, (514, 513)):
+        yield f"fields-256-arena-{arena}", FIELDS_256, arena
     yield "fields-256-descending", with_keys(*many(256, 256, -1))
     yield "fields-256-scattered", with_keys(*many(256, 1, 40503))
     yield "fields-256-and-five-inside", with_fields(253, *FIVE_INSIDE)
     yield "fields-257-and-five-inside", with_fields(253, *FIVE_INSIDE, null(257))
     yield "fields-257", with_fields(257)
-    yield "fields-257-before-room", with_fields(257), 16
+    yield "fields-257-before-room", with_fields(257), room(1)
     yield "fields-257-and-repeat", with_fields(256, null(1))
     yield "fields-8191", with_fields(8191)
 
 
+# Tables whose types under kind and under label have as many records as a type can have.
+RECORDS_1364 = one_field_each(many(1364, 1, 1)) + array()
+RECORDS_909 = one_field_each(many(909, 1, 1)) + array(null(), single(BOOLEAN))
+
+
 def largest():
     yield "nulls", [ONE_NULL] * 8192
-    yield "records-2047", one_field_each(many(2047, 1, 1)) + array()
-    yield "records-2047-arena-65520", one_field_each(many(2047, 1, 1)) + array(), 65520
-    yield "records-2047-descending", one_field_each(many(2047, 2047, -1))
-    yield "records-2047-scattered", one_field_each(many(2047, 1, 40503))
-    yield "records-2048", one_field_each(many(2048, 1, 1))
-    yield "records", one_field_each(many(1365, 1, 1)) + array()
-    yield "records-arena-65520", one_field_each(many(1365, 1, 1)) + array(), 65520
-    yield "records-descending", one_field_each(many(1365, 1365, -1))
-    yield "records-scattered", one_field_each(many(1365, 1, 40503))
-    yield "records-too-many", one_field_each(many(1366, 1, 1))
+    yield "records-1364", RECORDS_1364
+    yield "records-1364-arena-65496", RECORDS_1364, 65496
+    yield "records-1364-descending", one_field_each(many(1364, 1364, -1))
+    yield "records-1364-scattered", one_field_each(many(1364, 1, 40503))
+    yield "records-1365", one_field_each(many(1365, 1, 1))
+    yield "records", RECORDS_909
+    yield "records-arena-65496", RECORDS_909, 65496
+    yield "records-descending", one_field_each(many(910, 910, -1))
+    yield "records-scattered", one_field_each(many(910, 1, 40503))
+    yield "records-too-many", one_field_each(many(910, 1, 1)) + array()
     yield "records-4096", one_field_each(many(4096, 1, 1))
     yield "records-of-one-key", one_field_each([7] * 4096)
 
@@ -225,16 +261,17 @@ def tables(trials):
 
 
 def given_lengths():
-    for arena in 1, 8, 15, 17, 65535, 65537, 65552:
+    for arena in 1, 8, 12, 16, 23, 25, 48, 65519, 65521, 65535, 65536, 65537, 65544:
         yield f"arena-{arena}", bytes_of(null()), arena, arena
-    for arena, work in (112, 96), (112, 128), (112, 113), (112, 0), (0, 16), (65536, 65520), (65520, 65536), (16, 65552):
+    works = (168, 144), (168, 192), (168, 169), (168, 0), (0, 24), (65520, 65496), (65496, 65520), (65520, 65536), (24, 65544)
+    for arena, work in works:
         yield f"arena-{arena}-work-{work}", bytes_of(NINE), arena, work
     for length in 1, 7, 9, 71:
         yield f"table-{length}", bytes_of(NINE)[:length], LARGEST, LARGEST
     for length in 65537, 65544:
         yield f"table-{length}", bytes_of([ONE_NULL] * 8193)[:length], LARGEST, LARGEST
     yield "zeros-behind", bytes_of(null()) + bytes(8), LARGEST, LARGEST
-    yield "length-before-fault", bytes_of([(0, 0, 0)]), 16, 0
+    yield "length-before-fault", bytes_of([(0, 0, 0)]), 24, 0
 
 
 def unknown():
@@ -243,15 +280,16 @@ def unknown():
     yield "all-zero", bytes(8), LARGEST, LARGEST
     yield "one-null-arena-0", bytes_of(null()), 0, 0
     yield "fields-8191", bytes_of(with_fields(8191)), LARGEST, LARGEST
-    yield "arena-17", bytes_of(null()), 17, 17
-    yield "arena-16-work-0", bytes_of(null()), 16, 0
+    yield "arena-25", bytes_of(null()), 25, 25
+    yield "arena-65536", bytes_of(null()), 65536, 65536
+    yield "arena-24-work-0", bytes_of(null()), 24, 0
     yield "table-9", bytes_of(null()) + bytes(1), LARGEST, LARGEST
 
 
 def known():
     """Names, tables and lengths, in the order of crates/trials."""
-    groups = document, faults, unions, contents, fields, key_lists, list_lengths, defaults, rooms, depths, fields_of_one_record, largest
-    for group in groups:
+    groups = document, faults, unions, contents, fields, key_lists, list_lengths, array_lengths, lengths_in_fields, defaults
+    for group in (*groups, rooms, depths, fields_of_one_record, largest):
         yield from tables(group())
     yield from given_lengths()
 
@@ -259,11 +297,14 @@ def known():
 def default():
     yield from tables(document())
     yield from tables([("lists-13-2-12", with_keys(1, 3) + with_keys(2) + with_keys(2, 1)), ("lengths-backwards", BACKWARDS)])
+    yield from tables(lengths_in_fields())
+    yield from tables([("array-lengths-201", messages(*map(of_length, (2, 0, 1)))), ("elements-8191", of_length(8191))])
     yield from tables(defaults())
-    yield from tables([("fields-256", FIELDS_256), ("fields-257", with_fields(257)), ("fields-257-before-room", with_fields(257), 16)])
-    yield from tables([("records-2047", one_field_each(many(2047, 1, 1)) + array()), ("records", one_field_each(many(1365, 1, 1)) + array())])
-    yield "arena-17", bytes_of(null()), 17, 17
-    yield "arena-16-work-0", bytes_of(null()), 16, 0
+    yield from tables([("fields-256", FIELDS_256), ("fields-257", with_fields(257)), ("fields-257-before-room", with_fields(257), room(1))])
+    yield from tables([("records-1364", RECORDS_1364), ("records", RECORDS_909)])
+    yield "arena-25", bytes_of(null()), 25, 25
+    yield "arena-65536", bytes_of(null()), 65536, 65536
+    yield "arena-24-work-0", bytes_of(null()), 24, 0
     yield "table-9", bytes_of(null()) + bytes(1), LARGEST, LARGEST
 
 

@@ -1,16 +1,37 @@
-"""Trials of call 5 by documents 01 and 02, written without the crates: reads both types as maps from places to counts, adds, writes, prints.
+"""Trials of call 5 by documents 01 and 02, written without the crates: reads both types as maps from places to tallies, adds these, prints.
 
 A place is a tuple of classes and of fields, so that places in order are the rows of a type in order.
 """
 import zlib
 from collections import Counter
+from itertools import chain
+from typing import NamedTuple
 
-from counting_types import DEFAULT, EITHER_ORDER, EVERY_KIND, FIELD, FORMER_DEFAULT, FORMER_ORDER, FORMER_SAME_KEYS, KNOWN, LABEL, LIMIT
-from counting_types import NINE_BY_KIND, NINE_BY_LABEL, NINE_IN_FORMER_ORDER, NO_KEYS, RECORD, UNKNOWN, Row
-from counting_types import array, boolean, field, null, number, record, string
-from counting_types import bytes_of, front, judge, key_list, lists, nested, rows_in, split, wide, with_keys
+from counting_types import DEFAULT, EITHER_ORDER, EVERY_KIND, FIELD, FORMER_DEFAULT, FORMER_ORDER, FORMER_SAME_KEYS, KNOWN, LABEL, LARGEST
+from counting_types import LIMIT, MOST_ELEMENTS, MOST_RECORDS, NINE_BY_KIND, NINE_BY_LABEL, NINE_IN_FORMER_ORDER, NO_KEYS, RECORD, UNKNOWN
+from counting_types import array, arrays, arrays_around, boolean, field, null, number, record, string
+from counting_types import bytes_of, changed, front, judge, key_list, lists, nested, room, split, wide, with_keys
+from type_records import PLAIN, WITH_LENGTHS, Row
 
-LARGEST = 65536
+ZEROS = [Row(0, 0, 0, 0, 0)]
+
+
+class Tally(NamedTuple):
+    """How many values have a place; if they are arrays, the shortest and the longest of their lengths."""
+
+    count: int
+    shortest: int = 0
+    longest: int = 0
+
+
+def tallied(found):
+    """The tally of each place, from any number for the same one."""
+    tallies = {}
+    for place, tally in found:
+        other = tallies.get(place, tally._replace(count=0))
+        lengths = min(tally.shortest, other.shortest), max(tally.longest, other.longest)
+        tallies[place] = Tally(tally.count + other.count, *lengths)
+    return tallies
 
 
 def keys_of(row, inner, equivalence):
@@ -21,18 +42,18 @@ def keys_of(row, inner, equivalence):
 
 
 def places(rows, equivalence, around=()):
-    """The places of a well-formed type, each with its count."""
+    """The places of a well-formed type, each with its tally."""
     for row, inner in split(rows):
         place = (*around, (row.kind, row.key, keys_of(row, inner, equivalence)))
-        yield place, row.count
+        yield place, Tally(row.count, row.shortest, row.longest)
         yield from places(inner, equivalence, place)
 
 
-def largest_total(counts):
+def largest_total(tallies):
     totals = Counter()
-    for place, count in counts.items():
+    for place, tally in tallies.items():
         if place[-1][0] != FIELD:
-            totals[place[:-1]] += count
+            totals[place[:-1]] += tally.count
     return max(totals.values(), default=0)
 
 
@@ -44,19 +65,15 @@ def span_at(in_order, i):
     return end - i
 
 
-def rows_of(counts):
-    in_order = sorted(counts)
-    return [Row(p[-1][0], 0, p[-1][1], span_at(in_order, i), counts[p]) for i, p in enumerate(in_order)]
+def rows_of(tallies):
+    in_order = sorted(tallies)
+    return [Row(p[-1][0], 0, p[-1][1], span_at(in_order, i), *tallies[p]) for i, p in enumerate(in_order)]
 
 
-def sum_of(first, second, equivalence):
-    return Counter(dict(places(rows_in(first), equivalence))) + Counter(dict(places(rows_in(second), equivalence)))
-
-
-def refusal_of(first, second, equivalence, arena):
+def refusal_of(first, second, equivalence, arena, layout):
     """The refusal number for the lengths, the equivalence and the two types, 0 if nothing is wrong with them."""
-    verdicts = [judge(data, equivalence)[0] for data in (first, second)]
-    if 1 in verdicts or arena % 16 or arena > LARGEST:
+    verdicts = [judge(data, equivalence, layout)[0] for data in (first, second)]
+    if 1 in verdicts or layout.refuses(arena):
         return 1
     if 2 in verdicts:
         return 2
@@ -65,35 +82,41 @@ def refusal_of(first, second, equivalence, arena):
     return 0
 
 
-def fitted(rows, arena):
+def fitted(rows, arena, layout=WITH_LENGTHS):
     """Refusal number, and the rows that an arena has room for."""
-    return (11, []) if 16 * len(rows) > arena else (0, rows)
+    return (11, []) if layout.room(len(rows)) > arena else (0, rows)
 
 
-def merge(first, second, equivalence, arena):
+def merge(first, second, equivalence, arena, layout=WITH_LENGTHS):
     """Refusal number, and the rows of the merged type, none if it is refused."""
-    refusal = refusal_of(first, second, equivalence, arena)
+    refusal = refusal_of(first, second, equivalence, arena, layout)
     if refusal:
         return refusal, []
-    counts = sum_of(first, second, equivalence)
-    if largest_total(counts) > LIMIT:
+    tallies = tallied(chain(*(places(layout.rows_in(data), equivalence) for data in (first, second))))
+    if largest_total(tallies) > LIMIT:
         return 10, []
-    return fitted(rows_of(counts), arena)
+    return fitted(rows_of(tallies), arena, layout)
 
 
-def written(rows):
+def row_text(row):
+    """A row as lines have it: its lengths are left out where both are 0."""
+    numbers = [row.kind, row.key, row.span, row.count, row.shortest, row.longest]
+    return " ".join(map(str, numbers if row.shortest or row.longest else numbers[:4]))
+
+
+def written(rows, layout=WITH_LENGTHS):
     """The rows of a type as a line shows them, a long type by its checksum."""
     if not rows:
         return ""
     if len(rows) > 64:
-        return f": adler32 {zlib.adler32(bytes_of(rows))}"
-    return ": " + "; ".join(f"{row.kind} {row.key} {row.span} {row.count}" for row in rows)
+        return f": adler32 {zlib.adler32(layout.bytes_of(rows))}"
+    return ": " + "; ".join(map(row_text, rows))
 
 
-def pairs(trials):
+def pairs(trials, layout=WITH_LENGTHS):
     """Each trial as name, first and second type, and arena length, which is the largest where a trial names none."""
     for name, first, second, *arena in trials:
-        yield name, bytes_of(first), bytes_of(second), *(arena or [LARGEST])
+        yield name, layout.bytes_of(first), layout.bytes_of(second), *(arena or [layout.largest])
 
 
 def both_ways(name, other_name, first, second):
@@ -200,19 +223,22 @@ def totals():
     yield "total-above-in-rest-of-first", one + number(LIMIT - 1), boolean()
     yield "total-above-in-rest-of-second", many, boolean() + number()
     yield "total-2*10^15", most, most
-    yield "total-10^15-in-array", array(many), array(one)
-    yield "total-10^15+1-in-array", array(most), array(one)
-    yield "total-10^15+1-in-rest-of-content", array(many), array(boolean(), number())
+    yield "total-10^15-in-array", arrays_around(many), array(one)
+    yield "total-10^15+1-in-array", arrays_around(most), array(one)
+    yield "total-10^15+1-in-rest-of-content", arrays_around(many), array(boolean(), number())
     yield "total-10^15-in-field", record(field(1, many), count=LIMIT - 1), record(field(1, one))
     yield "total-10^15+1-in-field", record(field(1, most), count=LIMIT), record(field(1, one))
-    yield "total-10^15+1-in-array-in-field", record(field(1, array(most))), record(field(1, array(one)))
-    yield "total-10^15+1-in-last-field", with_array(most), with_array(one)
+    yield "total-10^15+1-in-array-in-field", with_arrays(1, most), with_arrays(1, one)
+    yield "total-10^15+1-in-last-field", with_arrays(2, most), with_arrays(2, one)
     yield "two-fields-of-10^15", two_fields(LIMIT - 1), two_fields(1)
     yield "array-of-10^15+1", array(null(), count=LIMIT), array(null())
 
 
-def with_array(content):
-    return record(field(1, null()), field(2, array(content)))
+def with_arrays(last, content):
+    """Records with arrays around a union in their last field, and nulls in those before it."""
+    values = arrays_around(content)
+    count = values[0].count
+    return record(*(field(key, null(count)) for key in range(1, last)), field(last, values), count=count)
 
 
 def two_fields(count):
@@ -220,18 +246,80 @@ def two_fields(count):
 
 
 def malformed():
-    zeros = [Row(0, 0, 0, 0, 0)]
-    yield "zeros-first", zeros, null()
-    yield "zeros-second", null(), zeros
-    yield "zeros-both", zeros, zeros
-    yield "zero-record-behind-first", null() + zeros, null()
-    yield "zero-record-behind-second", null(), null() + zeros
+    yield "zeros-first", ZEROS, null()
+    yield "zeros-second", null(), ZEROS
+    yield "zeros-both", ZEROS, ZEROS
+    yield "zero-record-behind-first", null() + ZEROS, null()
+    yield "zero-record-behind-second", null(), null() + ZEROS
     yield "by-kind-and-by-label", NINE_BY_KIND, NINE_BY_LABEL
     yield "by-label-and-by-kind", NINE_BY_LABEL, NINE_BY_KIND
     yield "above-total-second", null(), null(LIMIT + 1)
     yield "second-before-total", null(LIMIT), null() + boolean(0)
     yield "second-before-room", null(), boolean() + null(), 0
     yield "first-before-room", boolean() + null(), null(), 0
+
+
+def array_lengths():
+    """Lengths apart, within each other, overlapping, touching and equal; of one kind of elements or two; with bytes that compare otherwise."""
+    pairs = {
+        "2-and-5": (arrays(1, 2, 2, 2), arrays(1, 5, 5, 5)),
+        "1-to-4-and-2-to-3": (arrays(2, 5, 1, 4), arrays(2, 5, 2, 3)),
+        "0-to-3-and-2-to-7": (arrays(3, 4, 0, 3), arrays(3, 12, 2, 7)),
+        "1-to-2-and-2-to-9": (arrays(2, 3, 1, 2), arrays(3, 14, 2, 9)),
+        "0-and-0-to-4": (arrays(2, 0, 0, 0), arrays(2, 4, 0, 4)),
+        "0-and-8192": (array(), array(number(MOST_ELEMENTS))),
+        "255-and-256": (array(number(255)), array(number(256))),
+        "511-and-768": (array(number(511)), array(number(768))),
+        "two-kinds": (array(null(4), count=2), array(boolean(9), count=3)),
+    }
+    for name, pair in pairs.items():
+        yield from both_ways(f"array-lengths-{name}", f"array-lengths-{name}-turned", *pair)
+    yield "array-lengths-equal", arrays(3, 6, 1, 4), arrays(3, 8, 1, 4)
+    many, one = arrays(LIMIT - 1, LIMIT - 1, 1, 1), arrays(1, 1, 1, 1)
+    yield from both_ways("array-lengths-10^15-1-arrays-and-1", "array-lengths-1-array-and-10^15-1", many, one)
+    yield "array-lengths-10^15-arrays-of-0-and-8192", array(count=LIMIT - 1), arrays(1, MOST_ELEMENTS, MOST_ELEMENTS, MOST_ELEMENTS)
+    yield "array-lengths-2-and-5-then-3", arrays(2, 7, 2, 5), arrays(1, 3, 3, 3)
+    yield "array-lengths-2-then-5-and-3", arrays(1, 2, 2, 2), arrays(2, 8, 3, 5)
+
+
+def lengths_inside():
+    """Arrays in fields and in arrays, and such as one of the types lacks."""
+    few, more = arrays(2, 3, 1, 2), arrays(2, 9, 4, 5)
+    yield "array-lengths-in-field", record(field(1, few), count=2), record(field(1, more), count=2)
+    yield "array-lengths-in-two-lists", record(field(1, few), count=2), record(field(1, more), field(2, null(2)), count=2)
+    yield "array-lengths-in-two-fields", record(field(1, few), count=2), record(field(2, more), count=2)
+    yield "array-lengths-in-array", array(few), array(more, count=2)
+    yield "array-lengths-in-array-beside-others", array(null(), few), array(few, count=2)
+    yield "array-lengths-at-32", nested(31, arrays(1, 3, 3, 3)), nested(31, array())
+    yield from both_ways("array-lengths-in-rest", "array-lengths-in-rest-turned", null() + few, boolean())
+    yield from both_ways("array-lengths-in-rest-of-content", "array-lengths-in-rest-of-content-turned", array(null(), few), array(null()))
+    first, second = record(field(1, few), count=2), record(field(2, more), count=2)
+    yield "array-lengths-of-first-list-only", first + second, record(field(1, more), count=2)
+
+
+def wrong_lengths():
+    right, wrong, too_long = arrays(1, 5, 5, 5), arrays(1, 5, 4, 5), arrays(1, 8193, 8193, 8193)
+    yield "wrong-lengths-first", wrong, right
+    yield "wrong-lengths-second", right, wrong
+    yield "wrong-lengths-both", wrong, wrong
+    yield "wrong-lengths-in-field-second", record(field(1, right)), record(field(1, wrong))
+    yield "wrong-lengths-that-merge-right", arrays(1, 2, 2, 3), arrays(1, 3, 2, 3)
+    yield "too-long-first", too_long, right
+    yield "too-long-second", right, too_long
+    yield "length-of-null-first", changed(null(), 0, longest=1), right
+    yield "length-of-null-second", null(), changed(null(), 0, shortest=1)
+    yield "wrong-lengths-second-before-total", null(LIMIT), null() + wrong
+    yield "wrong-lengths-first-before-room", wrong, right, 0
+    yield "wrong-lengths-second-before-room", right, wrong, 0
+
+
+def plain_types():
+    """Types stored before records had lengths, as the first and as the second."""
+    two, three = null() + boolean(), null() + boolean() + number()
+    for name, rows in ("null", null()), ("two", two), ("three", three), ("nine-by-label", NINE_BY_LABEL):
+        yield f"plain-{name}-first", PLAIN.bytes_of(rows), bytes_of(null()), LARGEST
+        yield f"plain-{name}-second", bytes_of(null()), PLAIN.bytes_of(rows), LARGEST
+    yield "plain-three-both", PLAIN.bytes_of(three), PLAIN.bytes_of(three), LARGEST
 
 
 def defaults():
@@ -249,23 +337,23 @@ def same_twice():
     yield "empty", []
     yield "half-of-10^15", null(LIMIT // 2)
     yield "above-half-of-10^15", null(LIMIT // 2 + 1)
-    yield "zeros", [Row(0, 0, 0, 0, 0)]
-    yield "wide", wide(2047)
+    yield "zeros", ZEROS
+    yield "wide", wide(MOST_RECORDS)
 
 
 def arenas():
     yield "both-empty-arena-0", [], [], 0
     yield "null-arena-0", null(), [], 0
-    yield "null-arena-16", [], null(), 16
-    for arena in 0, 96, 112, 128:
+    yield "null-arena-24", [], null(), room(1)
+    for arena in map(room, (0, 6, 7, 8)):
         yield f"by-kind-arena-{arena}", NINE_BY_KIND, NINE_BY_KIND, arena
-    for arena in 0, 176, 192, 208:
+    for arena in map(room, (0, 11, 12, 13)):
         yield f"by-label-arena-{arena}", NINE_BY_LABEL, NINE_BY_LABEL, arena
-    for arena in 16, 32, 48:
+    for arena in map(room, (1, 2, 3)):
         yield f"two-kinds-arena-{arena}", null(), boolean(), arena
     yield "total-before-room", null(LIMIT), null(), 0
-    yield "total-before-room-at-the-end", array(null(LIMIT)), null() + array(boolean()), 32
-    for arena in 1, 8, 15, 17, 65535, 65537, 65552:
+    yield "total-before-room-at-the-end", arrays_around(null(LIMIT)), null() + array(boolean()), room(2)
+    for arena in 1, 8, 12, 16, 23, 25, 65519, 65521, 65535, 65536, 65537, 65544:
         yield f"arena-{arena}", null(), null(), arena
 
 
@@ -293,39 +381,45 @@ def odd_and_even(count, other_count):
     return range(1, 2 * count, 2), range(2, 2 * other_count + 1, 2)
 
 
+def wide_around(union):
+    """A record with nulls in 1,361 fields, and in the last one four arrays around a union."""
+    return record(*(field(key, null()) for key in range(1, 1362)), field(1362, nested(5, union)))
+
+
 def largest():
-    odd, even = odd_and_even(1023, 1024)
+    odd, even = odd_and_even(682, 682)
     yield "interleaved", with_keys(*odd), with_keys(*even)
-    yield "interleaved-arena-65520", with_keys(*odd), with_keys(*even), 65520
-    yield "interleaved-arena-65504", with_keys(*odd), with_keys(*even), 65504
-    odd, even = odd_and_even(1024, 1024)
+    yield "interleaved-arena-65496", with_keys(*odd), with_keys(*even), 65496
+    yield "interleaved-arena-65472", with_keys(*odd), with_keys(*even), 65472
+    odd, even = odd_and_even(683, 682)
     yield "interleaved-too-many", with_keys(*odd), with_keys(*even)
-    odd, even = odd_and_even(682, 683)
-    yield "lists-interleaved", lists(*([k] for k in odd)) + array(), lists(*([k] for k in even))
-    yield "lists-interleaved-too-many", lists(*([k] for k in odd)) + array(null()), lists(*([k] for k in even))
-    yield "wide-with-null", wide(2047), null()
-    yield "null-with-wide", null(), wide(2047)
-    yield "wide-with-empty", wide(2047), []
-    yield "wide-and-wide", wide(2047), wide(2047)
-    yield "wide-and-wide-arena-65520", wide(2047), wide(2047), 65520
-    yield "wide-and-other-wide", wide(2047), wide(2048)
-    yield "total-before-room-wide", wide(2047), wide(2047)[:-1] + null(LIMIT), 16
+    odd, even = odd_and_even(455, 454)
+    yield "lists-interleaved", lists(*([k] for k in odd)) + array(null(), boolean()), lists(*([k] for k in even))
+    yield "lists-interleaved-too-many", lists(*([k] for k in odd)) + array(null(), boolean(), number()), lists(*([k] for k in even))
+    widest, other = wide(MOST_RECORDS), wide(MOST_RECORDS, MOST_RECORDS // 2)
+    yield "wide-with-null", widest, null()
+    yield "null-with-wide", null(), widest
+    yield "wide-with-empty", widest, []
+    yield "wide-and-wide", widest, widest
+    yield "wide-and-wide-arena-65496", widest, widest, 65496
+    yield "wide-and-other-wide", widest, other
+    yield "total-before-room-wide", wide_around(null()), wide_around(null(LIMIT)), room(1)
 
 
 def given_lengths():
     """Types that are cut, or have zeros behind them."""
-    one = front(null(), 16)
-    for length in 1, 8, 15, 17, 24, 65535, 65537, 65552:
+    one = bytes_of(null())
+    for length in 1, 8, 12, 16, 23, 25, 32, 65519, 65521, 65536, 65544:
         yield f"first-{length}", front(null(), length), one, LARGEST
         yield f"second-{length}", one, front(null(), length), LARGEST
     yield "whole-arena-first", front(null(), LARGEST), one, LARGEST
     yield "whole-arena-second", one, front(null(), LARGEST), LARGEST
     yield "whole-arena-both", front(null(), LARGEST), front(null(), LARGEST), LARGEST
-    yield "whole-arena-of-nine", front(NINE_BY_KIND, LARGEST), front(NINE_BY_KIND, 112), LARGEST
+    yield "whole-arena-of-nine", front(NINE_BY_KIND, LARGEST), bytes_of(NINE_BY_KIND), LARGEST
 
 
 def unknown():
-    one, zeros = front(null(), 16), bytes(16)
+    one, zeros = bytes_of(null()), bytes_of(ZEROS)
     yield "two-nulls", one, one, LARGEST
     yield "both-empty", b"", b"", 0
     yield "zeros-first", zeros, one, LARGEST
@@ -333,29 +427,33 @@ def unknown():
     yield "zeros-both", zeros, zeros, LARGEST
     yield "total-10^15+1", bytes_of(null(LIMIT)), one, LARGEST
     yield "arena-0", one, one, 0
-    yield "arena-17", one, one, 17
-    yield "arena-65552", one, one, 65552
-    yield "first-17", front(null(), 17), one, LARGEST
-    yield "second-17", one, front(null(), 17), LARGEST
-    yield "second-17-zeros-first", zeros, front(null(), 17), LARGEST
+    yield "arena-25", one, one, 25
+    yield "arena-65536", one, one, 65536
+    yield "arena-65544", one, one, 65544
+    yield "first-25", front(null(), 25), one, LARGEST
+    yield "second-25", one, front(null(), 25), LARGEST
+    yield "second-25-zeros-first", zeros, front(null(), 25), LARGEST
+    yield "wrong-lengths-first", bytes_of(arrays(1, 5, 4, 5)), one, LARGEST
 
 
 def known():
     """Names, both types and arena lengths, in the order of crates/trials."""
-    for group in empty_types, unions, contents, fields, key_lists, list_lengths, former_order, totals, malformed, defaults:
+    groups = empty_types, unions, contents, fields, key_lists, list_lengths, former_order, array_lengths, lengths_inside, totals
+    for group in (*groups, malformed, wrong_lengths, defaults):
         yield from pairs(group())
+    yield from plain_types()
     yield from pairs((f"{name}-twice", rows, rows) for name, rows in same_twice())
     for group in arenas, depths, largest:
         yield from pairs(group())
     yield from given_lengths()
 
 
-def report(call, trials, equivalences):
+def report(call, trials, equivalences, layout=WITH_LENGTHS):
     """What a call on two types answers. The 0 before the rows is the number of bytes behind the type that are not zero."""
     for name, first, second, arena in trials:
         for suffix, equivalence in equivalences.items():
             refusal, rows = call(first, second, equivalence, arena)
-            print(f"{name}/{suffix} {refusal} 0 {len(rows)} 0{written(rows)}")
+            print(f"{name}/{suffix} {refusal} 0 {len(rows)} 0{written(rows, layout)}")
 
 
 if __name__ == "__main__":

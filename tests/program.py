@@ -9,10 +9,10 @@ from fractions import Fraction
 from math import floor
 from pathlib import Path
 
-from counting_types import KIND, RECORD, split
+from counting_types import KIND, LARGEST, RECORD, split, total
 from inferences import infer, known, number
-from merges import LARGEST
 from tables import ONE_NULL, array, bytes_of, null, record, with_keys
+from type_records import MOST_BYTES
 
 WORDS = ["", "null", "bool", "num", "str", "rec", "arr", "field"]
 
@@ -47,10 +47,6 @@ def share(count, whole):
     return nearest if count == whole else min(max(nearest, 1), 999)
 
 
-def total(rows):
-    return sum(row.count for row, _ in split(rows))
-
-
 def lines(rows, depth, whole, width):
     """A line for each row of a union or of the fields of a record."""
     for row, inner in split(rows):
@@ -83,7 +79,7 @@ def inputs(sample):
     for name, table, *_ in known():
         yield name, table
     for name, records in near_the_ends():
-        if len(bytes_of(records)) <= LARGEST:
+        if len(bytes_of(records)) <= MOST_BYTES:
             yield name, bytes_of(records)
     for length in 65543, 65545, 200000:
         yield f"nulls-{length}", bytes_of([ONE_NULL] * 25000)[:length]

@@ -1,8 +1,8 @@
 """Trials of call 6, answered without the crates: takes the lines of its section in crates/trials/stdin, and prints the answers of texts.py."""
 import re
-import struct
 from pathlib import Path
 
+from tables import VALUE, records_in
 from texts import LONGEST, read
 
 STDIN = Path(__file__).parent.parent / "crates" / "trials" / "stdin"
@@ -31,7 +31,7 @@ def cut(content, length):
 
 
 def records(table):
-    found = [f"{kind} {key} {span}" for kind, _, key, span in struct.iter_unpack("<BBHI", table)]
+    found = [f"{kind} {key} {span}" for kind, _, key, span in records_in(table)]
     return ": " + "; ".join(found) if found else ""
 
 
@@ -39,4 +39,4 @@ if __name__ == "__main__":
     for name, text, book, length in trials():
         number, place, table = read(text, book, length)
         # Behind the records no byte is left.
-        print(name, number, place, len(table) // 8, f"0{records(table)}")
+        print(name, number, place, len(table) // VALUE.size, f"0{records(table)}")

@@ -1,15 +1,18 @@
-"""Trials of call 7 by document 02, written without the crates: subtracts the maps of merges.py from places to counts, and takes what is
-left only if it is well formed and, merged with the part, gives the whole.
+"""Trials of call 7 by document 02, written without the crates: subtracts the counts of places, and takes what is left only if it is well
+formed and, merged with the part, gives the whole. All types are plain, without lengths of arrays.
 """
 from collections import Counter
 
-from counting_types import EITHER_ORDER, EVERY_KIND, FORMER_ORDER, KNOWN, LIMIT, NINE_BY_KIND, NINE_BY_LABEL, NINE_IN_FORMER_ORDER
-from counting_types import UNKNOWN, Row
+import merges
+from counting_types import DEFAULT, EITHER_ORDER, EVERY_KIND, FORMER_DEFAULT, FORMER_ORDER, FORMER_SAME_KEYS, KNOWN, LIMIT
+from counting_types import MOST_RECORDS, NINE_BY_KIND, NINE_BY_LABEL, NINE_IN_FORMER_ORDER, UNKNOWN
 from counting_types import array, boolean, field, null, number, record, string
-from counting_types import bytes_of, changed, digits, front, lists, nested, rows_in, spelled, wide, with_keys
-from merges import LARGEST, fitted, in_fields, merge, odd_and_even, pairs, places, refusal_of, report, rows_of, scalars
+from counting_types import changed, digits, lists, nested, spelled, wide as wide_of, with_keys
+from merges import ZEROS, Tally, fitted, in_fields, merge, odd_and_even, places, refusal_of, rows_of, scalars
+from type_records import PLAIN, WITH_LENGTHS
 
-ZEROS = [Row(0, 0, 0, 0, 0)]
+LARGEST = PLAIN.largest
+bytes_of, rows_in, front = PLAIN.bytes_of, PLAIN.rows_in, PLAIN.front
 
 # What each of document 01's three messages gives.
 BOTH_KEYS = record(field(1, number()), field(2, array(number(2))))
@@ -17,24 +20,33 @@ NULL_LANE = record(field(1, null()))
 NO_WEIGHTS = record(field(2, array()))
 
 
+def counts_of(data, equivalence):
+    return Counter({place: tally.count for place, tally in places(rows_in(data), equivalence)})
+
+
 def rest_of(whole, part, equivalence):
     """The rows of the type that merged with the part gives the whole, or None. Counts add at each place, so no other rows can."""
-    counts = Counter(dict(places(rows_in(whole), equivalence)))
-    counts.subtract(dict(places(rows_in(part), equivalence)))
-    rows = rows_of(+counts)
-    gives_whole = merge(bytes_of(rows), part, equivalence, LARGEST) == (0, rows_in(whole))
+    counts = counts_of(whole, equivalence)
+    counts.subtract(counts_of(part, equivalence))
+    rows = rows_of({place: Tally(count) for place, count in (+counts).items()})
+    gives_whole = merge(bytes_of(rows), part, equivalence, LARGEST, PLAIN) == (0, rows_in(whole))
     return rows if gives_whole else None
 
 
 def remove(whole, part, equivalence, arena):
     """Refusal number, and the rows of the type that is left, none if it is refused."""
-    refusal = refusal_of(whole, part, equivalence, arena)
+    refusal = refusal_of(whole, part, equivalence, arena, PLAIN)
     if refusal:
         return refusal, []
     rows = rest_of(whole, part, equivalence)
     if rows is None:
         return 16, []
-    return fitted(rows, arena)
+    return fitted(rows, arena, PLAIN)
+
+
+def wide(last_key=None):
+    """A record of as many rows as a type can have."""
+    return wide_of(LARGEST // PLAIN.size, last_key)
 
 
 def times(rows, n):
@@ -294,7 +306,7 @@ def same_slice():
     yield "empty", []
     yield "10^15", null(LIMIT)
     yield "zeros", ZEROS
-    yield "wide", wide(2047)
+    yield "wide", wide()
 
 
 def arenas():
@@ -344,21 +356,21 @@ def depths():
 
 
 def largest():
-    two_wide = changed(wide(2047), 0, count=2)
-    yield "wide-less-all", wide(2047), wide(2047)
-    yield "wide-less-all-arena-0", wide(2047), wide(2047), 0
-    yield "wide-less-empty", wide(2047), []
-    yield "wide-less-empty-arena-65520", wide(2047), [], 65520
-    yield "wide-less-other-wide", wide(2047), wide(2048)
-    yield "wide-left-at-the-end", wide(2047)[:-1] + null(2), wide(2047)
-    yield "wide-left-at-the-end-arena-0", wide(2047)[:-1] + null(2), wide(2047), 0
+    two_wide = changed(wide(), 0, count=2)
+    yield "wide-less-all", wide(), wide()
+    yield "wide-less-all-arena-0", wide(), wide(), 0
+    yield "wide-less-empty", wide(), []
+    yield "wide-less-empty-arena-65520", wide(), [], 65520
+    yield "wide-less-other-wide", wide(), wide(2048)
+    yield "wide-left-at-the-end", wide()[:-1] + null(2), wide()
+    yield "wide-left-at-the-end-arena-0", wide()[:-1] + null(2), wide(), 0
     yield "wide-2-less-record", two_wide, record()
     yield "wide-2-less-record-arena-65520", two_wide, record(), 65520
-    yield "wide-2-less-wide", two_wide, wide(2047)
-    yield "wide-2-less-wide-arena-16", two_wide, wide(2047), 16
-    yield "wide-2-less-wide-arena-0", two_wide, wide(2047), 0
-    yield "record-less-wide", record(count=2), wide(2047)
-    yield "null-less-wide", null(), wide(2047)
+    yield "wide-2-less-wide", two_wide, wide()
+    yield "wide-2-less-wide-arena-16", two_wide, wide(), 16
+    yield "wide-2-less-wide-arena-0", two_wide, wide(), 0
+    yield "record-less-wide", record(count=2), wide()
+    yield "null-less-wide", null(), wide()
 
 
 def interleaved():
@@ -382,22 +394,50 @@ def interleaved():
 
 def given_lengths():
     """Types that are cut, or have zeros behind them."""
-    one, two = front(null(), 16), front(null(2), 16)
+    one, two = bytes_of(null()), bytes_of(null(2))
     for length in 1, 8, 15, 17, 24, 65535, 65537, 65552:
         yield f"whole-{length}", front(null(2), length), one, LARGEST
         yield f"part-{length}", two, front(null(), length), LARGEST
     yield "whole-17-arena-0", front(null(2), 17), one, 0
-    yield "part-17-zeros-whole", bytes(16), front(null(), 17), LARGEST
-    yield "whole-17-zeros-part", front(null(), 17), bytes(16), LARGEST
+    yield "part-17-zeros-whole", bytes_of(ZEROS), front(null(), 17), LARGEST
+    yield "whole-17-zeros-part", front(null(), 17), bytes_of(ZEROS), LARGEST
     yield "part-17-missing", one, front(boolean(), 17), LARGEST
     yield "whole-arena-whole", front(null(), LARGEST), one, LARGEST
     yield "whole-arena-part", one, front(null(), LARGEST), LARGEST
     yield "whole-arena-both", front(null(), LARGEST), front(null(), LARGEST), LARGEST
-    yield "whole-arena-of-nine", front(NINE_BY_KIND, LARGEST), front(NO_WEIGHTS, 48), LARGEST
+    yield "whole-arena-of-nine", front(NINE_BY_KIND, LARGEST), bytes_of(NO_WEIGHTS), LARGEST
+
+
+def defaults():
+    """Types stored by the default call before records had lengths: as it was first, under kind, and as it was then, under label."""
+    yield "former-default-less-one", FORMER_DEFAULT, record(field(1, number()))
+    yield "former-default-less-other", FORMER_DEFAULT, record(field(1, number()), field(2, null()))
+    yield "former-default-same-keys-less-one", FORMER_SAME_KEYS, record(field(1, number()), field(2, string()))
+    yield "default-less-one", DEFAULT, record(field(1, string()))
+    yield "default-less-other", DEFAULT, record(field(1, number()), field(2, null()))
+    yield "default-less-former-default", DEFAULT, FORMER_DEFAULT
+
+
+def with_lengths():
+    """Types with lengths. An allowed length have those with an even number of records."""
+    stored = {
+        "null": null(),
+        "two": null() + boolean(),
+        "three": null() + boolean() + number(),
+        "array": array(null()),
+        "array-of-two": array(null(), boolean()),
+        "nine-by-label": NINE_BY_LABEL,
+        "largest": wide_of(MOST_RECORDS),
+    }
+    for name, rows in stored.items():
+        data = WITH_LENGTHS.bytes_of(rows)
+        yield f"with-lengths-{name}-whole", data, bytes_of(null()), LARGEST
+        yield f"with-lengths-{name}-part", bytes_of(null()), data, LARGEST
+    yield "with-lengths-two-both", WITH_LENGTHS.bytes_of(null() + boolean()), WITH_LENGTHS.bytes_of(null() + boolean()), LARGEST
 
 
 def unknown():
-    one, two, zeros = front(null(), 16), front(null(2), 16), bytes(16)
+    one, two, zeros = bytes_of(null()), bytes_of(null(2)), bytes_of(ZEROS)
     yield "two-less-one", two, one, LARGEST
     yield "one-less-two", one, two, LARGEST
     yield "both-empty", b"", b"", 0
@@ -414,17 +454,22 @@ def unknown():
     yield "part-17-zeros-whole", zeros, front(null(), 17), LARGEST
 
 
+def pairs(trials):
+    return merges.pairs(trials, PLAIN)
+
+
 def known():
     """Names, whole and part, and arena lengths, in the order of crates/trials."""
     groups = nothing_and_all, unions, contents, inner_contents, fields, values, fields_beside_records, key_lists, list_lengths, former_order
-    for group in (*groups, one_list, single_messages, totals, malformed):
+    for group in (*groups, one_list, single_messages, totals, malformed, defaults):
         yield from pairs(group())
     yield from pairs((f"{name}-same", rows, rows) for name, rows in same_slice())
     for group in arenas, depths, largest, interleaved:
         yield from pairs(group())
     yield from given_lengths()
+    yield from with_lengths()
 
 
 if __name__ == "__main__":
-    report(remove, known(), KNOWN)
-    report(remove, unknown(), UNKNOWN)
+    merges.report(remove, known(), KNOWN, PLAIN)
+    merges.report(remove, unknown(), UNKNOWN, PLAIN)

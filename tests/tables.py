@@ -1,6 +1,9 @@
 """Trials of call 1 by documents 01 and 02, written without the crates: builds each table, judges it by recursive descent, prints a line."""
 import struct
 
+from type_records import MOST_BYTES
+
+VALUE = struct.Struct("<BBHI")
 NULL, BOOLEAN, NUMBER, STRING, RECORD, ARRAY = range(1, 7)
 MOST_FIELDS = 256
 LARGEST_KEY = 65535
@@ -12,9 +15,9 @@ class Refused(Exception):
 
 def judge(table, largest=LARGEST_KEY):
     """Refusal number, place and count, where no field has a key above the largest."""
-    if len(table) % 8 or len(table) > 65536:
+    if len(table) % VALUE.size or len(table) > MOST_BYTES:
         return 1, 0, 0
-    records = list(struct.iter_unpack("<BBHI", table))
+    records = records_in(table)
     try:
         return 0, 0, run(records, 0, len(records), 1, False, largest)
     except Refused as refusal:
@@ -46,9 +49,14 @@ def run(records, place, end, depth, fields, largest):
     return count
 
 
+def records_in(table):
+    """Records as kind, byte 1, key and span."""
+    return list(VALUE.iter_unpack(table))
+
+
 def bytes_of(records):
     """A record is kind, key, span, and byte 1 if it is not zero."""
-    return b"".join(struct.pack("<BBHI", r[0], (*r, 0)[3], r[1], r[2]) for r in records)
+    return b"".join(VALUE.pack(r[0], (*r, 0)[3], r[1], r[2]) for r in records)
 
 
 def value(kind, *content, key=0):

@@ -6,38 +6,44 @@ A place is as in merges.py: a tuple of classes and of fields.
 import struct
 import zlib
 
-from counting_types import LABEL
-from inferences import bad_length, counts_of, number, single
-from merges import LARGEST, rows_of, written
+from counting_types import LABEL, LARGEST, room
+from inferences import number, of_length, single, tallies_of
+from merges import fitted, rows_of, written
 from tables import ARRAY, EMPTY_ARRAY, EMPTY_RECORD, EVERY, NINE, NULL, ONE_NULL, RECORD, STRING
 from tables import array, bytes_of, in_arrays, in_fields, judge, many, messages, nested, null, one_field_each, record, with_fields, with_keys
+from type_records import MOST_BYTES, WITH_LENGTHS
 
+ENTRY = struct.Struct("<QQ")
+# The largest length of the entries.
+MOST_ENTRIES = MOST_BYTES // ENTRY.size * ENTRY.size
 MOST_KEYS = 64
 ALL = many(MOST_KEYS, 1, 1)
 
 
-def entries_of(counts):
+def entries_of(tallies):
     """The word and the number of keys of each record among the places, in their order. Key k is bit k - 1 of the word."""
-    records = (place[-1] for place in sorted(counts) if place[-1][0] == RECORD)
+    records = (place[-1] for place in sorted(tallies) if place[-1][0] == RECORD)
     return [(sum(2 ** (key - 1) for key in keys), len(keys)) for _, _, (_, keys) in records]
 
 
 def infer(table, arena, work, entries):
     """Refusal number, place, and the rows and entries of the inferred type, none if it is refused."""
     refusal, place, _ = judge(table, MOST_KEYS)
-    if refusal == 1 or bad_length(arena) or work != arena or bad_length(entries):
+    bad_entries = entries % ENTRY.size or entries > MOST_ENTRIES
+    if refusal == 1 or WITH_LENGTHS.refuses(arena) or work != arena or bad_entries:
         return 1, 0, [], []
     if refusal:
         return refusal, place, [], []
-    counts = counts_of(table, LABEL)
-    rows, of_records = rows_of(counts), entries_of(counts)
-    if 16 * len(rows) > arena or 16 * len(of_records) > entries:
+    tallies = tallies_of(table, LABEL)
+    of_records = entries_of(tallies)
+    number, rows = fitted(rows_of(tallies), arena)
+    if number or ENTRY.size * len(of_records) > entries:
         return 11, 0, [], []
     return 0, 0, rows, of_records
 
 
 def bytes_of_entries(entries):
-    return b"".join(struct.pack("<QQ", *entry) for entry in entries)
+    return b"".join(ENTRY.pack(*entry) for entry in entries)
 
 
 def listed(entries):
@@ -56,10 +62,10 @@ def document():
     yield "nine-records", NINE
     for entries in 0, 16, 32, 48, 64:
         yield f"nine-entries-{entries}", NINE, entries
-    for arena in 0, 112, 176, 192, 208:
+    for arena in map(room, (0, 7, 11, 12, 13)):
         yield f"nine-entries-48-arena-{arena}", NINE, 48, arena
-    yield "nine-entries-32-arena-192", NINE, 32, 192
-    yield "nine-entries-32-arena-176", NINE, 32, 176
+    for arena in map(room, (12, 11)):
+        yield f"nine-entries-32-arena-{arena}", NINE, 32, arena
     yield "one-null", null()
     yield "arrays-32", nested(32, EMPTY_ARRAY)
     yield "arrays-33", nested(33, EMPTY_ARRAY)
@@ -157,7 +163,7 @@ def records_before_and_behind():
     yield "kind-before-65-inside", record([(RECORD, 1, 2, 1)], null(65))
     yield "65-before-room", with_keys(65), 0, 0
     yield "65-before-entries", with_keys(65), 0
-    yield "65-behind-64-without-room", one_field_each(many(65, 1, 1)), 16, 16
+    yield "65-behind-64-without-room", one_field_each(many(65, 1, 1)), 16, room(1)
     yield "kind-before-entries", with_keys(1) + bad_kind, 0
 
 
@@ -209,7 +215,7 @@ def without_fields():
     yield "empty-records-behind", with_keys(1) + array(record())
     yield "every-kind", EVERY
     yield "no-records", null() + number() + array(null(), array()), 0
-    yield "no-records-arena-64", null() + number() + array(null(), array()), 0, 64
+    yield "no-records-arena-96", null() + number() + array(null(), array()), 0, room(4)
 
 
 def nested_records():
@@ -223,21 +229,32 @@ def nested_records():
     yield "lists-of-different-depth", with_keys(1) + record(with_keys(1, key=1)) + record(array(with_keys(1), key=1))
 
 
+def array_lengths():
+    """Lengths of arrays are those of the general call, beside the entries."""
+    yield "array-lengths-201", messages(*map(of_length, (2, 0, 1)))
+    yield "array-lengths-in-field", record(of_length(2, 64)) + record(of_length(5, 64)) + record(array(key=64))
+    yield "array-lengths-in-two-lists", record(of_length(2, 64)) + record(null(1), of_length(5, 64)) + record(of_length(1, 64))
+    yield "array-lengths-of-records", array(with_keys(1), with_keys(64)) + array(with_keys(64)) + array(record(), record(), record())
+    yield "array-lengths-of-arrays", record(array(of_length(3), of_length(1), key=2)) + record(array(array(), key=2))
+    yield "array-lengths-of-equal-messages", 3 * record(of_length(2, 1)) + record(of_length(3, 1)) + record(of_length(2, 1))
+    yield "elements-8191", of_length(8191), 0, room(2)
+
+
 def rooms():
     nested_twice = record(with_keys(1, key=64))
     for entries in 0, 16, 32, 48:
         yield f"nested-entries-{entries}", nested_twice, entries
         yield f"in-array-entries-{entries}", array(record(), with_keys(1)), entries
-    for entries, arena in (16, 80), (32, 64), (16, 64), (32, 80), (65536, 80), (32, 65536):
+    for entries, arena in (16, room(5)), (32, room(4)), (16, room(4)), (32, room(5)), (MOST_ENTRIES, room(5)), (32, LARGEST):
         yield f"nested-entries-{entries}-arena-{arena}", nested_twice, entries, arena
     for entries in 0, 16:
         yield f"fields-64-entries-{entries}", with_keys(*ALL), entries
-    for arena in 2048, 2064, 2080:
+    for arena in map(room, (128, 129, 130)):
         yield f"fields-64-arena-{arena}", with_keys(*ALL), 16, arena
     yield "null-arena-0", null(), 0, 0
-    yield "null-arena-16", null(), 0, 16
-    yield "same-record-thrice", 3 * with_keys(64, 1), 16, 80
-    yield "same-keys-in-other-orders", with_keys(64, 1) + with_keys(1, 64), 16, 80
+    yield "null-arena-24", null(), 0, room(1)
+    yield "same-record-thrice", 3 * with_keys(64, 1), 16, room(5)
+    yield "same-keys-in-other-orders", with_keys(64, 1) + with_keys(1, 64), 16, room(5)
 
 
 def depths():
@@ -259,19 +276,20 @@ def largest():
     yield "records-64", one_field_each(ALL)
     yield "records-64-descending", one_field_each(reversed(ALL))
     for entries in 1008, 1024, 1040:
-        yield f"records-64-entries-{entries}", one_field_each(ALL), entries, 3072
-    yield "records-64-arena-3056", one_field_each(ALL), 1024, 3056
+        yield f"records-64-entries-{entries}", one_field_each(ALL), entries, room(192)
+    yield "records-64-arena-4584", one_field_each(ALL), 1024, room(191)
     yield "records-65", one_field_each(many(65, 1, 1))
     yield "records-4096", one_field_each(many(4096, 1, 1))
     yield "records-74", one_field_each(ALL) + pairs
-    yield "records-74-entries-1184", one_field_each(ALL) + pairs, 1184, 3872
-    yield "records-74-entries-1168", one_field_each(ALL) + pairs, 1168, 3872
+    yield "records-74-entries-1184", one_field_each(ALL) + pairs, 1184, room(242)
+    yield "records-74-entries-1168", one_field_each(ALL) + pairs, 1168, room(242)
 
 
 def lent(trials):
     """Each trial as name, table, and the lengths of the entries and of the arena, the largest where it names none, and working buffer."""
     for name, records, *lengths in trials:
-        entries, arena, *_ = (*lengths, LARGEST, LARGEST)
+        entries = lengths[0] if lengths else MOST_ENTRIES
+        arena = lengths[1] if lengths[1:] else LARGEST
         yield name, bytes_of(records), entries, arena, arena
 
 
@@ -281,28 +299,28 @@ def given_lengths():
         yield f"entries-{entries}", nine, entries, LARGEST, LARGEST
     yield "entries-1-no-records", b"", 1, 0, 0
     yield "entries-65552-no-records", b"", 65552, LARGEST, LARGEST
-    for arena in 1, 8, 15, 17, 65535, 65537, 65552:
+    for arena in 1, 8, 12, 16, 23, 25, 65519, 65521, 65535, 65536, 65537, 65544:
         yield f"arena-{arena}", nine, 48, arena, arena
-    for arena, work in (192, 176), (192, 208), (192, 193), (192, 0), (0, 16), (65536, 65520), (16, 65552):
+    for arena, work in (288, 264), (288, 312), (288, 289), (288, 0), (0, 24), (65520, 65496), (65520, 65536), (24, 65544):
         yield f"arena-{arena}-work-{work}", nine, 48, arena, work
     for length in 1, 7, 9, 71:
-        yield f"table-{length}", nine[:length], LARGEST, LARGEST, LARGEST
+        yield f"table-{length}", nine[:length], MOST_ENTRIES, LARGEST, LARGEST
     for length in 65537, 65544:
-        yield f"table-{length}", bytes_of([ONE_NULL] * 8193)[:length], LARGEST, LARGEST, LARGEST
-    yield "zeros-behind", bytes_of(null()) + bytes(8), LARGEST, LARGEST, LARGEST
+        yield f"table-{length}", bytes_of([ONE_NULL] * 8193)[:length], MOST_ENTRIES, LARGEST, LARGEST
+    yield "zeros-behind", bytes_of(null()) + bytes(8), MOST_ENTRIES, LARGEST, LARGEST
     yield "entries-17-before-65", large, 17, LARGEST, LARGEST
     yield "entries-65552-before-65", large, 65552, LARGEST, LARGEST
-    yield "arena-17-before-65", large, LARGEST, 17, 17
-    yield "work-0-before-65", large, LARGEST, 16, 0
-    yield "table-15-before-65", large[:15], LARGEST, LARGEST, LARGEST
-    yield "entries-8-before-room", nine, 8, 16, 16
+    yield "arena-25-before-65", large, MOST_ENTRIES, 25, 25
+    yield "work-0-before-65", large, MOST_ENTRIES, 24, 0
+    yield "table-15-before-65", large[:15], MOST_ENTRIES, LARGEST, LARGEST
+    yield "entries-8-before-room", nine, 8, 24, 24
     yield "entries-8-before-kind", bytes(8), 8, LARGEST, LARGEST
 
 
 def trials():
     """Names, tables and lengths, in the order of crates/trials."""
     groups = document, keys, elsewhere, in_fields_and_arrays, repeats, one_value_record, field_257, records_before_and_behind
-    for group in (*groups, words, key_lists, list_lengths, without_fields, nested_records, rooms, depths, largest):
+    for group in (*groups, words, key_lists, list_lengths, without_fields, nested_records, array_lengths, rooms, depths, largest):
         yield from lent(group())
     yield from given_lengths()
 

@@ -1,17 +1,17 @@
-"""What sample/ways.rs must print for a log, from the map of places to counts (inferences.py): every way ends in the log's profile, and
-without some messages that is the profile of the others. Folded it is the profile under kind. The entries for the tag bus are those of
-tag_bus.py.
+"""What sample/ways.rs must print for a log, from the map of places to tallies (inferences.py): every way ends in the log's profile. Folded
+it is the profile under kind. Plain and without some messages it is the plain profile of the others. The entries for the tag bus are those
+of tag_bus.py.
 
 Run by tests/run: python3 tests/ways.py sample/log.table sample/log.json
 """
-import struct
 import sys
 from pathlib import Path
 
 import tag_bus
-from counting_types import KIND, LABEL, bytes_of
+from counting_types import KIND, LABEL, LARGEST, room
 from inferences import infer, runs
-from merges import LARGEST
+from tables import VALUE, records_in
+from type_records import PLAIN, WITH_LENGTHS
 
 # The ways, with the most messages of a table.
 WAYS = {
@@ -35,8 +35,8 @@ def digest(data):
     return out
 
 
-def line(name, tables, number, rows, arena):
-    left = 0 if number else digest(bytes_of(rows).ljust(arena, b"\0"))
+def line(name, tables, number, rows, arena, layout=WITH_LENGTHS):
+    left = 0 if number else digest(layout.front(rows, arena))
     return f"{name:<40}{tables:>12}   answer {number:>2}{len(rows):>6} records   {left:016x}"
 
 
@@ -49,8 +49,9 @@ def lines(log, starts, name, equivalence, arena):
         yield line(way, f"{tables} tables", number, rows, arena)
     yield "refused each time" if number else "the same bytes each time"
     if not number:
-        number, _, rows = infer(log[8 * starts[SHIFT] :], equivalence, arena, arena)
-    yield line(f"without the first {SHIFT} messages", "", number, rows, arena)
+        number, _, rows = infer(log[VALUE.size * starts[SHIFT] :], equivalence, arena, arena)
+    plain_arena = PLAIN.room(arena // WITH_LENGTHS.size)
+    yield line(f"without the first {SHIFT} messages", "", number, rows, plain_arena, PLAIN)
     yield ""
 
 
@@ -60,19 +61,19 @@ def folded_line(log):
 
 
 def tag_bus_lines(log):
-    number, _, rows, entries = tag_bus.infer(log, LARGEST, LARGEST, LARGEST)
+    number, _, rows, entries = tag_bus.infer(log, LARGEST, LARGEST, tag_bus.MOST_ENTRIES)
     yield line("for the tag bus", "", number, rows, LARGEST)
-    yield f"{'its entries':<81}{digest(tag_bus.bytes_of_entries(entries).ljust(LARGEST, bytes(1))):016x}"
+    yield f"{'its entries':<81}{digest(tag_bus.bytes_of_entries(entries).ljust(tag_bus.MOST_ENTRIES, bytes(1))):016x}"
 
 
 if __name__ == "__main__":
     path, text = sys.argv[1:]
     log = Path(path).read_bytes()
-    records = list(struct.iter_unpack("<BBHI", log))
+    records = records_in(log)
     starts = list(runs(records, 0, len(records)))
     print(f"{path}: {len(starts)} messages")
     print(f"{text}: {Path(text).stat().st_size} bytes, the same table\n")
-    for name, equivalence, arena in ("Kind", KIND, LARGEST), ("Label", LABEL, LARGEST), ("Label", LABEL, 16 * 64):
+    for name, equivalence, arena in ("Kind", KIND, LARGEST), ("Label", LABEL, LARGEST), ("Label", LABEL, room(64)):
         print("\n".join(lines(log, starts, name, equivalence, arena)))
     print(folded_line(log))
     print("\n".join(tag_bus_lines(log)))

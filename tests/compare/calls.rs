@@ -1,8 +1,11 @@
 //! The calls: what each must answer and leave in the buffers lent to it, by its inputs.
 
 use crate::json;
-use crate::profile::{difference, passes_limit, profile, sum, to_kind, Equivalence, Profile};
-use crate::types;
+use crate::profile::{
+    difference, passes_limit, profile, sum, sum_of_counts, to_kind, Counts, Equivalence, Profile,
+};
+use crate::type_reader;
+use crate::types::{self, BARE};
 use crate::value::{self, is_length, Fault};
 
 /// The largest key on the tag bus.
@@ -168,7 +171,11 @@ fn infer(table: &[u8], number: u64, arena: usize, work: usize) -> Result<Accepte
     }
     let equivalence = equivalence(number)?;
     let messages = value::read(table)?;
-    fit(types::write(&profile(&messages, equivalence)), arena)
+    fit(
+        types::write(&profile(&messages, equivalence)),
+        types::SIZE,
+        arena,
+    )
 }
 
 /// The lengths are those of the arena, of the working buffer and of the entries.
@@ -182,7 +189,7 @@ fn infer_tag_bus(table: &[u8], [arena, work, room]: [usize; 3]) -> Result<Accept
     if entries.len() > room {
         return Err((11, 0));
     }
-    let accepted = fit(types::write(&profile), arena)?;
+    let accepted = fit(types::write(&profile), types::SIZE, arena)?;
     Ok(Accepted {
         entries,
         ..accepted
@@ -193,54 +200,58 @@ fn judge_type(bytes: &[u8], number: u64) -> Result<Accepted, Fault> {
     if !is_length(bytes.len(), types::SIZE) {
         return Err((1, 0));
     }
-    match types::read(bytes, equivalence(number)?) {
+    match type_reader::read(bytes, equivalence(number)?) {
         Some(profile) => Ok(counted(profile.len())),
         None => Err((8, 0)),
     }
 }
 
-/// Two types that a call takes with an arena of this length.
-fn two_types(types: [&[u8]; 2], number: u64, arena: usize) -> Result<[Profile; 2], Fault> {
+/// Whether two types of records of a size, and an arena for a third, have lengths that they may have.
+fn are_lengths(types: [&[u8]; 2], arena: usize, size: usize) -> bool {
     let lengths = [types[0].len(), types[1].len(), arena];
-    if !lengths.into_iter().all(|n| is_length(n, types::SIZE)) {
-        return Err((1, 0));
-    }
-    let equivalence = equivalence(number)?;
-    let first = types::read(types[0], equivalence).ok_or((8, 0))?;
-    let second = types::read(types[1], equivalence).ok_or((9, 0))?;
-    Ok([first, second])
+    lengths.into_iter().all(|n| is_length(n, size))
 }
 
 fn merge(first: &[u8], second: &[u8], number: u64, arena: usize) -> Result<Accepted, Fault> {
-    let [first, second] = two_types([first, second], number, arena)?;
+    if !are_lengths([first, second], arena, types::SIZE) {
+        return Err((1, 0));
+    }
+    let equivalence = equivalence(number)?;
+    let first: Profile = type_reader::read(first, equivalence).ok_or((8, 0))?;
+    let second: Profile = type_reader::read(second, equivalence).ok_or((9, 0))?;
     let merged = sum(&first, &second);
-    if passes_limit(&merged) {
+    if passes_limit(&merged.counts) {
         return Err((10, 0));
     }
-    fit(types::write(&merged), arena)
+    fit(types::write(&merged), types::SIZE, arena)
 }
 
 /// Counts add at each place, so no type but the difference can give the whole. Whether it does is left to judging and merging its bytes.
 fn remove(whole: &[u8], part: &[u8], number: u64, arena: usize) -> Result<Accepted, Fault> {
-    let [all, part] = two_types([whole, part], number, arena)?;
-    let rest = types::write(&difference(&all, &part).ok_or((16, 0))?);
-    let read = types::read(&rest, equivalence(number)?).ok_or((16, 0))?;
-    if types::write(&sum(&read, &part)) != whole {
+    if !are_lengths([whole, part], arena, BARE) {
+        return Err((1, 0));
+    }
+    let equivalence = equivalence(number)?;
+    let all: Counts = type_reader::read_bare(whole, equivalence).ok_or((8, 0))?;
+    let part: Counts = type_reader::read_bare(part, equivalence).ok_or((9, 0))?;
+    let rest = types::write_bare(&difference(&all, &part).ok_or((16, 0))?);
+    let read = type_reader::read_bare(&rest, equivalence).ok_or((16, 0))?;
+    if types::write_bare(&sum_of_counts(&read, &part)) != whole {
         return Err((16, 0));
     }
-    fit(rest, arena)
+    fit(rest, BARE, arena)
 }
 
 fn fold(bytes: &[u8], arena: usize, work: usize) -> Result<Accepted, Fault> {
     if !is_length(bytes.len(), types::SIZE) || !is_length(arena, types::SIZE) || work != arena {
         return Err((1, 0));
     }
-    let by_label = types::read(bytes, Equivalence::Label).ok_or((8, 0))?;
+    let by_label = type_reader::read(bytes, Equivalence::Label).ok_or((8, 0))?;
     let by_kind = to_kind(&by_label);
-    if passes_limit(&by_kind) {
+    if passes_limit(&by_kind.counts) {
         return Err((10, 0));
     }
-    fit(types::write(&by_kind), arena)
+    fit(types::write(&by_kind), types::SIZE, arena)
 }
 
 fn equivalence(number: u64) -> Result<Equivalence, Fault> {
@@ -251,12 +262,13 @@ fn equivalence(number: u64) -> Result<Equivalence, Fault> {
     }
 }
 
-fn fit(bytes: Vec<u8>, arena: usize) -> Result<Accepted, Fault> {
+/// A type of records of a size in an arena.
+fn fit(bytes: Vec<u8>, size: usize, arena: usize) -> Result<Accepted, Fault> {
     if bytes.len() > arena {
         return Err((11, 0));
     }
     Ok(Accepted {
-        count: bytes.len() / types::SIZE,
+        count: bytes.len() / size,
         bytes,
         entries: Vec::new(),
     })

@@ -1,7 +1,12 @@
-//! Random types, as profiles with any counts up to the limit, and sometimes a count that breaks a rule.
+//! Random types, as profiles with any counts up to the limit and any lengths that go with them, or with counts alone, as removal has them.
+//! Sometimes a count breaks a rule.
 
+use crate::lengths::{Lengths, MOST_ELEMENTS};
 use crate::messages::{messages, Shape};
-use crate::profile::{class, profile, sum, Equivalence, Place, Profile, Step, LIMIT};
+use crate::profile::{
+    class, elements, is_array, profile, sum, sum_of_counts, totals, Counts, Equivalence, Place,
+    Profile, Step, LIMIT,
+};
 use crate::random::Random;
 use crate::value::{ARRAY, RECORD, STRING};
 use std::collections::BTreeMap;
@@ -9,23 +14,61 @@ use std::collections::BTreeMap;
 /// A type of messages, one with any counts, or the merged type of both.
 pub fn counted(shape: &Shape, equivalence: Equivalence, random: &mut Random) -> Profile {
     let of_messages = profile(&messages(shape, random), equivalence);
+    if random.one_in(3) {
+        return of_messages;
+    }
+    let counts = any_counts(shape, equivalence, MOST_ELEMENTS, random);
+    let made = with_lengths(counts, random);
+    if random.one_in(3) {
+        return sum(&of_messages, &made);
+    }
+    made
+}
+
+/// The same for removal, whose types say nothing of the lengths of arrays: one array may have as many elements as a union.
+pub fn bare_counted(shape: &Shape, equivalence: Equivalence, random: &mut Random) -> Counts {
+    let of_messages = profile(&messages(shape, random), equivalence).counts;
+    if random.one_in(3) {
+        return of_messages;
+    }
+    let made = any_counts(shape, equivalence, LIMIT, random);
+    if random.one_in(3) {
+        return sum_of_counts(&of_messages, &made);
+    }
+    made
+}
+
+/// Counts of arrays and their contents say which lengths there may be.
+pub fn with_lengths(counts: Counts, random: &mut Random) -> Profile {
+    let totals = totals(&counts);
+    let arrays = counts.iter().filter(|(place, _)| is_array(place));
+    let mut drawn = |(place, count): (&Place, &u64)| {
+        let elements = u64::try_from(elements(&totals, place)).unwrap_or(u64::MAX);
+        (place.clone(), Lengths::drawn(*count, elements, random))
+    };
+    let lengths = arrays.map(&mut drawn).collect();
+    Profile { counts, lengths }
+}
+
+/// `most_elements` is what one array may have at most.
+fn any_counts(
+    shape: &Shape,
+    equivalence: Equivalence,
+    most_elements: u64,
+    random: &mut Random,
+) -> Counts {
     let mut maker = Maker {
         shape,
         equivalence,
+        most_elements,
         slips: random.one_in(8),
         left: shape.records,
-        counts: Profile::new(),
+        counts: Counts::new(),
         random,
     };
-    if maker.random.one_in(3) {
-        return of_messages;
-    }
     if maker.left > 0 {
-        let total = maker.total();
+        let total = maker.total(LIMIT);
         maker.union(total, &mut Place::new(), 1);
-    }
-    if maker.random.one_in(3) {
-        return sum(&of_messages, &maker.counts);
     }
     maker.counts
 }
@@ -33,9 +76,10 @@ pub fn counted(shape: &Shape, equivalence: Equivalence, random: &mut Random) -> 
 struct Maker<'a> {
     shape: &'a Shape,
     equivalence: Equivalence,
+    most_elements: u64,
     slips: bool,
     left: usize,
-    counts: Profile,
+    counts: Counts,
     random: &'a mut Random,
 }
 
@@ -44,16 +88,16 @@ impl Maker<'_> {
         self.slips && self.random.one_in(4)
     }
 
-    /// A total of a union that no field sets.
-    fn total(&mut self) -> u64 {
+    /// A total of a union that no field sets, up to what it may be.
+    fn total(&mut self, most: u64) -> u64 {
         if self.slip() {
-            return self.random.pick(&[0, LIMIT + 1, 1 << 63]);
+            return self.random.pick(&[0, most + 1, LIMIT + 1, 1 << 63]);
         }
         match self.random.below(4) {
-            0 => self.random.up_to(6),
-            1 => self.random.up_to(LIMIT),
-            2 => LIMIT - self.random.up_to(9),
-            _ => self.random.pick(&[LIMIT / 2, LIMIT - 1, LIMIT]),
+            0 => self.random.up_to(6).min(most),
+            1 => self.random.up_to(most),
+            2 => most.saturating_sub(self.random.up_to(9)).max(1),
+            _ => self.random.pick(&[most / 2, most - 1, most]).max(1),
         }
     }
 
@@ -120,7 +164,8 @@ impl Maker<'_> {
             place.pop();
         }
         if kind == ARRAY && depth < self.shape.deepest && self.left > 0 {
-            let total = self.total();
+            let most = count.saturating_mul(self.most_elements).clamp(1, LIMIT);
+            let total = self.total(most);
             place.push(Step::Element);
             self.union(total, place, depth + 1);
             place.pop();

@@ -1,6 +1,8 @@
 //! Random types under label that pass the limit when they are folded, or nearly do: records with different keys have arrays at one key.
 
-use crate::profile::{class, Equivalence, Place, Profile, Step};
+use crate::counted::with_lengths;
+use crate::lengths::MOST_ELEMENTS;
+use crate::profile::{class, Counts, Equivalence, Place, Profile, Step};
 use crate::random::Random;
 use crate::value::{ARRAY, RECORD, STRING};
 
@@ -13,18 +15,20 @@ const OTHERS: [u16; 4] = [1, 2, 256, 65_535];
 /// A type in which those arrays have so many elements in all.
 pub fn crowded(elements: u64, random: &mut Random) -> Profile {
     let lists = lists(random);
-    let counts: Vec<u64> = lists.iter().map(|_| random.up_to(3)).collect();
     let elements = shares(elements, lists.len(), random);
+    // With a null beside them there are still enough arrays for their elements.
+    let records = |elements: &u64| elements.div_ceil(MOST_ELEMENTS) + random.up_to(3);
+    let records: Vec<u64> = elements.iter().map(records).collect();
     let mut maker = Maker {
-        counts: Profile::new(),
+        counts: Counts::new(),
         place: Place::new(),
         random,
     };
-    maker.around(counts.iter().sum());
-    for ((keys, count), elements) in lists.iter().zip(counts).zip(elements) {
+    maker.around(records.iter().sum());
+    for ((keys, count), elements) in lists.iter().zip(records).zip(elements) {
         maker.record(keys, count, elements);
     }
-    maker.counts
+    with_lengths(maker.counts, random)
 }
 
 /// Two to five ascending key lists with the shared key.
@@ -62,7 +66,7 @@ fn by_label(kind: u8, keys: &[u16]) -> Step {
 }
 
 struct Maker<'a> {
-    counts: Profile,
+    counts: Counts,
     place: Place,
     random: &'a mut Random,
 }

@@ -1,8 +1,10 @@
-//! Damages the bytes of tables and types, which have kind, zero, key and span in one layout.
+//! Damages the bytes of tables and types, which have kind, zero, key and span in one layout, and types their count too.
 
+use crate::lengths::MOST_ELEMENTS;
 use crate::profile::LIMIT;
 use crate::random::Random;
 use crate::types;
+use crate::value::{self, ARRAY};
 
 /// Bytes of records of this size, with one to three changes.
 pub fn damaged(bytes: &[u8], size: usize, random: &mut Random) -> Vec<u8> {
@@ -21,7 +23,7 @@ fn damage(bytes: &mut Vec<u8>, size: usize, random: &mut Random) {
         return;
     }
     let at = size * random.below(records);
-    match random.below(10) {
+    match random.below(12) {
         0 => bytes.truncate(random.pick(&[at, at + size / 2, at + size - 1])),
         1 => bytes.resize(bytes.len() + random.pick(&[1, size, 3 * size]), 0),
         2 => bytes[at] = random.below(9) as u8,
@@ -31,9 +33,44 @@ fn damage(bytes: &mut Vec<u8>, size: usize, random: &mut Random) {
         6 => change_span(bytes, at, random),
         7 => swap_siblings(bytes, at, size),
         8 => repeat_or_drop(bytes, at, size, random),
-        _ if size == types::SIZE => change_count(bytes, at, random),
+        9 if size > value::SIZE => change_count(bytes, at, random),
+        10 if size == types::SIZE => change_lengths(bytes, at, random),
+        11 if size == types::SIZE => {
+            let at = some_array(bytes, random).unwrap_or(at);
+            change_lengths(bytes, at, random);
+        }
         _ => change_key(bytes, at, size, random),
     }
+}
+
+/// Where a record of an array stands in a type, if it has any.
+fn some_array(bytes: &[u8], random: &mut Random) -> Option<usize> {
+    let starts = (0..bytes.len() / types::SIZE).map(|record| types::SIZE * record);
+    let arrays: Vec<usize> = starts.filter(|at| bytes[*at] == ARRAY).collect();
+    (!arrays.is_empty()).then(|| random.pick(&arrays))
+}
+
+/// Changes one length by one or to a number at a border, swaps the two, or makes them equal.
+fn change_lengths(bytes: &mut [u8], at: usize, random: &mut Random) {
+    let [mut one, other] = [at + 16, at + 20];
+    match random.below(6) {
+        0 => return bytes[one..other + 4].rotate_left(4),
+        1 => return bytes.copy_within(one..other, other),
+        turn if turn % 2 == 0 => one = other,
+        _ => {}
+    }
+    let length = u32::from_le_bytes(bytes[one..one + 4].try_into().unwrap());
+    let most = MOST_ELEMENTS as u32;
+    let choices = [
+        length.wrapping_add(1),
+        length.wrapping_sub(1),
+        length.wrapping_add(1 << (8 * random.below(4))),
+        0,
+        most,
+        most + 1,
+        u32::MAX,
+    ];
+    bytes[one..one + 4].copy_from_slice(&random.pick(&choices).to_le_bytes());
 }
 
 /// Clears the key, or takes one from the record before or behind.

@@ -9,12 +9,11 @@ use crate::damage::damaged;
 use crate::messages::Shape;
 use crate::profile::{profile, sum, to_kind, Equivalence, Profile, LIMIT};
 use crate::random::Random;
-use crate::removals::given;
-use crate::single::{arena_length, work_length, EQUIVALENCES};
+use crate::single::{arena_length, work_length, ABOVE, EQUIVALENCES};
 use crate::tally::{FOLDED, FOLDED_MERGES, FOLD_FULL};
-use crate::types;
-use crate::value::{self, is_length, LONGEST};
-use crate::ways;
+use crate::types::{self, LARGEST};
+use crate::value::{self, is_length};
+use crate::{type_reader, ways};
 
 /// Folds a type into an arena, with a working buffer. What comes of it has no more records, and call 4 accepts it under kind.
 pub fn fold(case: &mut Case, bytes: &[u8], [arena, work]: [usize; 2]) -> Outcome {
@@ -45,7 +44,7 @@ pub fn table(case: &mut Case) {
     let records = profile(&log, Equivalence::Kind).len();
     let arena = arena_length(records, &mut case.random);
     let work = work_length(arena, &mut case.random);
-    of_table(case, &value::write(&log), LONGEST, [arena, work]);
+    of_table(case, &value::write(&log), LARGEST, [arena, work]);
 }
 
 /// Folds a table's type under label, which is inferred with so much room. With the same buffers that is what inference under kind does.
@@ -79,12 +78,12 @@ pub fn merges(case: &mut Case) {
     let records = to_kind(&sum(&first, &second)).len();
     let arena = ways::arena_length(records, &mut case.random);
     let [first, second] = [first, second].map(|profile| types::write(&profile));
-    let merged = merge(case, [&first, &second], Equivalence::Label, LONGEST);
+    let merged = merge(case, [&first, &second], Equivalence::Label, LARGEST);
     if merged.number != 0 {
         return;
     }
     let end = fold(case, in_use(&merged), [arena; 2]);
-    let parts = [first, second].map(|bytes| fold(case, &bytes, [LONGEST; 2]));
+    let parts = [first, second].map(|bytes| fold(case, &bytes, [LARGEST; 2]));
     let same = if parts.iter().all(|part| part.number == 0) {
         let parts = [in_use(&parts[0]), in_use(&parts[1])];
         let other = merge(case, parts, Equivalence::Kind, arena);
@@ -133,7 +132,7 @@ fn records_folded(bytes: &[u8]) -> Option<usize> {
     if !is_length(bytes.len(), types::SIZE) {
         return None;
     }
-    Some(to_kind(&types::read(bytes, Equivalence::Label)?).len())
+    Some(to_kind(&type_reader::read(bytes, Equivalence::Label)?).len())
 }
 
 /// A type with or without a fault, some of them well formed under kind only.
@@ -146,8 +145,10 @@ pub fn one_type(case: &mut Case) {
         }
         _ => crowded(about(LIMIT, random), random),
     };
-    let mut bytes = given(&profile, random);
-    if random.one_in(6) {
+    let mut bytes = types::write(&profile);
+    if random.one_in(100) {
+        bytes.resize(LARGEST + random.pick(&ABOVE), 0);
+    } else if random.one_in(5) {
         bytes = damaged(&bytes, types::SIZE, random);
     }
     let records = records_folded(&bytes).unwrap_or(profile.len());

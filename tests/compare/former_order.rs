@@ -8,16 +8,19 @@ use crate::crowded::crowded;
 use crate::messages::Shape;
 use crate::profile::{profile, sum, Equivalence, Profile};
 use crate::random::Random;
+use crate::removals;
 use crate::tally::{FORMER_FOLDED, FORMER_JUDGED, FORMER_MERGED, FORMER_REMOVED};
-use crate::types::{self, SIZE};
-use crate::value::{LONGEST, RECORD};
-use crate::ways::{arena_length, log};
+use crate::type_reader;
+use crate::types::{self, BARE, LARGEST, SIZE};
+use crate::value::RECORD;
+use crate::ways::{allowed_length, log};
 use std::ops::Range;
 
 const LABEL: u64 = Equivalence::Label as u64;
 
-/// The bytes of a type, and the bytes in which it may have been stored.
+/// The bytes of a type with records of a size, and the bytes in which it may have been stored.
 struct Stored {
+    size: usize,
     ordered: Vec<u8>,
     former: Vec<u8>,
 }
@@ -25,8 +28,27 @@ struct Stored {
 impl Stored {
     fn new(profile: &Profile, rewrite: Rewrite, random: &mut Random) -> Stored {
         let ordered = types::write(profile);
-        let former = rewrite(&ordered, random);
-        Stored { ordered, former }
+        let former = rewrite(&ordered, SIZE, random);
+        Stored {
+            size: SIZE,
+            ordered,
+            former,
+        }
+    }
+
+    /// The same for removal.
+    fn bare(profile: &Profile, rewrite: Rewrite, random: &mut Random) -> Stored {
+        let ordered = types::write_bare(&profile.counts);
+        let former = rewrite(&ordered, BARE, random);
+        Stored {
+            size: BARE,
+            ordered,
+            former,
+        }
+    }
+
+    fn records(&self) -> usize {
+        self.ordered.len() / self.size
     }
 
     fn orders_agree(&self) -> bool {
@@ -34,26 +56,28 @@ impl Stored {
     }
 }
 
-type Rewrite = fn(&[u8], &mut Random) -> Vec<u8>;
+type Rewrite = fn(&[u8], usize, &mut Random) -> Vec<u8>;
 
 /// Only type, first, second and both, with every union in the former order and with one.
 pub fn stored(case: &mut Case) {
     let [one, other] = [(); 2].map(|()| some_type(&mut case.random));
     let whole = sum(&one, &other);
     for rewrite in [every_union as Rewrite, one_union] {
-        let [one, other, whole] =
-            [&one, &other, &whole].map(|profile| Stored::new(profile, rewrite, &mut case.random));
-        judge(case, &one);
-        fold(case, &one);
-        first_and_second(case, FORMER_MERGED, [&one, &other], merge);
-        if is_type(&whole.ordered) {
-            first_and_second(case, FORMER_REMOVED, [&whole, &other], remove);
+        let [first, second] =
+            [&one, &other].map(|profile| Stored::new(profile, rewrite, &mut case.random));
+        judge(case, &first);
+        fold(case, &first);
+        first_and_second(case, FORMER_MERGED, [&first, &second], merge);
+        let [whole, part] =
+            [&whole, &other].map(|profile| Stored::bare(profile, rewrite, &mut case.random));
+        if removals::is_type(&whole.ordered, Equivalence::Label) {
+            first_and_second(case, FORMER_REMOVED, [&whole, &part], remove);
         }
     }
 }
 
 fn is_type(bytes: &[u8]) -> bool {
-    bytes.len() <= LONGEST && types::read(bytes, Equivalence::Label).is_some()
+    bytes.len() <= LARGEST && type_reader::read(bytes, Equivalence::Label).is_some()
 }
 
 /// A well-formed type. Many have unions with several key lists.
@@ -79,7 +103,7 @@ fn judge(case: &mut Case, stored: &Stored) {
 }
 
 fn fold(case: &mut Case, stored: &Stored) {
-    let arena = arena_length(stored.former.len() / SIZE, &mut case.random);
+    let arena = allowed_length(stored.records(), stored.size, &mut case.random);
     let answer = case.call(Call::Fold {
         bytes: &stored.former,
         arena,
@@ -119,8 +143,8 @@ fn first_and_second(
         ([&first.ordered, &second.former], refused[1]),
         ([&first.former, &second.former], refused[0].or(refused[1])),
     ] {
-        let records = (first.ordered.len() + second.ordered.len()) / SIZE;
-        let arena = arena_length(records, &mut case.random);
+        let records = first.records() + second.records();
+        let arena = allowed_length(records, first.size, &mut case.random);
         let answer = case.call(call([types[0], types[1]], arena));
         settle(case, row, answer.number, refused);
     }
@@ -143,57 +167,57 @@ fn settle(case: &mut Case, row: usize, number: u64, refused: Option<u64>) {
     case.tally.add(row, number);
 }
 
-fn every_union(bytes: &[u8], _: &mut Random) -> Vec<u8> {
+fn every_union(bytes: &[u8], size: usize, _: &mut Random) -> Vec<u8> {
     let mut former = bytes.to_vec();
-    for run in runs(bytes) {
-        let reordered = reordered(&former, &run);
+    for run in runs(bytes, size) {
+        let reordered = reordered(&former, &run, size);
         former[run].copy_from_slice(&reordered);
     }
     former
 }
 
 /// Any one of the unions that this changes, if there is one.
-fn one_union(bytes: &[u8], random: &mut Random) -> Vec<u8> {
-    let mut changed = runs(bytes);
-    changed.retain(|run| reordered(bytes, run) != bytes[run.clone()]);
+fn one_union(bytes: &[u8], size: usize, random: &mut Random) -> Vec<u8> {
+    let mut changed = runs(bytes, size);
+    changed.retain(|run| reordered(bytes, run, size) != bytes[run.clone()]);
     let mut former = bytes.to_vec();
     if !changed.is_empty() {
         let run = random.pick(&changed);
-        former[run.clone()].copy_from_slice(&reordered(bytes, &run));
+        former[run.clone()].copy_from_slice(&reordered(bytes, &run, size));
     }
     former
 }
 
 /// The unions of a type and the fields of its records, each behind those inside it.
-fn runs(bytes: &[u8]) -> Vec<Range<usize>> {
+fn runs(bytes: &[u8], size: usize) -> Vec<Range<usize>> {
     let mut runs = Vec::new();
-    add_runs(bytes, 0..bytes.len(), &mut runs);
+    add_runs(bytes, 0..bytes.len(), size, &mut runs);
     runs
 }
 
-fn add_runs(bytes: &[u8], run: Range<usize>, runs: &mut Vec<Range<usize>>) {
-    for item in items(bytes, run.clone()) {
-        add_runs(bytes, item.start + SIZE..item.end, runs);
+fn add_runs(bytes: &[u8], run: Range<usize>, size: usize, runs: &mut Vec<Range<usize>>) {
+    for item in items(bytes, run.clone(), size) {
+        add_runs(bytes, item.start + size..item.end, size, runs);
     }
     runs.push(run);
 }
 
 /// The addends or the fields of a run.
-fn items(bytes: &[u8], run: Range<usize>) -> Vec<Range<usize>> {
+fn items(bytes: &[u8], run: Range<usize>, size: usize) -> Vec<Range<usize>> {
     let mut items = Vec::new();
     let mut start = run.start;
     while start < run.end {
         let span = u32::from_le_bytes(bytes[start + 4..start + 8].try_into().unwrap());
-        let end = start + SIZE * span as usize;
+        let end = start + size * span as usize;
         items.push(start..end);
         start = end;
     }
     items
 }
 
-fn reordered(bytes: &[u8], run: &Range<usize>) -> Vec<u8> {
-    let mut items = items(bytes, run.clone());
-    items.sort_by_key(|item| label(bytes, item));
+fn reordered(bytes: &[u8], run: &Range<usize>, size: usize) -> Vec<u8> {
+    let mut items = items(bytes, run.clone(), size);
+    items.sort_by_key(|item| label(bytes, item, size));
     items
         .into_iter()
         .flat_map(|item| bytes[item].to_vec())
@@ -201,11 +225,11 @@ fn reordered(bytes: &[u8], run: &Range<usize>) -> Vec<u8> {
 }
 
 /// The kind of an addend with its key list, or of a field with its key. Lists of keys are compared in the former order.
-fn label(bytes: &[u8], item: &Range<usize>) -> (u8, Vec<u16>) {
+fn label(bytes: &[u8], item: &Range<usize>, size: usize) -> (u8, Vec<u16>) {
     let key = |at: usize| u16::from_le_bytes([bytes[at + 2], bytes[at + 3]]);
     let kind = bytes[item.start];
     let keys = match kind {
-        RECORD => items(bytes, item.start + SIZE..item.end)
+        RECORD => items(bytes, item.start + size..item.end, size)
             .iter()
             .map(|field| key(field.start))
             .collect(),

@@ -4,6 +4,7 @@
 use crate::books;
 use crate::calls::Call;
 use crate::case::Case;
+use crate::types;
 use crate::value::{self, Value, ARRAY, DEEPEST, LONGEST, MOST_FIELDS, RECORD, SIZE};
 
 const NULL: u8 = 1;
@@ -127,7 +128,7 @@ fn filled(case: &mut Case, fields: usize) {
 /// With room for every type, and with none: a fault comes before that.
 fn judge_and_infer(case: &mut Case, table: &[u8]) {
     case.call(Call::JudgeTable { table });
-    for arena in [0, LONGEST] {
+    for arena in [0, types::LARGEST] {
         for equivalence in [0, 1] {
             case.call(Call::Infer {
                 table,

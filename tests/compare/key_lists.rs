@@ -6,8 +6,8 @@ use crate::case::Case;
 use crate::profile::{profile, Equivalence};
 use crate::small_tables::with_nulls;
 use crate::tag_bus;
-use crate::types::{self, ENTRY, SIZE};
-use crate::value::{self, LONGEST, MOST_FIELDS};
+use crate::types::{self, bared, BARE, ENTRY, LARGEST, SIZE};
+use crate::value::{self, MOST_FIELDS};
 
 const LABEL: u64 = Equivalence::Label as u64;
 
@@ -123,7 +123,7 @@ fn infer(case: &mut Case, lists: &[&List], sorted: Option<&[u8]>) {
     tag_bus::infer(case, &table, ROOM);
 }
 
-/// Merges two types in either order, and takes each out again.
+/// Merges two types in either order, and takes each out again, in types without lengths.
 fn merge_and_remove(case: &mut Case, types: [&[u8]; 2], sorted: Option<&[u8]>) {
     let [one, other] = types;
     for [first, second] in [[one, other], [other, one]] {
@@ -136,12 +136,12 @@ fn merge_and_remove(case: &mut Case, types: [&[u8]; 2], sorted: Option<&[u8]>) {
         });
         settle(case, &merged, sorted);
         let rest = case.call(Call::Remove {
-            whole: &merged.arena[..SIZE * merged.count as usize],
-            part: second,
+            whole: &bared(&merged.arena[..SIZE * merged.count as usize]),
+            part: &bared(second),
             equivalence: LABEL,
-            arena,
+            arena: BARE * merged.count as usize,
         });
-        settle(case, &rest, Some(first));
+        settle(case, &rest, Some(&bared(first)));
     }
 }
 
@@ -167,8 +167,8 @@ fn infer_long(case: &mut Case, lists: &[List; 2], sorted: Option<&[u8]>) {
     let messages = lists.each_ref().map(|list| with_nulls(list.clone()));
     let inferred = case.call(Call::InferDefault {
         table: &value::write(&messages),
-        arena: LONGEST,
-        work: LONGEST,
+        arena: LARGEST,
+        work: LARGEST,
     });
     settle(case, &inferred, sorted);
 }

@@ -3,6 +3,7 @@
 //!
 //! Arguments: the number of cases, the seed, and the first case's number (to see one case again).
 
+mod arrays;
 mod book;
 mod books;
 mod calls;
@@ -16,14 +17,18 @@ mod former_order;
 mod full_records;
 mod json;
 mod key_lists;
+mod lengths;
 mod library;
+mod long_arrays;
 mod messages;
+mod other_sizes;
 mod parts;
 mod profile;
 mod random;
 mod removals;
 mod runs;
 mod single;
+mod small_arrays;
 mod small_tables;
 mod small_types;
 mod tag_bus;
@@ -31,6 +36,7 @@ mod tally;
 mod text_damage;
 mod texts;
 mod tokens;
+mod type_reader;
 mod types;
 mod value;
 mod ways;
@@ -64,25 +70,29 @@ fn main() {
     full_records::compare(&mut case);
     extremes::compare(&mut case);
     key_lists::compare(&mut case);
+    small_arrays::compare(&mut case);
+    long_arrays::compare(&mut case);
     small_types::compare(&mut case);
     small_tables::compare(&mut case);
     println!("{} calls tried once each: no difference", once.calls());
 }
 
 fn run(case: &mut Case) {
-    match case.random.below(22) {
+    match case.random.below(24) {
         0..=2 => single::table(case),
         3..=4 => single::one_type(case),
         5..=7 => single::two_types(case),
         8 => ways::ways(case),
         9 => ways::merges(case),
-        10 => ways::former_defaults(case),
+        10 => ways::made_by_kind(case),
         11 => removals::apart(case),
         12..=13 => tag_bus::table(case),
         14 => folds::table(case),
         15 => folds::merges(case),
         16..=17 => folds::one_type(case),
         18 => former_order::stored(case),
+        19 => removals::former_defaults(case),
+        20 => other_sizes::types(case),
         _ => removals::whole_and_part(case),
     }
     if case.index % 2 == 0 {

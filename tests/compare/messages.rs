@@ -1,5 +1,6 @@
 //! Random messages, as trees of values.
 
+use crate::arrays::with_arrays;
 use crate::random::Random;
 use crate::value::{write, Value, ARRAY, DEEPEST, MOST_FIELDS, RECORD, SIZE, STRING};
 
@@ -54,12 +55,12 @@ fn small_keys(random: &mut Random) -> Vec<u16> {
 
 /// Keys for `wide`, and few records beside its messages.
 fn wide_keys(random: &mut Random) -> (Vec<u16>, usize, usize) {
-    let fields = random.pick(&[600, 2_044, 2_047, 2_047, 2_048, 8_160]);
+    let fields = random.pick(&[600, 1_362, 1_364, 1_364, 1_365, 8_160]);
     ((1..=fields).collect(), 4, random.below(4))
 }
 
-/// Every key once, in records with as many fields as one may have, or in one record. By kind 2,047 keys give a type of 4,095 records,
-/// one less than the longest; by label 2,044 keys in eight records give the longest. 8,160 keys in records fill a table.
+/// Every key once, in records with as many fields as one may have, or in one record. By kind 1,364 keys give a type of 2,729 records,
+/// one less than the longest; by label 1,362 keys in six records give the longest. 8,160 keys in records fill a table.
 fn wide(shape: &Shape, random: &mut Random) -> Vec<Value> {
     let mut keys = shape.keys.clone();
     random.shuffle(&mut keys);
@@ -123,6 +124,9 @@ pub fn messages(shape: &Shape, random: &mut Random) -> Vec<Value> {
         messages.extend(wide(shape, random));
     }
     random.shuffle(&mut messages);
+    if shape.deepest > 1 && random.one_in(3) {
+        messages.extend(with_arrays(&shape.keys, random));
+    }
     messages
 }
 
@@ -146,14 +150,16 @@ fn value(key: u16, depth: usize, shape: &Shape, left: &mut usize, random: &mut R
         keys.clear();
     }
     keys.truncate(*left);
-    let inner = keys.into_iter();
-    Value {
-        kind,
-        key,
-        inner: inner
-            .map(|key| value(key, depth + 1, shape, left, random))
-            .collect(),
+    let repeats = kind == ARRAY && random.one_in(4);
+    let mut inner: Vec<Value> = Vec::new();
+    for key in keys {
+        let next = match inner.last() {
+            Some(last) if repeats => last.clone(),
+            _ => value(key, depth + 1, shape, left, random),
+        };
+        inner.push(next);
     }
+    Value { kind, key, inner }
 }
 
 /// A message of this depth, with a value inside a value and now and then another beside it.
@@ -186,7 +192,7 @@ fn around(mut value: Value, depth: usize, shape: &Shape, random: &mut Random) ->
 }
 
 /// A value with nothing inside it.
-fn leaf(key: u16, random: &mut Random) -> Value {
+pub fn leaf(key: u16, random: &mut Random) -> Value {
     Value {
         kind: random.pick(&[1, 2, 3, STRING, RECORD, ARRAY]),
         key,

@@ -1,21 +1,20 @@
-//! Random parts of a type: types that count no place higher, and types that differ a little from another.
+//! Random parts of a type for removal: types that count no place higher, and types that differ a little from another.
 
-use crate::profile::{Equivalence, Place, Profile, Step};
+use crate::profile::{is_array, Counts, Equivalence, Place, Step};
 use crate::random::Random;
-use crate::types;
-use crate::value::ARRAY;
+use crate::{type_reader, types};
 use std::ops::Bound::{Included, Unbounded};
 
 /// How often a change is sought that leaves a type well formed.
 const TRIES: usize = 9;
 
 /// A well-formed type with places of a well-formed one, none counted higher there.
-pub fn lessened(whole: &Profile, equivalence: Equivalence, random: &mut Random) -> Profile {
+pub fn lessened(whole: &Counts, equivalence: Equivalence, random: &mut Random) -> Counts {
     let mut lesser = Lesser {
         whole,
         equivalence,
         leaves_none: random.one_in(2),
-        part: Profile::new(),
+        part: Counts::new(),
         random,
     };
     for (place, most) in lesser.next(&[]) {
@@ -26,11 +25,11 @@ pub fn lessened(whole: &Profile, equivalence: Equivalence, random: &mut Random) 
 }
 
 struct Lesser<'a> {
-    whole: &'a Profile,
+    whole: &'a Counts,
     equivalence: Equivalence,
     /// Whether it takes all that is inside an addend of which it takes all.
     leaves_none: bool,
-    part: Profile,
+    part: Counts,
     random: &'a mut Random,
 }
 
@@ -76,7 +75,7 @@ impl Lesser<'_> {
             };
             self.field(field, total);
         }
-        if matches!(place.last(), Some(Step::Class(ARRAY, _))) {
+        if is_array(&place) {
             place.push(Step::Element);
             for (element, most) in self.next(&place) {
                 let count = self.between(0, most);
@@ -104,27 +103,27 @@ impl Lesser<'_> {
 }
 
 /// A well-formed type with a count one higher or lower than another, or without something in it; the same if none was found.
-pub fn nudged(profile: &Profile, equivalence: Equivalence, random: &mut Random) -> Profile {
-    if profile.is_empty() {
-        return profile.clone();
+pub fn nudged(counts: &Counts, equivalence: Equivalence, random: &mut Random) -> Counts {
+    if counts.is_empty() {
+        return counts.clone();
     }
     for _ in 0..TRIES {
-        let bytes = types::write(&nudge(profile, random));
-        if let Some(found) = types::read(&bytes, equivalence) {
+        let bytes = types::write_bare(&nudge(counts, random));
+        if let Some(found) = type_reader::read_bare(&bytes, equivalence) {
             return found;
         }
     }
-    profile.clone()
+    counts.clone()
 }
 
 /// Changes a place, and the count of the field that it is a value of.
-fn nudge(profile: &Profile, random: &mut Random) -> Profile {
-    let mut nudged = profile.clone();
-    let places: Vec<&Place> = profile.keys().collect();
+fn nudge(counts: &Counts, random: &mut Random) -> Counts {
+    let mut nudged = counts.clone();
+    let places: Vec<&Place> = counts.keys().collect();
     let place = random.pick(&places);
     let count = match random.below(3) {
-        0 => profile[place] + 1,
-        1 => profile[place] - 1,
+        0 => counts[place] + 1,
+        1 => counts[place] - 1,
         _ => 0,
     };
     if count == 0 {
@@ -135,7 +134,7 @@ fn nudge(profile: &Profile, random: &mut Random) -> Profile {
     let (last, around) = place.split_last().expect("no place is empty");
     let in_field = matches!((last, around.last()), (Step::Class(..), Some(Step::Key(_))));
     if in_field {
-        let of_field = profile[around] - profile[place] + count;
+        let of_field = counts[around] - counts[place] + count;
         nudged.insert(around.to_vec(), of_field);
         nudged.retain(|_, count| *count > 0);
     }

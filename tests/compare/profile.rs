@@ -1,6 +1,7 @@
-//! Profiles as maps from places to counts. The order of places is the order of a type's records.
+//! Profiles as maps from places to counts and to the lengths of arrays. The order of places is the order of a type's records.
 
-use crate::value::{Value, RECORD};
+use crate::lengths::Lengths;
+use crate::value::{Value, ARRAY, RECORD};
 use std::cmp::Ordering;
 use std::collections::BTreeMap;
 use std::rc::Rc;
@@ -28,7 +29,23 @@ pub enum Step {
 /// A place of a value ends in its class. A place that ends in a key is that of a field record.
 pub type Place = Vec<Step>;
 
-pub type Profile = BTreeMap<Place, u64>;
+pub type Counts = BTreeMap<Place, u64>;
+
+/// The places of arrays, each with the lengths of those at that place.
+pub type ArrayLengths = BTreeMap<Place, Lengths>;
+
+#[derive(Clone, Default)]
+pub struct Profile {
+    pub counts: Counts,
+    pub lengths: ArrayLengths,
+}
+
+impl Profile {
+    /// The number of records of its type.
+    pub fn len(&self) -> usize {
+        self.counts.len()
+    }
+}
 
 impl Keys {
     pub fn list(&self) -> &[u16] {
@@ -72,36 +89,75 @@ pub fn class(kind: u8, keys: impl Iterator<Item = u16>, equivalence: Equivalence
 }
 
 pub fn profile(messages: &[Value], equivalence: Equivalence) -> Profile {
-    let mut profile = Profile::new();
+    let mut seen = Seen {
+        equivalence,
+        counts: Counts::new(),
+        arrays: BTreeMap::new(),
+    };
     for message in messages {
-        count(message, &mut Place::new(), equivalence, &mut profile);
+        seen.value(message, &mut Place::new());
     }
-    profile
+    let lengths = seen.arrays.into_iter();
+    Profile {
+        counts: seen.counts,
+        lengths: lengths
+            .filter_map(|(place, elements)| Some((place, Lengths::of(&elements)?)))
+            .collect(),
+    }
 }
 
-/// Counts a value and those inside it. `place` is what its class follows, and is given back as it was.
-fn count(value: &Value, place: &mut Place, equivalence: Equivalence, profile: &mut Profile) {
-    let keys = value.inner.iter().map(|field| field.key);
-    place.push(class(value.kind, keys, equivalence));
-    add_one(profile, place);
-    for inner in &value.inner {
-        if value.kind == RECORD {
-            place.push(Step::Key(inner.key));
-            add_one(profile, place);
-        } else {
-            place.push(Step::Element);
+/// The values that were seen: how many have each place, and how many elements each of the arrays at a place has.
+struct Seen {
+    equivalence: Equivalence,
+    counts: Counts,
+    arrays: BTreeMap<Place, Vec<usize>>,
+}
+
+impl Seen {
+    /// A value and those inside it. `place` is what its class follows, and is given back as it was.
+    fn value(&mut self, value: &Value, place: &mut Place) {
+        let keys = value.inner.iter().map(|field| field.key);
+        place.push(class(value.kind, keys, self.equivalence));
+        self.count(place);
+        if value.kind == ARRAY {
+            let arrays = self.arrays.entry(place.clone()).or_default();
+            arrays.push(value.inner.len());
         }
-        count(inner, place, equivalence, profile);
+        for inner in &value.inner {
+            if value.kind == RECORD {
+                place.push(Step::Key(inner.key));
+                self.count(place);
+            } else {
+                place.push(Step::Element);
+            }
+            self.value(inner, place);
+            place.pop();
+        }
         place.pop();
     }
-    place.pop();
-}
 
-fn add_one(profile: &mut Profile, place: &Place) {
-    *profile.entry(place.clone()).or_insert(0) += 1;
+    fn count(&mut self, place: &Place) {
+        *self.counts.entry(place.clone()).or_insert(0) += 1;
+    }
 }
 
 pub fn sum(first: &Profile, second: &Profile) -> Profile {
+    let mut lengths = first.lengths.clone();
+    for (place, of_second) in &second.lengths {
+        join(&mut lengths, place.clone(), *of_second);
+    }
+    Profile {
+        counts: sum_of_counts(&first.counts, &second.counts),
+        lengths,
+    }
+}
+
+fn join(lengths: &mut ArrayLengths, place: Place, others: Lengths) {
+    let joined = lengths.entry(place).or_insert(others);
+    *joined = joined.join(others);
+}
+
+pub fn sum_of_counts(first: &Counts, second: &Counts) -> Counts {
     let mut sum = first.clone();
     for (place, count) in second {
         *sum.entry(place.clone()).or_insert(0) += count;
@@ -110,7 +166,7 @@ pub fn sum(first: &Profile, second: &Profile) -> Profile {
 }
 
 /// What is left of the first at every place, without places where nothing is; none if the second counts a place higher.
-pub fn difference(first: &Profile, second: &Profile) -> Option<Profile> {
+pub fn difference(first: &Counts, second: &Counts) -> Option<Counts> {
     let mut rest = first.clone();
     for (place, count) in second {
         let left = rest.get_mut(place)?;
@@ -120,24 +176,28 @@ pub fn difference(first: &Profile, second: &Profile) -> Option<Profile> {
     Some(rest)
 }
 
-/// The profile under kind that one under label tells of: classes lose their key lists, and counts add where places become one.
+/// The profile under kind that one under label tells of: classes lose their key lists. Where places become one, counts add and lengths
+/// join.
 pub fn to_kind(profile: &Profile) -> Profile {
     let by_kind = |step: &Step| match step {
         Step::Class(kind, _) => class(*kind, std::iter::empty(), Equivalence::Kind),
         other => other.clone(),
     };
-    let mut folded = Profile::new();
-    for (place, count) in profile {
-        let place = place.iter().map(by_kind).collect();
-        *folded.entry(place).or_insert(0) += count;
+    let folded_place = |place: &Place| place.iter().map(by_kind).collect::<Place>();
+    let mut folded = Profile::default();
+    for (place, count) in &profile.counts {
+        *folded.counts.entry(folded_place(place)).or_insert(0) += count;
+    }
+    for (place, lengths) in &profile.lengths {
+        join(&mut folded.lengths, folded_place(place), *lengths);
     }
     folded
 }
 
 /// The total of each union, by what the classes of its addends follow.
-pub fn totals(profile: &Profile) -> BTreeMap<&[Step], u128> {
+pub fn totals(counts: &Counts) -> BTreeMap<&[Step], u128> {
     let mut totals = BTreeMap::new();
-    for (place, count) in profile {
+    for (place, count) in counts {
         if let Some((Step::Class(..), union)) = place.split_last() {
             *totals.entry(union).or_insert(0) += u128::from(*count);
         }
@@ -145,8 +205,19 @@ pub fn totals(profile: &Profile) -> BTreeMap<&[Step], u128> {
     totals
 }
 
-pub fn passes_limit(profile: &Profile) -> bool {
-    totals(profile)
+/// Whether values at a place are arrays.
+pub fn is_array(place: &Place) -> bool {
+    matches!(place.last(), Some(Step::Class(ARRAY, _)))
+}
+
+/// What the totals say of the elements of the arrays at a place: 0 where all of them are empty.
+pub fn elements(totals: &BTreeMap<&[Step], u128>, array: &Place) -> u128 {
+    let content: Place = array.iter().cloned().chain([Step::Element]).collect();
+    totals.get(&content[..]).copied().unwrap_or(0)
+}
+
+pub fn passes_limit(counts: &Counts) -> bool {
+    totals(counts)
         .values()
         .any(|total| *total > u128::from(LIMIT))
 }

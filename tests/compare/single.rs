@@ -11,6 +11,9 @@ use crate::texts::{self, Inputs};
 use crate::value::LONGEST;
 use crate::{types, value};
 
+/// Few more bytes than the largest buffer has, as many as a record of some size.
+pub const ABOVE: [usize; 4] = [1, 8, 16, 24];
+
 pub const EQUIVALENCES: [Equivalence; 2] = [Equivalence::Kind, Equivalence::Label];
 
 pub fn table(case: &mut Case) {
@@ -116,10 +119,10 @@ pub fn length_about(records: usize, size: usize, random: &mut Random) -> usize {
         7..=9 => exact.saturating_sub(size),
         10 => exact + size,
         11 => 0,
-        12..=14 => LONGEST,
+        12..=14 => LONGEST / size * size,
         15 => size * random.below(records + 1),
         16 => exact + 1 + random.below(size - 1),
-        17 => LONGEST + random.pick(&[1, size]),
+        17 => LONGEST / size * size + random.pick(&ABOVE),
         _ => exact + size * random.below(8),
     }
 }

@@ -13,6 +13,9 @@ const NULL: u8 = 1;
 const KINDS: [u8; 3] = [NULL, RECORD, ARRAY];
 const BORDER: [u16; 3] = [1, ON_BUS, ON_BUS + 1];
 
+/// As much room as there can be.
+const MOST: [usize; 3] = [types::LARGEST, types::LARGEST, LONGEST];
+
 /// Room for the types of the small tables, and for their entries.
 const ROOM: [usize; 3] = [12 * types::SIZE, 12 * types::SIZE, 6 * types::ENTRY];
 
@@ -135,7 +138,7 @@ fn depths(case: &mut Case) {
             let mut message = with_nulls(last);
             for _ in 0..=DEEPEST {
                 let table = value::write(std::slice::from_ref(&message));
-                with_rooms(case, &table, [LONGEST; 3]);
+                with_rooms(case, &table, MOST);
                 message = around(kind, key, message);
             }
         }
@@ -145,24 +148,27 @@ fn depths(case: &mut Case) {
 fn largest(case: &mut Case) {
     let pairs = (1..=ON_BUS).flat_map(|first| (1..first).map(move |second| [first, second]));
     let mut pairs: Vec<Value> = pairs.map(with_nulls).collect();
-    // Five type records for each pair, and one for the null.
-    pairs.truncate((LONGEST / types::SIZE - 1) / 5);
+    // Five type records for each pair, three for a record of one key, and one for the null.
+    let records = types::LARGEST / types::SIZE - 1;
+    let singles = (0..5).find(|n| (records - 3 * n) % 5 == 0).unwrap();
+    pairs.truncate((records - 3 * singles) / 5);
+    pairs.extend((1..).take(singles).map(|key| with_nulls([key])));
     pairs.push(null(0));
-    with_rooms(case, &value::write(&pairs), [LONGEST; 3]);
+    with_rooms(case, &value::write(&pairs), MOST);
     pairs.push(with_nulls([ON_BUS]));
-    with_rooms(case, &value::write(&pairs), [LONGEST; 3]);
+    with_rooms(case, &value::write(&pairs), MOST);
 
     let deep: Vec<Value> = (1..=ON_BUS).map(records_in_arrays).collect();
-    with_rooms(case, &value::write(&deep), [LONGEST; 3]);
+    with_rooms(case, &value::write(&deep), MOST);
 
     let full = LONGEST / SIZE / (1 + usize::from(ON_BUS));
     let mut wide = vec![with_nulls(1..=ON_BUS); full];
     for record in &mut wide {
         case.random.shuffle(&mut record.inner);
     }
-    with_rooms(case, &value::write(&wide), [LONGEST; 3]);
+    with_rooms(case, &value::write(&wide), MOST);
     wide[full - 1].inner[0].key = ON_BUS + 1;
-    with_rooms(case, &value::write(&wide), [LONGEST; 3]);
+    with_rooms(case, &value::write(&wide), MOST);
 }
 
 /// A record with a field of this key, and inside it, down to the deepest level, an array with a record beside the next array.

@@ -1,19 +1,29 @@
-//! Every small type folded, and as a whole with every one as a part, each tried once. What must be left of a whole is found by merging the
-//! part with every small type: one that is left has no more records and no higher counts than the whole, so it is small too.
+//! Every small type, each tried once: as a whole with every one as a part, and with lengths judged, folded and merged. What must be left of
+//! a whole is found by merging the part with every small type: one that is left has no more records and no higher counts than the whole,
+//! so it is small too.
 
 use crate::calls::{Call, Outcome};
 use crate::case::{hex, Case};
 use crate::folds::fold;
-use crate::profile::{sum, Equivalence, Profile};
+use crate::lengths::Lengths;
+use crate::profile::{
+    elements, is_array, sum_of_counts, totals, Counts, Equivalence, Place, Profile,
+};
 use crate::runs::runs;
 use crate::single::EQUIVALENCES;
-use crate::types::{self, SIZE};
+use crate::type_reader;
+use crate::types::{self, BARE, FIELD, SIZE};
 use crate::value::{ARRAY, RECORD};
 use std::collections::BTreeMap;
 
 const NULL: u8 = 1;
-const FIELD: u8 = 7;
 const KEYS: [u16; 2] = [1, 2];
+
+/// Lengths are tried up to this.
+const MOST_ELEMENTS: u32 = 5;
+
+/// Types are merged in pairs if they have no more records.
+const MERGED: usize = 3;
 
 /// Which types are small.
 struct Small {
@@ -36,26 +46,92 @@ const SMALL: [Small; 2] = [
     },
 ];
 
-/// The bytes of each type, with its profile.
-type Types = BTreeMap<Vec<u8>, Profile>;
+/// The bytes of each type for removal, with its counts.
+type Types = BTreeMap<Vec<u8>, Counts>;
 
 pub fn compare(case: &mut Case) {
     for small in SMALL {
         for equivalence in EQUIVALENCES {
-            every_pair(case, &small.types(equivalence), equivalence);
-        }
-        for bytes in small.types(Equivalence::Label).keys() {
-            fold_with_rooms(case, bytes);
+            let types = small.types(equivalence);
+            every_pair(case, &types, equivalence);
+            let profiles: Vec<Profile> = types.values().flat_map(with_lengths).collect();
+            for profile in &profiles {
+                other_lengths(case, profile, equivalence);
+                if equivalence == Equivalence::Label {
+                    fold_with_rooms(case, &types::write(profile));
+                }
+            }
+            every_merge(case, &profiles, equivalence);
         }
     }
 }
 
 fn every_pair(case: &mut Case, types: &Types, equivalence: Equivalence) {
-    for (part, profile) in types {
-        let rests = rests(case, profile, types);
+    for (part, counts) in types {
+        let rests = rests(case, counts, types);
         for whole in types.keys() {
             let rest = rests.get(whole).copied();
             remove(case, [whole, part], equivalence, rest);
+        }
+    }
+}
+
+/// Counts with all lengths of their arrays that go with them.
+fn with_lengths(counts: &Counts) -> Vec<Profile> {
+    let totals = totals(counts);
+    let mut all = vec![Profile {
+        counts: counts.clone(),
+        ..Profile::default()
+    }];
+    for (place, count) in counts.iter().filter(|(place, _)| is_array(place)) {
+        let elements = elements(&totals, place);
+        let allowed = two_lengths().filter(|lengths| lengths.allowed(*count, elements));
+        let with = |lengths| all.iter().map(move |one| with_one(one, place, lengths));
+        all = allowed.flat_map(with).collect();
+    }
+    all
+}
+
+/// Every two numbers that may be tried as lengths.
+fn two_lengths() -> impl Iterator<Item = Lengths> {
+    let shortest = 0..=MOST_ELEMENTS;
+    shortest.flat_map(|shortest| {
+        let longest = 0..=MOST_ELEMENTS;
+        longest.map(move |longest| Lengths { shortest, longest })
+    })
+}
+
+fn with_one(profile: &Profile, place: &Place, lengths: Lengths) -> Profile {
+    let mut profile = profile.clone();
+    profile.lengths.insert(place.clone(), lengths);
+    profile
+}
+
+/// Judges a type, and with any lengths in one of its arrays.
+fn other_lengths(case: &mut Case, profile: &Profile, equivalence: Equivalence) {
+    let places = profile.lengths.keys();
+    let others = places.flat_map(|place| two_lengths().map(move |two| (place, two)));
+    let others = others.map(|(place, two)| with_one(profile, place, two));
+    for other in others.chain([profile.clone()]) {
+        case.call(Call::JudgeType {
+            bytes: &types::write(&other),
+            equivalence: equivalence as u64,
+        });
+    }
+}
+
+/// Every two types of few records.
+fn every_merge(case: &mut Case, profiles: &[Profile], equivalence: Equivalence) {
+    let few = profiles.iter().filter(|profile| profile.len() <= MERGED);
+    let few: Vec<Vec<u8>> = few.map(types::write).collect();
+    for first in &few {
+        for second in &few {
+            case.call(Call::Merge {
+                first,
+                second,
+                equivalence: equivalence as u64,
+                arena: first.len() + second.len(),
+            });
         }
     }
 }
@@ -72,9 +148,9 @@ fn fold_with_rooms(case: &mut Case, bytes: &[u8]) {
 impl Small {
     fn types(&self, equivalence: Equivalence) -> Types {
         let bytes = (0..=self.records).flat_map(|records| self.unions(records));
-        let read = |bytes: Vec<u8>| Some((types::read(&bytes, equivalence)?, bytes));
+        let read = |bytes: Vec<u8>| Some((type_reader::read_bare(&bytes, equivalence)?, bytes));
         let types = bytes.filter_map(read);
-        types.map(|(profile, bytes)| (bytes, profile)).collect()
+        types.map(|(counts, bytes)| (bytes, counts)).collect()
     }
 
     /// Unions of so many records, well formed or not.
@@ -102,7 +178,7 @@ impl Small {
     fn with_head(&self, kind: u8, key: u16, runs: Vec<Vec<u8>>) -> Vec<Vec<u8>> {
         let mut all = Vec::new();
         for inner in runs {
-            let span = (1 + inner.len() / SIZE) as u32;
+            let span = (1 + inner.len() / BARE) as u32;
             let [low, high] = key.to_le_bytes();
             for count in self.counts {
                 let numbers = [&span.to_le_bytes()[..], &count.to_le_bytes()].concat();
@@ -114,10 +190,10 @@ impl Small {
 }
 
 /// By the bytes of each merged type, the type that was merged with the part.
-fn rests<'a>(case: &Case, part: &Profile, types: &'a Types) -> BTreeMap<Vec<u8>, &'a [u8]> {
+fn rests<'a>(case: &Case, part: &Counts, types: &'a Types) -> BTreeMap<Vec<u8>, &'a [u8]> {
     let mut rests = BTreeMap::new();
-    for (rest, profile) in types {
-        let whole = types::write(&sum(part, profile));
+    for (rest, counts) in types {
+        let whole = types::write_bare(&sum_of_counts(part, counts));
         if let Some(other) = rests.insert(whole, &rest[..]) {
             let [rest, other] = [rest, other].map(hex);
             case.fail(&format!(

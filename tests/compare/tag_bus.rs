@@ -25,7 +25,7 @@ pub fn table(case: &mut Case) {
     // Mostly one of them has room for sure.
     match random.below(4) {
         0..=1 => entries = LONGEST,
-        2 => arena = LONGEST,
+        2 => arena = types::LARGEST,
         _ => {}
     }
     let work = work_length(arena, random);

@@ -7,9 +7,10 @@ use crate::messages::{messages, Shape};
 use crate::profile::{passes_limit, profile, sum, Equivalence, Profile};
 use crate::random::Random;
 use crate::single::EQUIVALENCES;
-use crate::tally::{FORMER, MERGES, WAY};
+use crate::tally::{BY_KIND, MERGES, WAY};
+use crate::types::LARGEST;
 use crate::value::{Value, LONGEST};
-use crate::{types, value};
+use crate::{type_reader, types, value};
 
 /// What every way of a case fixes.
 #[derive(Clone, Copy)]
@@ -30,11 +31,20 @@ pub fn ways(case: &mut Case) {
     };
     let mut ends = Vec::new();
     for _ in 0..2 + case.random.below(2) {
-        case.random.shuffle(&mut log);
+        reorder(&mut log, &mut case.random);
         let tables = tables(&log, &mut case.random);
         ends.push(bring(case, tables, Vec::new(), fixed));
     }
     settle(case, WAY, &ends, &profile, fixed);
+}
+
+/// Any order, or one in which equal messages stand beside each other.
+fn reorder(log: &mut [Value], random: &mut Random) {
+    match random.below(3) {
+        0 => log.sort_by_key(|message| value::write(std::slice::from_ref(message))),
+        1 => log.reverse(),
+        _ => random.shuffle(log),
+    }
 }
 
 /// Messages that call 1 accepts.
@@ -45,25 +55,25 @@ pub fn log(random: &mut Random) -> Vec<Value> {
     log
 }
 
-/// Merges the types that the default call, when it inferred under kind, made of two parts of a log. Under kind the end is that of a
-/// way. Under label it is too, or a type that is not well formed there is refused.
-pub fn former_defaults(case: &mut Case) {
+/// Merges the types under kind of two parts of a log. Under kind the end is that of a way. Under label it is too, or a type that is not
+/// well formed there is refused.
+pub fn made_by_kind(case: &mut Case) {
     let log = log(&mut case.random);
     let (one, other) = log.split_at(case.random.below(log.len() + 1));
     let [first, second] = [one, other].map(|part| types::write(&profile(part, Equivalence::Kind)));
-    if first.len() > LONGEST || second.len() > LONGEST {
+    if first.len() > LARGEST || second.len() > LARGEST {
         return;
     }
     let fixed = Fixed {
         equivalence: case.random.pick(&EQUIVALENCES),
-        arena: LONGEST,
+        arena: LARGEST,
     };
     let end = merge_two(case, &mut vec![first, second], fixed);
     let refused = fixed.equivalence == Equivalence::Label && [8, 9].contains(&end.number);
     if !refused && !agrees(&end, &profile(&log, fixed.equivalence), fixed) {
-        case.fail("a merge of types by the former default ends otherwise than its profile\n");
+        case.fail("a merge of types under kind ends otherwise than its profile\n");
     }
-    case.tally.add(FORMER, end.number);
+    case.tally.add(BY_KIND, end.number);
 }
 
 /// Two or three merge trees of the same types, whose counts come up to the limit.
@@ -74,17 +84,17 @@ pub fn merges(case: &mut Case) {
     let mut profiles = Vec::new();
     for _ in 0..2 + random.below(4) {
         let profile = counted(&shape, equivalence, random);
-        if types::read(&types::write(&profile), equivalence).is_some() {
+        if type_reader::read(&types::write(&profile), equivalence).is_some() {
             profiles.push(profile);
         }
     }
-    let fits = |p: &Profile| types::SIZE * p.len() <= LONGEST;
+    let fits = |p: &Profile| types::SIZE * p.len() <= LARGEST;
     if profiles.len() < 2 || !profiles.iter().all(fits) {
         return;
     }
     let all = profiles
         .iter()
-        .fold(Profile::new(), |all, one| sum(&all, one));
+        .fold(Profile::default(), |all, one| sum(&all, one));
     let fixed = Fixed {
         equivalence,
         arena: arena_length(all.len(), random),
@@ -100,15 +110,21 @@ pub fn merges(case: &mut Case) {
 
 /// A length that a way may fix.
 pub fn arena_length(records: usize, random: &mut Random) -> usize {
-    let exact = types::SIZE * records;
+    allowed_length(records, types::SIZE, random)
+}
+
+/// A length that an arena for about so many records of a size may have.
+pub fn allowed_length(records: usize, size: usize, random: &mut Random) -> usize {
+    let exact = size * records;
+    let largest = LONGEST / size * size;
     let length = match random.below(8) {
         0..=2 => exact,
-        3 => exact.saturating_sub(types::SIZE),
-        4 => types::SIZE * random.below(records + 1),
-        5 => exact + types::SIZE * random.below(9),
-        _ => LONGEST,
+        3 => exact.saturating_sub(size),
+        4 => size * random.below(records + 1),
+        5 => exact + size * random.below(9),
+        _ => largest,
     };
-    length.min(LONGEST)
+    length.min(largest)
 }
 
 /// Cuts a log into tables, some of them empty.
@@ -205,10 +221,10 @@ fn agrees(end: &Outcome, profile: &Profile, fixed: Fixed) -> bool {
         0 => {
             let mut bytes = types::write(profile);
             bytes.resize(fixed.arena, 0);
-            let fits = !too_many && !passes_limit(profile);
+            let fits = !too_many && !passes_limit(&profile.counts);
             fits && end.place == 0 && end.count == profile.len() as u64 && end.arena == bytes
         }
-        10 => passes_limit(profile),
+        10 => passes_limit(&profile.counts),
         11 => too_many,
         _ => false,
     }

@@ -8,6 +8,35 @@
 
 pub mod raw;
 
+/// Bytes of a value record.
+pub const VALUE_RECORD: usize = 8;
+
+/// Bytes of a type record: kind, zero, key (2), span (4), count (8), and the lengths of the arrays at that place, which are numbers of
+/// elements: the shortest in bytes 16-19 and the longest in 20-23. Both are zero in all kinds but 6.
+///
+/// All numbers are unsigned and little-endian. Where arrays come together, by [`merge`] or [`fold`], the smaller of the shortest and the
+/// larger of the longest lengths stay.
+pub const TYPE_RECORD: usize = 24;
+
+/// Bytes of a record of the types that [`remove`] takes and leaves: the first ones of a type record, without the lengths.
+///
+/// Types stored before there were lengths are such types. Every other call refuses them, by [`Refusal::Length`], [`Refusal::FirstType`]
+/// or [`Refusal::SecondType`], and what they tell of must be inferred anew; in the same way [`remove`] refuses types with lengths. Only
+/// the empty type is one for every call.
+pub const REMOVAL_RECORD: usize = 16;
+
+/// Bytes of an entry of [`infer_tag_bus`].
+pub const ENTRY: usize = 16;
+
+/// Bytes of a record of a key book.
+pub const BOOK_RECORD: usize = 32;
+
+/// The most bytes of a table, a text, a key book, entries, and of types and arenas of [`remove`].
+pub const LONGEST: usize = 65_536;
+
+/// The most bytes of any other type or arena: 2,730 records.
+pub const LARGEST_ARENA: usize = 65_520;
+
 /// When two values have one class.
 #[derive(Clone, Copy, Debug, PartialEq, Eq)]
 pub enum Equivalence {
@@ -24,8 +53,8 @@ pub enum Equivalence {
 /// Why a call refuses its input. A `place` is the value record with the fault, counted from 0, or for [`read_text`] the byte.
 #[derive(Clone, Copy, Debug, PartialEq, Eq)]
 pub enum Refusal {
-    /// A length is no multiple of its record size (8 in a table, 16 in a type and in entries, 32 in a key book) or is above 65,536,
-    /// or the working buffer's length is not the arena's.
+    /// A length is no multiple of its record size ([`VALUE_RECORD`], [`TYPE_RECORD`], [`REMOVAL_RECORD`], [`ENTRY`] or [`BOOK_RECORD`])
+    /// or is above [`LONGEST`], or the working buffer's length is not the arena's.
     Length,
     /// The equivalence is neither 0 nor 1; only the forms in [`raw`] can be given such a number.
     Equivalence,
@@ -118,6 +147,23 @@ pub fn judge_table(table: &[u8]) -> Result<usize, Refusal> {
 /// Both buffers have one length and may hold any bytes. Accepted, the arena behind the profile and the working buffer are zero;
 /// refused, both buffers are. A table is refused as by [`judge_table`]; a profile that the arena has no room for, by
 /// [`Refusal::Room`].
+///
+/// ```
+/// use ct::{infer, Equivalence, TYPE_RECORD};
+///
+/// // Two messages: an array without elements, and one with two nulls.
+/// let empty = [6, 0, 0, 0, 1, 0, 0, 0];
+/// let null = [1, 0, 0, 0, 1, 0, 0, 0];
+/// let two = [[6, 0, 0, 0, 3, 0, 0, 0], null, null].concat();
+/// let table = [&empty[..], &two].concat();
+/// let [mut arena, mut work] = [[0; 2 * TYPE_RECORD]; 2];
+/// assert_eq!(infer(&table, Equivalence::Kind, &mut arena, &mut work), Ok(2));
+///
+/// // The arrays: two of them, the shortest with no element and the longest with two.
+/// assert_eq!(arena[8..16], 2u64.to_le_bytes());
+/// assert_eq!(arena[16..20], 0u32.to_le_bytes());
+/// assert_eq!(arena[20..24], 2u32.to_le_bytes());
+/// ```
 pub fn infer(
     table: &[u8],
     equivalence: Equivalence,
@@ -129,20 +175,21 @@ pub fn infer(
 
 /// Call 3. The same as [`infer`] under the house default, [`Equivalence::Label`].
 ///
-/// Judge, merge and take apart its types under [`Equivalence::Label`]. Earlier the house default was [`Equivalence::Kind`]: types
-/// that this call made then stay usable under that. Under [`Equivalence::Label`] such a type is not well formed, unless each of
-/// its fields has the count of its record. A type under label may have more records than the one under kind, which [`fold`] makes of it.
+/// Judge and merge its types under [`Equivalence::Label`]. Earlier the house default was [`Equivalence::Kind`]. Types that this call
+/// made then have records of [`REMOVAL_RECORD`] bytes: [`remove`] alone takes them, under [`Equivalence::Kind`]. Under
+/// [`Equivalence::Label`] such a type is not well formed, unless each of its fields has the count of its record. A type under label may
+/// have more records than the one under kind, which [`fold`] makes of it.
 ///
 /// ```
-/// use ct::{infer_default, merge, Equivalence, Refusal};
+/// use ct::{infer_default, merge, Equivalence, Refusal, TYPE_RECORD};
 ///
 /// // Two records: one without fields, and one with a null at key 1.
 /// let empty = [5, 0, 0, 0, 1, 0, 0, 0];
 /// let with_null = [5, 0, 0, 0, 2, 0, 0, 0, 1, 0, 1, 0, 1, 0, 0, 0];
 /// let table = [&empty[..], &with_null].concat();
-/// let [mut arena, mut work, mut merged] = [[0; 64]; 3];
+/// let [mut arena, mut work, mut merged] = [[0; 4 * TYPE_RECORD]; 3];
 /// let records = infer_default(&table, &mut arena, &mut work)?;
-/// let inferred = &arena[..16 * records];
+/// let inferred = &arena[..TYPE_RECORD * records];
 /// assert_eq!(merge(inferred, inferred, Equivalence::Label, &mut merged), Ok(4));
 ///
 /// let refused = merge(inferred, inferred, Equivalence::Kind, &mut merged);
@@ -158,18 +205,37 @@ pub fn infer_default(table: &[u8], arena: &mut [u8], work: &mut [u8]) -> Result<
 /// Any other type is refused, and so is a whole arena with zeros behind its type. The empty type is well formed, and a record
 /// of a type may have any number of fields. The order of key lists is told at [`Equivalence::Label`].
 ///
+/// Lengths agree with counts. Where n arrays have m elements in all, shortest is at most longest, longest at most 8,192, longest and
+/// n - 1 times shortest together at most m, and m at most shortest and n - 1 times longest together. So one array has both equal to m,
+/// and arrays without elements have 0 and 0.
+///
 /// ```
-/// use ct::{judge_type, Equivalence, Refusal};
+/// use ct::{judge_type, Equivalence, Refusal, REMOVAL_RECORD, TYPE_RECORD};
 ///
 /// // Type records of kind, key and span with count 1: a record with key 2, and one with the keys 1 and 2.
-/// let row = |kind, key, span| [kind, 0, key, 0, span, 0, 0, 0, 1, 0, 0, 0, 0, 0, 0, 0];
+/// let row = |kind, key, span| {
+///     let mut row = [0; TYPE_RECORD];
+///     [row[0], row[2], row[4], row[8]] = [kind, key, span, 1];
+///     row
+/// };
 /// let short = [row(5, 0, 3), row(7, 2, 2), row(1, 0, 1)].concat();
 /// let long = [row(5, 0, 5), row(7, 1, 2), row(1, 0, 1), row(7, 2, 2), row(1, 0, 1)].concat();
-/// assert_eq!(judge_type(&[&short[..], &long].concat(), Equivalence::Label), Ok(8));
+/// let both = [&short[..], &long].concat();
+/// assert_eq!(judge_type(&both, Equivalence::Label), Ok(8));
 ///
 /// // The former order, in which key 1 came before key 2 in lists of any length.
-/// let former = [long, short].concat();
+/// let former = [long, short.clone()].concat();
 /// assert_eq!(judge_type(&former, Equivalence::Label), Err(Refusal::FirstType));
+///
+/// // A type stored before there were lengths.
+/// let stored: Vec<u8> = short.chunks(TYPE_RECORD).flat_map(|row| &row[..REMOVAL_RECORD]).copied().collect();
+/// assert_eq!(judge_type(&stored, Equivalence::Label), Err(Refusal::FirstType));
+///
+/// // An array with one element has the length 1.
+/// let mut array = [row(6, 0, 2), row(1, 0, 1)].concat();
+/// assert_eq!(judge_type(&array, Equivalence::Label), Err(Refusal::FirstType));
+/// [array[16], array[20]] = [1, 1];
+/// assert_eq!(judge_type(&array, Equivalence::Label), Ok(2));
 /// ```
 pub fn judge_type(bytes: &[u8], equivalence: Equivalence) -> Result<usize, Refusal> {
     raw::judge_type(bytes, equivalence as u64).result()
@@ -181,8 +247,7 @@ pub fn judge_type(bytes: &[u8], equivalence: Equivalence) -> Result<usize, Refus
 /// the merged type, refused, all of it is. The first type is judged before the second, then the totals, then the room, which
 /// is refused only where the merged type itself has more records than the arena.
 ///
-/// The equivalence is the one that both types were made under: for types of [`infer_default`] [`Equivalence::Label`], and
-/// [`Equivalence::Kind`] if that call made them while its default was kind.
+/// The equivalence is the one that both types were made under: for types of [`infer_default`] [`Equivalence::Label`].
 pub fn merge(
     first: &[u8],
     second: &[u8],
@@ -204,6 +269,10 @@ pub fn read_text(text: &[u8], book: &[u8], table: &mut [u8]) -> Result<usize, Re
 /// Call 7. Takes a part out of a whole: writes the type that merged with the part gives the whole at the front of the arena, and gives
 /// its number of records.
 ///
+/// All three are types without lengths, whose records have [`REMOVAL_RECORD`] bytes. This call alone takes such types, those stored before
+/// there were lengths among them; lengths can't be taken out of a smallest and a largest. The types and the arena have at most
+/// [`LONGEST`] bytes.
+///
 /// There is never more than one such type. Where there is none, the call is refused by [`Refusal::NotPart`]: the part has a place
 /// that the whole lacks or counts lower, something would stay inside what goes, or, under [`Equivalence::Kind`], a field would
 /// stay in more records than there are. The types are just the records in use, and may be the same bytes; that leaves the empty
@@ -211,17 +280,17 @@ pub fn read_text(text: &[u8], book: &[u8], table: &mut [u8]) -> Result<usize, Re
 /// part, then what is left, then the room, which is refused only where what is left itself has more records than the arena.
 ///
 /// ```
-/// use ct::{remove, Equivalence, Refusal};
+/// use ct::{remove, Equivalence, Refusal, REMOVAL_RECORD};
 ///
 /// // A type of one record: so many nulls.
 /// let nulls = |count| [1, 0, 0, 0, 1, 0, 0, 0, count, 0, 0, 0, 0, 0, 0, 0];
-/// let mut arena = [0; 16];
+/// let mut arena = [0; REMOVAL_RECORD];
 /// assert_eq!(remove(&nulls(5), &nulls(2), Equivalence::Kind, &mut arena), Ok(1));
 /// assert_eq!(arena, nulls(3));
 ///
 /// let refused = remove(&nulls(2), &nulls(5), Equivalence::Kind, &mut arena);
 /// assert_eq!(refused, Err(Refusal::NotPart));
-/// assert_eq!(arena, [0; 16]);
+/// assert_eq!(arena, [0; REMOVAL_RECORD]);
 /// ```
 pub fn remove(
     whole: &[u8],
@@ -235,7 +304,7 @@ pub fn remove(
 /// Call 8. Infers for the tag bus, whose keys are 1 to 64: writes the profile of a table's messages under [`Equivalence::Label`] at the
 /// front of the arena, and gives its number of records. Writes the key sets of its records as words at the front of the entries.
 ///
-/// An entry is 16 bytes: a word in which bit k - 1 is set exactly if the addend has field k, then the number of its fields, both in
+/// An entry is [`ENTRY`] bytes: a word in which bit k - 1 is set exactly if the addend has field k, then the number of its fields, both in
 /// eight bytes, little-endian. There is one for each addend of kind 5 in the order of the arena, those in fields and in arrays too;
 /// that of an addend without fields is all zero. The arena and the working buffer have one length. The entries may have another, 0 where
 /// the messages have no record.
@@ -245,19 +314,19 @@ pub fn remove(
 /// profile that the arena or the entries have no room for, by [`Refusal::Room`].
 ///
 /// ```
-/// use ct::{infer_tag_bus, Refusal};
+/// use ct::{infer_tag_bus, Refusal, ENTRY, TYPE_RECORD};
 ///
 /// // A record with a null at this key.
 /// let with_null = |key| [5, 0, 0, 0, 2, 0, 0, 0, 1, 0, key, 0, 1, 0, 0, 0];
-/// let [mut arena, mut work] = [[0; 48]; 2];
-/// let mut entries = [0; 16];
+/// let [mut arena, mut work] = [[0; 3 * TYPE_RECORD]; 2];
+/// let mut entries = [0; ENTRY];
 /// assert_eq!(infer_tag_bus(&with_null(64), &mut arena, &mut work, &mut entries), Ok(3));
 /// assert_eq!(entries[..8], (1u64 << 63).to_le_bytes());
 /// assert_eq!(entries[8..], 1u64.to_le_bytes());
 ///
 /// let refused = infer_tag_bus(&with_null(65), &mut arena, &mut work, &mut entries);
 /// assert_eq!(refused, Err(Refusal::Large { place: 1 }));
-/// assert_eq!(entries, [0; 16]);
+/// assert_eq!(entries, [0; ENTRY]);
 /// ```
 pub fn infer_tag_bus(
     table: &[u8],
@@ -271,9 +340,9 @@ pub fn infer_tag_bus(
 /// Call 9. Folds a type under [`Equivalence::Label`]: writes the type under [`Equivalence::Kind`] of the same messages at the front of the
 /// arena, and gives its number of records. The messages are not needed for it.
 ///
-/// In every union, below fields and in the contents of arrays too, the records become one, with all their fields. The type that
-/// [`infer`] gives under label becomes the one that it gives under kind, and merging two types and folding them may be done in either
-/// order. A folded type never has more records than the type under label.
+/// In every union, below fields and in the contents of arrays too, the records become one, with all their fields, and the lengths of
+/// arrays that come to one place are joined. The type that [`infer`] gives under label becomes the one that it gives under kind, and
+/// merging two types and folding them may be done in either order. A folded type never has more records than the type under label.
 ///
 /// Both buffers have one length and may hold any bytes. Accepted, the arena behind the type and the working buffer are zero; refused,
 /// both buffers are. A type that is well formed under kind only is refused by [`Refusal::FirstType`] as any other that is not well
@@ -282,7 +351,7 @@ pub fn infer_tag_bus(
 /// elements add up. The call takes up to 80 KiB of stack, 64 of them for the folded type where the arena is too small for it.
 ///
 /// ```
-/// use ct::{fold, infer, Equivalence, Refusal};
+/// use ct::{fold, infer, Equivalence, Refusal, TYPE_RECORD};
 ///
 /// // {1: number, 2: [number, number]}, {1: null} and {2: []}: the kinds, keys and spans of their records.
 /// let kinds = [5, 3, 6, 3, 3, 5, 1, 5, 6];
@@ -291,15 +360,15 @@ pub fn infer_tag_bus(
 /// let record = |i| [kinds[i], 0, keys[i], 0, spans[i], 0, 0, 0];
 /// let table: Vec<u8> = (0..9).flat_map(record).collect();
 ///
-/// let [mut by_label, mut by_kind, mut folded, mut work] = [[0; 12 * 16]; 4];
+/// let [mut by_label, mut by_kind, mut folded, mut work] = [[0; 12 * TYPE_RECORD]; 4];
 /// assert_eq!(infer(&table, Equivalence::Label, &mut by_label, &mut work), Ok(12));
 /// assert_eq!(infer(&table, Equivalence::Kind, &mut by_kind, &mut work), Ok(7));
 /// assert_eq!(fold(&by_label, &mut folded, &mut work), Ok(7));
 /// assert_eq!(folded, by_kind);
 ///
-/// let again = fold(&by_kind[..7 * 16], &mut folded, &mut work);
+/// let again = fold(&by_kind[..7 * TYPE_RECORD], &mut folded, &mut work);
 /// assert_eq!(again, Err(Refusal::FirstType));
-/// assert_eq!(folded, [0; 12 * 16]);
+/// assert_eq!(folded, [0; 12 * TYPE_RECORD]);
 /// ```
 pub fn fold(bytes: &[u8], arena: &mut [u8], work: &mut [u8]) -> Result<usize, Refusal> {
     raw::fold(bytes, arena, work).result()

@@ -11,6 +11,7 @@ pub mod Encoding
 pub mod Published
 pub mod Values
 pub mod Times
+pub mod Lengths
 pub mod WellFormed
 pub mod Ways
 pub mod Trials

@@ -17,13 +17,13 @@ use Rattle.counting_theory.specs.Trials.{tableBytes, typeBytes, trials, 
 
 pub trials-hold : TrialsHold
 unfolding tableBytes typeBytes trials inferred merged flatMap bytesOf numberOf numberAt fieldAt fieldsFrom recordBytes
-    table.header table.kindAt table.zeroAt table.keyAt table.spanAt table.keys table.member
+    table.header table.kindAt table.zeroAt table.keyAt table.spanAt table.keys table.count table.member
     judging.badLength judging.badKind judging.badSpan judging.badKey judging.tooLarge judging.repeated judging.tooMany judging.tooDeep judging.fault judging.faultIn
     judging.close judging.enter judging.walk judging.judgedUpTo judging.judged judging.decode judging.messages
     numbers ofNumbers one oneField join proper listed insertKey ascending raw profileOf then comparePair compareList compareOn compareKeys
-    trie.size trie.insertStep trie.insert trie.add trie.reduceNode trie.reduce trie.total trie.largestBelow trie.largestTotal
+    trie.size trie.insertStep trie.insert trie.add trie.reduceStep trie.reduceNode trie.reduce trie.total trie.largestBelow trie.largestTotal
     types.typeKind types.typeZero types.typeKey types.typeSpan types.typePayload types.header types.encode types.siblingKeys types.decode types.typeOf
-    rules.typeRecord rules.laidOut rules.counted rules.withinLimit rules.ascends rules.fieldTotals rules.fieldCounts rules.measured rules.wellFormed rules.badTypeLength
+    rules.typeRecord rules.laidOut rules.counted rules.withinLimit rules.ascends rules.fieldTotals rules.fieldsOf rules.fieldCounts rules.measured rules.wellFormed rules.badTypeLength
 trials-hold =
     ((refl & refl & done) & (refl & refl & done) & done)
     & ((refl & done) & done)
@@ -37,4 +37,9 @@ trials-hold =
     & ((refl & done) & done)
     & ((refl & done) & done)
     & ((refl & done) & done)
+    & ((refl & done) & (refl & done) & done)
+    & ((refl & done) & (refl & done) & done)
+    & ((refl & done) & (refl & done) & done)
+    & ((refl & done) & (refl & done) & done)
+    & ((refl & done) & (refl & done) & done)
     & done

@@ -5,6 +5,7 @@ pub mod Payload
 pub mod Label
 pub mod Raw
 pub mod Place
+pub mod Lengths
 pub mod Encoding
 pub mod WellFormed
 pub mod Answers

@@ -1,5 +1,5 @@
--- 'Trials at the edges' of document 01: the ten trials marked with a star, and key lists in the former order of document 02's change 9, as
--- one table with one claim over it.
+-- 'Trials at the edges' of document 01: the ten trials marked with a star, key lists in the former order of document 02's change 9, and
+-- array lengths of its change 10, as one table with one claim over it.
 use mathlib.Core.Path.{_≡_}
 use mathlib.Core.List.{List, [], _∷_, flatMap}
 use Prim.Native.Nat.{ℕ, _*_}
@@ -53,13 +53,13 @@ abbrev pub nine : List ValueRecord
 nine = (5, 0, 5) ∷ (3, 1, 1) ∷ (6, 2, 3) ∷ (3, 0, 1) ∷ (3, 0, 1) ∷ (5, 0, 2) ∷ (1, 1, 1) ∷ (5, 0, 2) ∷ (6, 2, 1) ∷ []
 
 abbrev pub nineByKind : List TypeRecord
-nineByKind = (5, 0, 7, 3 ∷ []) ∷ (7, 1, 3, 2 ∷ []) ∷ (1, 0, 1, 1 ∷ []) ∷ (3, 0, 1, 1 ∷ []) ∷ (7, 2, 3, 2 ∷ []) ∷ (6, 0, 2, 2 ∷ []) ∷ (3, 0, 1, 2 ∷ []) ∷ []
+nineByKind = (5, 0, 7, 3 ∷ []) ∷ (7, 1, 3, 2 ∷ []) ∷ (1, 0, 1, 1 ∷ []) ∷ (3, 0, 1, 1 ∷ []) ∷ (7, 2, 3, 2 ∷ []) ∷ (6, 0, 2, 2 ∷ 0 ∷ 2 ∷ []) ∷ (3, 0, 1, 2 ∷ []) ∷ []
 
 abbrev pub nineByLabel : List TypeRecord
 nineByLabel =
     (5, 0, 3, 1 ∷ []) ∷ (7, 1, 2, 1 ∷ []) ∷ (1, 0, 1, 1 ∷ [])
     ∷ (5, 0, 3, 1 ∷ []) ∷ (7, 2, 2, 1 ∷ []) ∷ (6, 0, 1, 1 ∷ [])
-    ∷ (5, 0, 6, 1 ∷ []) ∷ (7, 1, 2, 1 ∷ []) ∷ (3, 0, 1, 1 ∷ []) ∷ (7, 2, 3, 1 ∷ []) ∷ (6, 0, 2, 1 ∷ []) ∷ (3, 0, 1, 2 ∷ []) ∷ []
+    ∷ (5, 0, 6, 1 ∷ []) ∷ (7, 1, 2, 1 ∷ []) ∷ (3, 0, 1, 1 ∷ []) ∷ (7, 2, 3, 1 ∷ []) ∷ (6, 0, 2, 1 ∷ 2 ∷ 2 ∷ []) ∷ (3, 0, 1, 2 ∷ []) ∷ []
 
 -- {1: null, 2: null} before {2: null}: by their first keys, but the longer key list first
 abbrev pub longerFirst : List TypeRecord
@@ -69,6 +69,17 @@ longerFirst =
 
 abbrev pub oneNull : List TypeRecord
 oneNull = (1, 0, 1, 1 ∷ []) ∷ []
+
+-- n arrays with m numbers in all, by the shortest and the longest of them; an array with nothing in it; and {1: null} with lengths at
+-- the field
+abbrev pub arrays : (n m shortest longest : ℕ) → List TypeRecord
+arrays n m shortest longest = (6, 0, 2, n ∷ shortest ∷ longest ∷ []) ∷ (3, 0, 1, m ∷ []) ∷ []
+
+abbrev pub emptyArray : List TypeRecord
+emptyArray = (6, 0, 1, 1 ∷ []) ∷ []
+
+abbrev pub lengthsInField : List TypeRecord
+lengthsInField = (5, 0, 3, 1 ∷ []) ∷ (7, 1, 2, 1 ∷ 1 ∷ 1 ∷ []) ∷ (1, 0, 1, 1 ∷ []) ∷ []
 
 unfoldable pub trials : List Trial
 trials =
@@ -84,6 +95,11 @@ trials =
     ∷ trial (merge oneNull []) underKind largest 0 0 1 oneNull
     ∷ trial (merge longerFirst oneNull) underLabel largest 8 0 0 []
     ∷ trial (merge oneNull longerFirst) underLabel largest 9 0 0 []
+    ∷ trial (merge (arrays 3 5 1 3) (arrays 3 7 1 3)) underBoth largest 0 0 2 (arrays 6 12 1 3)
+    ∷ trial (merge (arrays 1 4 4 4) emptyArray) underBoth largest 0 0 2 (arrays 2 4 0 4)
+    ∷ trial (merge (arrays 3 4 1 3) oneNull) underBoth largest 8 0 0 []
+    ∷ trial (merge oneNull (arrays 3 8 1 3)) underBoth largest 9 0 0 []
+    ∷ trial (merge lengthsInField oneNull) underBoth largest 8 0 0 []
     ∷ []
 
 -- the working buffer is as long as the arena

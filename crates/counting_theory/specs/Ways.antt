@@ -12,10 +12,12 @@ use Rattle.value_table.specs.Outcome.{accepted, refused}
 use Rattle.value_table.specs.Value.{Values, value, joinValues}
 use Rattle.value_table.specs.Value as table
 use Rattle.value_table.specs.Judged.{judged, messages}
+use Rattle.counting_theory.specs.Payload.{Payload}
 use Rattle.counting_theory.specs.Trie.{size, lookup}
 use Rattle.counting_theory.specs.Label.{Equivalence, Label, Counting, CountingType}
 use Rattle.counting_theory.specs.Raw.{profileOf}
 use Rattle.counting_theory.specs.Place.{valuesOf, valuesAt, payloadAt, countOf}
+use Rattle.counting_theory.specs.Lengths.{LengthsOf}
 use Rattle.counting_theory.specs.Encoding.{typeSize, encode, typeOf}
 use Rattle.counting_theory.specs.WellFormed.{withinLimit, badTypeLength, IsType}
 use Rattle.counting_theory.specs.Answers.{equivalenceNumber, houseDefault, Left, leaves, inferred, inferredDefault, merged}
@@ -149,12 +151,14 @@ abbrev pub Alike : Left → Left → Type 0
 Alike l m = ((l .outcome ≡ m .outcome) × (l .arena ≡ m .arena)) ⊎ ((1 ≤ l .outcome .number) × (1 ≤ m .outcome .number))
 
 -- The records in use are a well-formed type, which is the profile of the messages. Each count in those bytes is the number of values
--- at that place in all the messages; a field's is the number of records there that have it.
+-- at that place in all the messages; a field's is the number of records there that have it. Both lengths there are those of the
+-- shortest and the longest array at that place.
 pub record HoldsProfile (e : Equivalence) (messages : Values) (l : Left) : Type 0 where
   pub is-type : IsType e (inUse l) (typeOf e (inUse l))
   pub profile : typeOf e (inUse l) ≡ profileOf e messages
   pub payloads : (place : List Label) → lookup Counting (typeOf e (inUse l)) place ≡ payloadAt e (valuesOf messages) place
   pub counts : (place : List Label) → countOf (lookup Counting (typeOf e (inUse l)) place) ≡ length (valuesAt e (valuesOf messages) place)
+  pub lengths : (place : List Label) (a : Payload) → lookup Counting (typeOf e (inUse l)) place ≡ some a → LengthsOf (valuesAt e (valuesOf messages) place) a
 
 -- Condition 3 of one way. Within the limits every call of the plan has run.
 pub record Repeatable (e : Equivalence) (n : ℕ) (plan : List Call) : Type 0 where

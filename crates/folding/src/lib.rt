@@ -10,7 +10,6 @@ use pass::fold_run;
 use type_arena::type_record;
 use type_arena::type_record::bad_length;
 use type_check::well_formed;
-use value_table::record;
 ghost use mathlib.Core.Path.{_≡_};
 ghost use Prim.Native.Nat.{_≤_};
 ghost use lib.ListN.{length};
@@ -52,7 +51,7 @@ fn limit_kept_apart(bytes: &[u8], work: &[u8]) -> bool
     requires { ⌜ IsType byLabel (now bytes) (typeOf byLabel (now bytes)) ⌝ }
     ensures { λ r. ⌜ r ≡ withinLimit (kindType (typeOf byLabel (now (bytes .entry)))) ⌝ }
 {
-    let mut spare = [0u8; record::MAX_LENGTH];
+    let mut spare = [0u8; type_record::LARGEST_ARENA];
     match fold_run(&mut spare, 0, 0, 0, bytes, false, work) {
         Folded::Records(n, _) => limit_kept(bytes, &spare, n),
         Folded::Full => true,

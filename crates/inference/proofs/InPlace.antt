@@ -3,6 +3,7 @@ pub mod Part
 pub mod KeyBytes
 pub mod Arrival
 pub mod Runs
+pub mod Elements
 pub mod Listing
 pub mod Compare
 pub mod Nodes

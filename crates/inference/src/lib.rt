@@ -1,4 +1,5 @@
 // Inference in place: runs of values are added to the siblings that stand in an arena.
+mod elements;
 mod finding;
 pub mod inferring;
 mod key_list;

@@ -1,4 +1,5 @@
 // Adds a payload at a label among siblings in an arena: to that of its record, or in a new one.
+use crate::elements::elements_in;
 use crate::finding::find;
 use crate::key_list::Listed;
 use crate::key_list::list_label;
@@ -84,7 +85,7 @@ pub fn locate(
     match list_label(t, kind, label, words, work) {
         Listed::TooMany => Put::NoRoom,
         Listed::Keys(keys) => {
-            let more = given(kind, weight);
+            let more = given(kind, weight, elements_in(t, kind));
             place(a, from, n, rest, kind, key, more, work, keys, label)
         }
     }

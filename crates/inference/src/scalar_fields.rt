@@ -15,10 +15,10 @@ ghost use Prim.Native.Nat.{ℕ, _*_, _≤_, _<_};
 ghost use lib.ListN.{length};
 ghost use Rattle.value_table.specs.Value.{lastScalar, Values};
 ghost use Rattle.counting_theory.specs.Label.{fieldKind, CountingType};
-ghost use Rattle.counting_theory.specs.Encoding.{typeSize};
+ghost use Rattle.counting_theory.specs.Encoding.{typeSize, typeKey};
 ghost use Rattle.type_arena.specs.Inside.Arena.{byFlag, RecordIn};
 ghost use Rattle.inference.specs.Inside.Inferring.{ArenaHolds, Starts, StandsAt, spot};
-ghost use Rattle.inference.specs.Inside.ScalarFields.{AddedSoFar, SomeAddedSoFar, plain, SomeFrom, SomeField, fieldStart, SoughtIn, withScalar, ScalarCounted, FieldCounted};
+ghost use Rattle.inference.specs.Inside.ScalarFields.{AddedSoFar, SomeAddedSoFar, plain, SomeFrom, SomeField, fieldStart, BelowAt, SoughtIn, withScalar, ScalarCounted, FieldCounted};
 
 // Where a field stands; or a field from which a search for it may begin.
 pub enum Sought {
@@ -46,6 +46,29 @@ fn field_start(b: &[u8], from: usize, n: usize, key: usize) -> usize
     from
 }
 
+// Passes fields below a key, from one that is below it up to the first with another span, and answers the last one passed.
+// Where the next field stands is then known without waiting for its span. The contract leaves free how far this goes.
+fn last_alike(b: &[u8], from: usize, n: usize, key: usize) -> usize
+    requires { ⌜ SomeFrom true (now b) n from × (from < n) × (typeKey (now b) from < key) ⌝ }
+    ensures { λ r. ⌜ (from ≤ r) × ((label : Bool) (rest : ℕ) (f : CountingType) (q free : List ℕ) →
+        ArenaHolds (byFlag label) true (now (b .entry)) n rest f q free → Starts from f → BelowAt (now (b .entry)) n key f r) ⌝ }
+{
+    let like = span_at(b, from);
+    let mut p = from;
+    let mut next = from + like;
+    while next < n {
+        if key <= key_at(b, next) {
+            return p;
+        }
+        if span_at(b, next) != like {
+            return next;
+        }
+        p = next;
+        next += like;
+    }
+    p
+}
+
 // Looks for a field among n records of fields.
 // The contract leaves free whether the field is missing where the answer is `Behind`, and which field that names: a search by the
 // whole label goes on there, and may begin at any.
@@ -64,8 +87,8 @@ fn seek_field(b: &[u8], from: usize, n: usize, key: usize) -> Sought
         if key < other {
             return Sought::Behind(before);
         }
-        before = at;
-        at += span_at(b, at);
+        before = last_alike(b, at, n, key);
+        at = before + span_at(b, before);
     }
     Sought::Behind(before)
 }
@@ -116,8 +139,8 @@ fn count_scalar(a: &mut [u8], p: usize, kind: u8, weight: usize) -> bool
     let Found::Here(q) = find_scalar(&a[inner..], held, kind) else {
         return false;
     };
-    join_payload(a, p, given(type_record::FIELD, weight));
-    join_payload(&mut a[inner..], q, given(kind, weight));
+    join_payload(a, p, given(type_record::FIELD, weight, 0));
+    join_payload(&mut a[inner..], q, given(kind, weight, 0));
     true
 }
 

@@ -11,18 +11,25 @@ use value_table::record;
 ghost use mathlib.Core.Path.{_≡_};
 ghost use mathlib.Core.Bool.{Bool, cond};
 ghost use mathlib.Core.List.{List};
-ghost use Prim.Native.Nat.{ℕ, _+_, _*_, _≤_};
+ghost use Prim.Native.Nat.{ℕ, _+_, _*_, _≤_, _<_};
 ghost use lib.Dec.{ltb};
 ghost use lib.ListN.{length};
-ghost use Rattle.counting_theory.specs.Label.{CountingType};
-ghost use Rattle.counting_theory.specs.Encoding.{typeSize};
-ghost use Rattle.type_arena.specs.Inside.Arena.{byFlag, RecordIn};
-ghost use Rattle.inference.specs.Inside.Inferring.{keySize, wanted, spot, HeadTells, ArenaHolds, Starts, resumed, Shown};
+ghost use Rattle.counting_theory.specs.Label.{compareLabel, CountingType};
+ghost use Rattle.counting_theory.specs.Encoding.{typeSize, typeSpan};
+ghost use Rattle.type_arena.specs.Inside.Arena.{byFlag, labelAt, Labelled, RecordIn};
+ghost use Rattle.type_arena.specs.Inside.LabelOrder.{orderingOf};
+ghost use Rattle.inference.specs.Inside.Inferring.{keySize, wanted, spot, HeadTells, ArenaHolds, Starts, Ahead, PassedTo, resumed, Shown};
 
 // Where a label stands among siblings, or would.
 pub enum Found {
     Here(usize),
     Missing(usize),
+}
+
+// How siblings were passed: to where the label stands or would, or up to a sibling that is still to be looked at, or their end.
+pub enum Passed {
+    Ended(Found),
+    Upto(usize),
 }
 
 // What kind and key tell of the order of two labels: the order, or that key lists settle it, and where the second one's ends.
@@ -79,9 +86,72 @@ pub fn resume_at(b: &[u8], p: usize, n: usize, field: bool) -> usize
     if next < n { next } else { p }
 }
 
+// A label against that of the record at p. Key lists go by their lengths, which what is left of both tells apart where one ends, then by
+// the first key that differs.
+fn compare_at(
+    b: &[u8],
+    p: usize,
+    kind: u8,
+    key: usize,
+    work: &[u8],
+    keys: usize,
+    label: bool,
+) -> Order
+    requires { ⌜ Labelled (now b) p × (keySize * keys ≤ length (now work)) ⌝ }
+    ensures { λ r. ⌜ orderingOf r ≡ compareLabel (wanted (byFlag label) kind key keys (now (work .entry))) (labelAt (byFlag label) (now (b .entry)) p) ⌝ }
+{
+    let end = match compare_head(b, p, kind, key, label) {
+        Head::Settled(order) => return order,
+        Head::Lists(end) => end,
+    };
+    let mut i = 0;
+    let mut j = p + 1;
+    let mut so_far = Order::Same;
+    loop {
+        if i == keys || j == end {
+            return then_order(compare_numbers(keys - i, end - j), so_far);
+        }
+        let k = number16(work, KEY_SIZE * i);
+        so_far = then_order(so_far, compare_numbers(k, key_at(b, j)));
+        i += 1;
+        j += span_at(b, j);
+    }
+}
+
+// Passes the siblings behind the one at p, which the label comes after, as long as the label comes after them and they have its span: where
+// the next one stands is then known before the span of this one is read.
+fn pass_alike(
+    b: &[u8],
+    p: usize,
+    n: usize,
+    kind: u8,
+    key: usize,
+    work: &[u8],
+    keys: usize,
+    label: bool,
+) -> Passed
+    requires { ⌜ Shown (byFlag label) (now b) n p × (p < n) × (keySize * keys ≤ length (now work)) ⌝ }
+    ensures { λ r. ⌜ ((field : Bool) (rest : ℕ) (f : CountingType) (q free : List ℕ) → ArenaHolds (byFlag label) field (now (b .entry)) n rest f q free →
+        Ahead (wanted (byFlag label) kind key keys (now (work .entry))) f (p + typeSpan (now (b .entry)) p) →
+        PassedTo (wanted (byFlag label) kind key keys (now (work .entry))) f (p + typeSpan (now (b .entry)) p) r) ⌝ }
+{
+    let span = span_at(b, p);
+    let mut at = p + span;
+    while at < n {
+        if span_at(b, at) != span {
+            return Passed::Upto(at);
+        }
+        match compare_at(b, at, kind, key, work, keys, label) {
+            Order::Less => return Passed::Ended(Found::Missing(at)),
+            Order::Same => return Passed::Ended(Found::Here(at)),
+            Order::More => at += span,
+        }
+    }
+    Passed::Upto(at)
+}
+
 // Where the label stands among n records of siblings, or would. The search begins where the last one ended, at `from`, and starts again
-// if the label comes before the sibling there. Key lists go by their lengths, which what is left of both tells apart where one ends, then
-// by the first key that differs.
+// if the label comes before the sibling there.
 pub fn search(
     b: &[u8],
     from: usize,
@@ -100,22 +170,7 @@ pub fn search(
     let mut at = search_start(from, n);
     let mut resumed = 0 < at;
     while at < n {
-        let mut i = 0;
-        let mut j = at + 1;
-        let mut so_far = Order::Same;
-        let order = match compare_head(b, at, kind, key, label) {
-            Head::Settled(order) => order,
-            Head::Lists(end) => loop {
-                if i == keys || j == end {
-                    break then_order(compare_numbers(keys - i, end - j), so_far);
-                }
-                let k = number16(work, KEY_SIZE * i);
-                so_far = then_order(so_far, compare_numbers(k, key_at(b, j)));
-                i += 1;
-                j += span_at(b, j);
-            },
-        };
-        match order {
+        match compare_at(b, at, kind, key, work, keys, label) {
             Order::Less => {
                 if !resumed {
                     return Found::Missing(at);
@@ -123,7 +178,10 @@ pub fn search(
                 at = 0;
             }
             Order::Same => return Found::Here(at),
-            Order::More => at += span_at(b, at),
+            Order::More => match pass_alike(b, at, n, kind, key, work, keys, label) {
+                Passed::Ended(found) => return found,
+                Passed::Upto(next) => at = next,
+            },
         }
         resumed = false;
     }

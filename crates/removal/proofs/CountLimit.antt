@@ -7,20 +7,22 @@ use native.Mathlib.Omega.{arith}
 use lib.Dec.{leb}
 use lib.ListN.{length}
 use borrow.Author.Tests.{leb-true, le-leb, lt-leb}
-use Rattle.counting_theory.specs.Payload.{Payload, join}
+use Rattle.removal_theory.specs.Payload.{Payload, join}
 use Rattle.counting_theory.specs.Trie.{nil, node, total, largestTotal}
-use Rattle.counting_theory.specs.Label.{Equivalence, byKind, Counting, CountingType}
-use Rattle.counting_theory.specs.Encoding.{typePayload, typeOf, Tagged}
-use Rattle.counting_theory.specs.Inside.TypeBytes.{typeCount}
-use Rattle.counting_theory.specs.WellFormed.{maxTotal, withinLimit, fieldsOf}
-use Rattle.counting_theory.proofs.Encoding.Header.{payload-count}
-use Rattle.counting_theory.proofs.Tagged.Parts.{tagged-parts}
-use Rattle.counting_theory.proofs.WellFormed.Fitting.{weight-addend}
+use Rattle.counting_theory.specs.Label.{Equivalence, byKind}
+use Rattle.removal_theory.specs.Label.{Counting, CountingType}
+use Rattle.removal_theory.specs.Encoding.{typePayload, typeOf, Tagged}
+use Rattle.removal_theory.specs.Inside.TypeBytes.{typeCount}
+use Rattle.counting_theory.specs.WellFormed.{maxTotal}
+use Rattle.removal_theory.specs.WellFormed.{withinLimit, fieldsOf}
+use Rattle.removal_theory.proofs.Encoding.Header.{payload-count}
+use Rattle.removal_theory.proofs.Tagged.Parts.{tagged-parts}
+use Rattle.removal_theory.proofs.WellFormed.Fitting.{weight-addend}
 use Rattle.counting_theory.proofs.WellFormed.Tests.{both}
-use Rattle.counting_theory.proofs.WellFormed.Limit.{limit-totals}
+use Rattle.removal_theory.proofs.WellFormed.Limit.{limit-totals}
 use Rattle.byte_records.proofs.Tests.{and-parts}
-use Rattle.type_arena.specs.Inside.Addend.{rest, Coded}
-use Rattle.type_arena.proofs.FirstAddend.{Addend, addend, type-empty, coded-type}
+use Rattle.removal_arena.specs.Inside.Addend.{rest, Coded}
+use Rattle.removal_arena.proofs.FirstAddend.{Addend, addend, type-empty, coded-type}
 use Rattle.removal.specs.Removed.{taken}
 use Rattle.removal.proofs.Difference as steps
 use Rattle.removal.proofs.Difference.{Removal, apart, dropped, lessened}

@@ -10,17 +10,19 @@ use lib.ListN.{length}
 use borrow.Author.Tests.{le-ltb}
 use Rattle.byte_records.specs.Number.{Bytes}
 use Rattle.counting_theory.specs.Trie.{reduce}
-use Rattle.counting_theory.specs.Label.{Equivalence, Counting, CountingType}
-use Rattle.counting_theory.specs.Encoding.{encode, typeOf}
-use Rattle.counting_theory.specs.WellFormed.{fieldCounts, badTypeLength, IsType}
+use Rattle.counting_theory.specs.Label.{Equivalence}
+use Rattle.removal_theory.specs.Label.{Counting, CountingType}
+use Rattle.removal_theory.specs.Encoding.{encode, typeOf}
+use Rattle.removal_theory.specs.WellFormed.{fieldCounts, badTypeLength, IsType}
 use Rattle.counting_theory.specs.Answers.{equivalenceNumber, Written, turnedDown}
 use Rattle.counting_theory.proofs.Trie.Canonical.{some-none}
 use Rattle.counting_theory.proofs.Trie.Profile.{reduce-comm}
-use Rattle.counting_theory.proofs.Label.{counting-laws}
-use Rattle.counting_theory.proofs.Encoding.Bytes.{bytes-encode}
-use Rattle.counting_theory.proofs.WellFormed.AcceptsExactly.{type-unique, well-formed-type}
-use Rattle.counting_theory.proofs.Ways.Calls.{equivalence-of, encode-length, encode-formed}
-use Rattle.counting_theory.proofs.Ways.Merges.{own-bytes, accepted-merge}
+use Rattle.removal_theory.proofs.Label.{counting-laws}
+use Rattle.removal_theory.proofs.Encoding.Bytes.{bytes-encode}
+use Rattle.removal_theory.proofs.WellFormed.AcceptsExactly.{type-unique, well-formed-type}
+use Rattle.counting_theory.proofs.Ways.Calls.{equivalence-of}
+use Rattle.removal_theory.proofs.Ways.Calls.{encode-length, encode-formed}
+use Rattle.removal_theory.proofs.Ways.Merges.{own-bytes, accepted-merge}
 use Rattle.removal.specs.Difference.{difference}
 use Rattle.removal.specs.Removed.{taken, keepingFields, removedType, removedTypes, removed, writes, MergesTo, Removable, AtMostOne, GivesDifference, RefusesExactly, MergeUndone}
 use Rattle.removal.proofs.Difference.{steps, difference-reduce, reduce-cancel}

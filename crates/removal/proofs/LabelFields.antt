@@ -9,15 +9,18 @@ use lib.Dec.{eqb}
 use borrow.Author.Tests.{eqb-true, eq-eqb}
 use Rattle.byte_records.proofs.Tests.{and-parts}
 use Rattle.value_table.specs.Value.{recordKind}
-use Rattle.counting_theory.specs.Payload.{Payload}
+use Rattle.removal_theory.specs.Payload.{Payload}
 use Rattle.counting_theory.specs.Trie.{nil, node}
-use Rattle.counting_theory.specs.Label.{byLabel, Label, listed, fieldLabel, compareLabel, Counting, CountingType}
-use Rattle.counting_theory.specs.Encoding.{siblingKeys, Tagged}
-use Rattle.counting_theory.specs.WellFormed.{fieldsOf, fieldCounts, IsType}
-use Rattle.counting_theory.proofs.Label.{kind-eq, label-order, counting-laws}
-use Rattle.counting_theory.proofs.Tagged.Parts.{holdsFields, Shape, tagged-parts, shape-keys}
+use Rattle.counting_theory.specs.Label.{byLabel, Label, listed, fieldLabel, compareLabel}
+use Rattle.removal_theory.specs.Label.{Counting, CountingType}
+use Rattle.removal_theory.specs.Encoding.{siblingKeys, Tagged}
+use Rattle.removal_theory.specs.WellFormed.{fieldsOf, fieldCounts, IsType}
+use Rattle.counting_theory.proofs.Label.{kind-eq, label-order}
+use Rattle.removal_theory.proofs.Label.{counting-laws}
+use Rattle.counting_theory.proofs.Tagged.Parts.{holdsFields}
+use Rattle.removal_theory.proofs.Tagged.Parts.{Shape, tagged-parts, shape-keys}
 use Rattle.counting_theory.proofs.WellFormed.Tests.{both, three, implies}
-use Rattle.counting_theory.proofs.WellFormed.Nodes.{fieldCounts-parts}
+use Rattle.removal_theory.proofs.WellFormed.Nodes.{fieldCounts-parts}
 use Rattle.removal.specs.Difference.{left, difference}
 use Rattle.removal.specs.Removed.{taken}
 use Rattle.removal.proofs.Difference.{Removal, rest, apart, dropped, lessened, steps}

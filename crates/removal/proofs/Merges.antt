@@ -1,4 +1,4 @@
--- When call 5 gives a whole: exactly when the types of its two inputs reduce to that of the whole.
+-- When a merge gives a whole: exactly when the types of its two inputs reduce to that of the whole.
 use mathlib.Core.Path.{_≡_, refl, ap}
 use mathlib.Core.Bool.{cond}
 use mathlib.Core.List.{List}
@@ -9,13 +9,15 @@ use lib.ListN.{length}
 use borrow.Author.Tests.{le-ltb}
 use Rattle.byte_records.specs.Number.{Bytes}
 use Rattle.counting_theory.specs.Trie.{size, reduce}
-use Rattle.counting_theory.specs.Label.{Equivalence, Counting, CountingType}
-use Rattle.counting_theory.specs.Encoding.{typeRecords, encode}
-use Rattle.counting_theory.specs.WellFormed.{IsType}
-use Rattle.counting_theory.specs.Answers.{equivalenceNumber, Written, turnedDown, stored, largestArena, mergedTypes, merged}
-use Rattle.counting_theory.proofs.Encoding.Header.{length-encode}
-use Rattle.counting_theory.proofs.Ways.Calls.{merged-types}
-use Rattle.counting_theory.proofs.Ways.Merges.{own-bytes, largest-allowed, Merging, accepted-merge}
+use Rattle.counting_theory.specs.Label.{Equivalence}
+use Rattle.removal_theory.specs.Label.{Counting, CountingType}
+use Rattle.removal_theory.specs.Encoding.{typeRecords, encode}
+use Rattle.removal_theory.specs.WellFormed.{IsType}
+use Rattle.counting_theory.specs.Answers.{equivalenceNumber, Written, turnedDown}
+use Rattle.removal_theory.specs.Answers.{stored, largestArena, mergedTypes, merged}
+use Rattle.removal_theory.proofs.Encoding.Header.{length-encode}
+use Rattle.removal_theory.proofs.Ways.Calls.{merged-types}
+use Rattle.removal_theory.proofs.Ways.Merges.{own-bytes, largest-allowed, Merging, accepted-merge}
 use Rattle.removal.specs.Removed.{writes, MergesTo}
 
 -- what an arena of n bytes gets of the type, told by its bytes

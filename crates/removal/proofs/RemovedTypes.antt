@@ -6,18 +6,21 @@ use Prim.Native.Nat.{ℕ, _+_}
 use native.Mathlib.Omega.{arith}
 use lib.Dec.{eqb}
 use Rattle.value_table.specs.Value.{recordKind}
-use Rattle.counting_theory.specs.Payload.{Payload}
+use Rattle.removal_theory.specs.Payload.{Payload}
 use Rattle.counting_theory.specs.Trie.{nil, Sorted, total}
-use Rattle.counting_theory.specs.Label.{Equivalence, byKind, byLabel, Label, listed, Counting, CountingType}
-use Rattle.counting_theory.specs.Place.{FieldTotals}
-use Rattle.counting_theory.specs.Encoding.{siblingKeys, encode, Tagged}
-use Rattle.counting_theory.specs.WellFormed.{fieldsOf, fieldCounts, Shallow, IsType}
-use Rattle.counting_theory.proofs.Payload.{count-join}
+use Rattle.counting_theory.specs.Label.{Equivalence, byKind, byLabel, Label, listed}
+use Rattle.removal_theory.specs.Label.{Counting, CountingType}
+use Rattle.removal_theory.specs.Place.{FieldTotals}
+use Rattle.removal_theory.specs.Encoding.{siblingKeys, encode, Tagged}
+use Rattle.removal_theory.specs.WellFormed.{fieldsOf, fieldCounts, Shallow, IsType}
+use Rattle.removal_theory.proofs.Payload.{count-join}
 use Rattle.counting_theory.proofs.Trie.Sizes.{total-reduce}
-use Rattle.counting_theory.proofs.Label.{counting-laws}
-use Rattle.counting_theory.proofs.Tagged.Parts.{holdsFields, Shape, listed-cong, tagged-parts, parts-tagged, shape-keys}
-use Rattle.counting_theory.proofs.WellFormed.Limit.{limit-part}
-use Rattle.counting_theory.proofs.WellFormed.Nodes.{depthUnder, shallow-parts, parts-shallow, fieldCounts-parts}
+use Rattle.removal_theory.proofs.Label.{counting-laws}
+use Rattle.counting_theory.proofs.Tagged.Parts.{holdsFields, listed-cong}
+use Rattle.removal_theory.proofs.Tagged.Parts.{Shape, tagged-parts, parts-tagged, shape-keys}
+use Rattle.removal_theory.proofs.WellFormed.Limit.{limit-part}
+use Rattle.counting_theory.proofs.WellFormed.Nodes.{depthUnder}
+use Rattle.removal_theory.proofs.WellFormed.Nodes.{shallow-parts, parts-shallow, fieldCounts-parts}
 use Rattle.removal.specs.Difference.{left}
 use Rattle.removal.specs.Removed.{taken}
 use Rattle.removal.proofs.Difference.{rest, apart, dropped, lessened}

@@ -4,14 +4,14 @@ use mathlib.Core.Bool.{true}
 use Prim.Native.Nat.{ℕ, _+_, _-_, _≤_, _<_, compare, Ordering, Ordering·lt as lt, Ordering·eq as eq, Ordering·gt as gt}
 use native.Mathlib.Omega.{arith}
 use borrow.Author.Tests.{le-leb}
-use Rattle.counting_theory.specs.Payload.{Payload, join, proper}
+use Rattle.removal_theory.specs.Payload.{Payload, join, proper}
 use Rattle.counting_theory.specs.Trie.{nil, node}
 use Rattle.counting_theory.specs.Inside.TrieLaws.{flip}
-use Rattle.counting_theory.specs.Label.{Counting, CountingType}
-use Rattle.counting_theory.specs.WellFormed.{counted, measured}
+use Rattle.removal_theory.specs.Label.{Counting, CountingType}
+use Rattle.removal_theory.specs.WellFormed.{counted, measured}
 use Rattle.counting_theory.proofs.Order.{number-refl, number-order, compare-less, more-compare}
 use Rattle.counting_theory.proofs.WellFormed.Tests.{three}
-use Rattle.counting_theory.proofs.WellFormed.Nodes.{counted-parts}
+use Rattle.removal_theory.proofs.WellFormed.Nodes.{counted-parts}
 use Rattle.removal.specs.Difference.{gone, left}
 use Rattle.removal.specs.Removed.{takenBy, taken}
 use Rattle.removal.proofs.Difference.{TakeLaws, Each}

@@ -3,13 +3,13 @@ use mathlib.Core.Path.{refl}
 use mathlib.Core.List.{flatMap}
 use Rattle.byte_records.specs.Number.{bytesOf, numberOf, numberAt}
 use Rattle.byte_records.specs.Format.{fieldAt, fieldsFrom, recordBytes}
-use Rattle.counting_theory.specs.Payload.{numbers, ofNumbers, proper}
+use Rattle.removal_theory.specs.Payload.{numbers, ofNumbers, proper}
 use Rattle.counting_theory.specs.Order.{then, comparePair, compareList, compareOn}
 use Rattle.counting_theory.specs.Trie as trie
 use Rattle.counting_theory.specs.Label.{listed, compareKeys}
-use Rattle.counting_theory.specs.Encoding as types
-use Rattle.counting_theory.specs.WellFormed as rules
-use Rattle.counting_theory.specs.Trials.{typeBytes}
+use Rattle.removal_theory.specs.Encoding as types
+use Rattle.removal_theory.specs.WellFormed as rules
+use Rattle.removal_theory.specs.Trials.{typeBytes}
 use Rattle.removal.specs.Difference as less
 use Rattle.removal.specs.Removed.{takenBy, taken, removedType, removed}
 use Rattle.removal.specs.Trials.{TrialsHold}

@@ -11,26 +11,28 @@ use lib.Seq.{sets}
 use borrow.Author.Tests.{eqb-true, le-leb}
 use Rattle.value_table.specs.Value.{maxDepth, recordKind}
 use Rattle.counting_theory.specs.Trie.{nil, node}
-use Rattle.counting_theory.specs.Label.{Equivalence, byKind, byLabel, Counting, CountingType}
-use Rattle.counting_theory.specs.Encoding.{typeSize, encode, typeOf}
-use Rattle.counting_theory.specs.WellFormed.{maxTotal, fieldsOf, fieldCounts, wellFormed, badTypeLength, IsType}
+use Rattle.counting_theory.specs.Label.{Equivalence, byKind, byLabel}
+use Rattle.removal_theory.specs.Label.{Counting, CountingType}
+use Rattle.removal_theory.specs.Encoding.{typeSize, encode, typeOf}
+use Rattle.counting_theory.specs.WellFormed.{maxTotal}
+use Rattle.removal_theory.specs.WellFormed.{fieldsOf, fieldCounts, wellFormed, badTypeLength, IsType}
 use Rattle.counting_theory.specs.Answers.{equivalenceOf, turnedDown}
 use Rattle.answers.specs.declared.Answered.the-variants.{Accepted, Refused}
 use Rattle.answers.specs.declared.Refusal.the-variants.{NotPart, Room}
-use Rattle.answers.specs.Inside.Front.{WrittenInFront}
-use Rattle.type_arena.specs.Inside.Arena.{byFlag}
+use Rattle.removal_check.specs.Inside.Front.{WrittenInFront}
+use Rattle.removal_arena.specs.Inside.Arena.{byFlag}
 use Rattle.removal.specs.Difference.{difference}
 use Rattle.removal.specs.Removed.{taken, keepingFields, removedType, removedTypes, removedUnder, removed}
 use Rattle.removal.specs.Inside.Removing.{WholeRun, bytesLeft, runLeft, placed}
 use Rattle.byte_records.proofs.Tests.{and-parts}
-use Rattle.counting_theory.proofs.Label.{counting-laws}
+use Rattle.removal_theory.proofs.Label.{counting-laws}
 use Rattle.counting_theory.proofs.Trie.Canonical.{some-none}
 use Rattle.counting_theory.proofs.WellFormed.Tests.{both, three, implies}
-use Rattle.counting_theory.proofs.WellFormed.Nodes.{fieldCounts-parts}
-use Rattle.type_arena.proofs.FirstAddend.{type-coded}
-use Rattle.type_arena.proofs.Runs.{type-run}
-use Rattle.answers.proofs.Exact.{Exact, exact-cond, exact-stored}
-use Rattle.answers.proofs.Fronts.{front-refused, front-room, front-bytes, sets-front}
+use Rattle.removal_theory.proofs.WellFormed.Nodes.{fieldCounts-parts}
+use Rattle.removal_arena.proofs.FirstAddend.{type-coded}
+use Rattle.removal_arena.proofs.Runs.{type-run}
+use Rattle.removal_check.proofs.Exact.{Exact, exact-cond, exact-stored}
+use Rattle.removal_check.proofs.Fronts.{front-refused, front-room, front-bytes, sets-front}
 use Rattle.removal.proofs.Difference.{steps}
 use Rattle.removal.proofs.Taken.{taken-laws}
 use Rattle.removal.proofs.LabelFields.{fields-out}

@@ -9,11 +9,13 @@ use lib.Dec.{ltb}
 use lib.ListN.{length}
 use Rattle.byte_records.specs.Number.{Bytes}
 use Rattle.value_table.specs.Outcome.{accepted}
-use Rattle.counting_theory.specs.Payload.{Payload}
-use Rattle.counting_theory.specs.Label.{Equivalence, Counting, CountingType}
-use Rattle.counting_theory.specs.Encoding.{typeRecords, typeOf}
-use Rattle.counting_theory.specs.WellFormed.{fieldCounts, wellFormed, badTypeLength}
-use Rattle.counting_theory.specs.Answers.{equivalenceOf, equivalenceNumber, Written, turnedDown, stored, largestArena, merged}
+use Rattle.removal_theory.specs.Payload.{Payload}
+use Rattle.counting_theory.specs.Label.{Equivalence}
+use Rattle.removal_theory.specs.Label.{Counting, CountingType}
+use Rattle.removal_theory.specs.Encoding.{typeRecords, typeOf}
+use Rattle.removal_theory.specs.WellFormed.{fieldCounts, wellFormed, badTypeLength}
+use Rattle.counting_theory.specs.Answers.{equivalenceOf, equivalenceNumber, Written, turnedDown}
+use Rattle.removal_theory.specs.Answers.{stored, largestArena, merged}
 use Rattle.removal.specs.Difference.{Taken, short, gone, left, difference}
 
 -- what is left of a count from which another is taken
@@ -54,7 +56,7 @@ removed whole part equivalence arena =
 abbrev pub writes : List ℕ → Written
 writes b = record { outcome = accepted (typeRecords b); bytes = b }
 
--- call 5 merges the type of bytes b with the part, and that gives the whole
+-- the type of bytes b, merged with the part, gives the whole
 abbrev pub MergesTo : Equivalence → List ℕ → List ℕ → List ℕ → Type 0
 MergesTo e b part whole = merged b part (equivalenceNumber e) largestArena ≡ writes whole
 

@@ -2,9 +2,10 @@
 use mathlib.Core.Path.{_≡_}
 use mathlib.Core.List.{List, [], _∷_}
 use Prim.Native.Nat.{ℕ, _*_}
-use Rattle.counting_theory.specs.Encoding.{typeSize}
-use Rattle.counting_theory.specs.Answers.{Written, turnedDown, largestArena}
-use Rattle.counting_theory.specs.Trials.{TypeRecord, typeBytes, nineByKind, nineByLabel, longerFirst, oneNull, expected}
+use Rattle.removal_theory.specs.Encoding.{typeSize}
+use Rattle.counting_theory.specs.Answers.{Written, turnedDown}
+use Rattle.removal_theory.specs.Answers.{largestArena}
+use Rattle.removal_theory.specs.Trials.{TypeRecord, typeBytes, nineByKind, nineByLabel, longerFirst, oneNull, expected}
 use Rattle.removal.specs.Removed.{removed}
 
 -- {1: null}, one of the three messages of the nine records, and what the two others are under kind and under label

@@ -3,24 +3,24 @@ mod pass;
 
 use answers::Answered;
 use answers::Refusal;
-use answers::bytes_written;
 use byte_records::clearing::clear_from;
 use pass::Remainder;
 use pass::remove_union;
-use type_arena::level::Level;
-use type_arena::type_record;
-use type_check::pair::Pair;
-use type_check::pair::judge_pair;
+use removal_arena::level::Level;
+use removal_arena::type_record;
+use removal_check::pair::Pair;
+use removal_check::pair::judge_pair;
+use removal_check::written::bytes_written;
 use value_table::record;
 ghost use mathlib.Core.Path.{_≡_};
 ghost use mathlib.Core.List.{[]};
 ghost use lib.ListN.{length};
-ghost use Rattle.counting_theory.specs.Encoding.{typeOf};
-ghost use Rattle.counting_theory.specs.WellFormed.{IsType};
+ghost use Rattle.removal_theory.specs.Encoding.{typeOf};
+ghost use Rattle.removal_theory.specs.WellFormed.{IsType};
 ghost use Rattle.counting_theory.specs.Answers.{leaves};
-ghost use Rattle.type_arena.specs.Inside.Arena.{byFlag};
+ghost use Rattle.removal_arena.specs.Inside.Arena.{byFlag};
 ghost use Rattle.answers.specs.Outcomes.{leftBy};
-ghost use Rattle.answers.specs.Inside.Front.{WrittenInFront};
+ghost use Rattle.removal_check.specs.Inside.Front.{WrittenInFront};
 ghost use Rattle.removal.specs.Removed.{removedType, removedTypes, removed};
 
 // What is left of a well-formed whole by a well-formed part, in the front of the arena.

@@ -12,7 +12,6 @@ use line::put_number_and;
 use type_arena::addend::union_total;
 use type_arena::equivalence::BY_KIND;
 use type_arena::type_record;
-use value_table::record;
 use walk::largest_count;
 use walk::put_run;
 ghost use mathlib.Core.Path.{_≡_};
@@ -27,11 +26,8 @@ ghost use Rattle.report.specs.Line.{refusalLine};
 ghost use Rattle.report.specs.Inside.Room.{lineLimit, refusalLimit};
 ghost use Rattle.report.specs.Report.{report, programEquivalence, printed};
 
-// The bytes of the largest arena.
-const ARENA_LENGTH: usize = record::MAX_LENGTH / type_record::SIZE * type_record::SIZE;
-
 // The most bytes that are printed: a line for each record of the largest arena.
-pub const TEXT_LIMIT: usize = LINE_LIMIT * (ARENA_LENGTH / type_record::SIZE);
+pub const TEXT_LIMIT: usize = LINE_LIMIT * (type_record::LARGEST_ARENA / type_record::SIZE);
 
 // Stores the report of a well-formed type at the front of the buffer, and answers its length.
 fn put_report(bytes: &[u8], out: &mut [u8]) -> usize
@@ -67,8 +63,8 @@ fn infer_input(input: &[u8], arena: &mut [u8], work: &mut [u8]) -> Answered
 pub fn put_profile(input: &[u8], out: &mut [u8; TEXT_LIMIT]) -> usize
     ensures { λ r. ⌜ textLeft r (now (out .exit)) ≡ leavesText (printed (now (input .entry))) (now (out .entry)) ⌝ }
 {
-    let mut arena = [0u8; ARENA_LENGTH];
-    let mut work = [0u8; ARENA_LENGTH];
+    let mut arena = [0u8; type_record::LARGEST_ARENA];
+    let mut work = [0u8; type_record::LARGEST_ARENA];
     let answer = answer_of(infer_input(input, &mut arena, &mut work));
     if answer.number == 0 {
         let n = type_record::SIZE * (answer.count as usize);

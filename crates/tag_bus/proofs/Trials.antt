@@ -28,7 +28,7 @@ ones-last = ones-add 63 0 refl ∙ ap (λ n. 1 + n) ones-zero
 largest-key : TrialHolds largestKey
 unfolding tableBytes typeBytes entryBytes inferredTagBus badEntriesLength entries entryCount word flatMap
     bytesOf numberOf numberAt fieldAt fieldsFrom recordBytes
-    table.header table.kindAt table.zeroAt table.keyAt table.spanAt table.keys table.member
+    table.header table.kindAt table.zeroAt table.keyAt table.spanAt table.keys table.count table.member
     judging.badLength judging.badKind judging.badSpan judging.badKey judging.tooLarge judging.repeated judging.tooMany judging.tooDeep judging.fault judging.faultIn
     judging.close judging.enter judging.walk judging.judgedUpTo judging.decode judging.messages
     numbers ofNumbers one oneField join listed insertKey ascending raw profileOf then comparePair compareList compareOn compareKeys
@@ -39,7 +39,7 @@ largest-key = rw ones-last refl
 pub trials-hold : TrialsHold
 unfolding trials tableBytes typeBytes entryBytes inferredTagBus badEntriesLength ones onesIn entries entryCount word flatMap
     bytesOf numberOf numberAt fieldAt fieldsFrom recordBytes
-    table.header table.kindAt table.zeroAt table.keyAt table.spanAt table.keys table.member
+    table.header table.kindAt table.zeroAt table.keyAt table.spanAt table.keys table.count table.member
     judging.badLength judging.badKind judging.badSpan judging.badKey judging.tooLarge judging.repeated judging.tooMany judging.tooDeep judging.fault judging.faultIn
     judging.close judging.enter judging.walk judging.judgedUpTo judging.decode judging.messages
     numbers ofNumbers one oneField join listed insertKey ascending raw profileOf then comparePair compareList compareOn compareKeys

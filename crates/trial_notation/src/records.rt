@@ -1,14 +1,20 @@
 // Value records and type records in a buffer. Byte 1 of a record is the high byte of its kind; what lies beyond the buffer is
 // passed over.
+use crate::text::byte_at;
 use crate::text::read_digit;
 use type_arena::type_record;
 use value_table::record;
 ghost use Prim.Native.Nat.{_≤_, _<_};
 
+// Records of tables, of types, and of plain types, which are without the lengths of arrays.
 pub enum Layout {
     Value,
     Type,
+    Plain,
 }
+
+// The bytes of a record of a plain type.
+pub const PLAIN_SIZE: usize = removal_arena::type_record::SIZE;
 
 // Where a number begins in its record, and how many bytes it has.
 struct Extent {
@@ -16,12 +22,22 @@ struct Extent {
     width: usize,
 }
 
-// The last of the numbers, which only a type record has.
-const COUNT: usize = 3;
+// The numbers of a record: a value record has the first three, one of a plain type the first four.
+pub const KIND: usize = 0;
+
+pub const KEY: usize = 1;
+
+pub const SPAN: usize = 2;
+
+pub const COUNT: usize = 3;
+
+pub const SHORTEST: usize = 4;
+
+pub const LONGEST: usize = 5;
 
 pub const RECORD: u64 = record::RECORD as u64;
 
-const ARRAY: u64 = record::ARRAY as u64;
+pub const ARRAY: u64 = record::ARRAY as u64;
 
 // What a run repeats: null; a field with null in it; a record with such a field; or an array around the next, which ends before a
 // place.
@@ -41,11 +57,21 @@ pub struct Run {
 
 // Where the record at a place begins, in bytes.
 pub fn start_of(layout: Layout, i: usize) -> usize
-    ensures { λ r. ⌜ r < 262144 ⌝ }
+    ensures { λ r. ⌜ r < 524288 ⌝ }
 {
     match layout {
         Layout::Value => i % 16384 * record::SIZE,
         Layout::Type => i % 16384 * type_record::SIZE,
+        Layout::Plain => i % 16384 * PLAIN_SIZE,
+    }
+}
+
+// How many records so many bytes have.
+pub fn count_in(layout: Layout, length: usize) -> usize {
+    match layout {
+        Layout::Value => length / record::SIZE,
+        Layout::Type => length / type_record::SIZE,
+        Layout::Plain => length / PLAIN_SIZE,
     }
 }
 
@@ -66,60 +92,89 @@ fn put_bytes(bytes: &mut [u8], p: usize, width: usize, number: u64)
     }
 }
 
-// Kind with byte 1, key, span, count.
+// The number that ends in a byte.
+fn with_byte(number: u64, byte: u8) -> u64 {
+    number % 72057594037927936 * 256 + byte as u64
+}
+
+// The number stored in so many bytes before a place.
+fn number_before(bytes: &[u8], end: usize, width: usize) -> u64 {
+    let mut number = 0;
+    let mut p = end;
+    for _ in 0..width {
+        p = std::num::wrapping_sub_usize(p, 1);
+        number = with_byte(number, byte_at(bytes, p));
+    }
+    number
+}
+
+// Kind with byte 1, key, span, count, shortest, longest. Behind the last nothing is stored.
 fn extent_of(j: usize) -> Extent
-    ensures { λ r. ⌜ (r .start ≤ 8) × (r .width ≤ 8) ⌝ }
+    ensures { λ r. ⌜ (r .start ≤ 20) × (r .width ≤ 8) ⌝ }
 {
     match j {
         0 => Extent { start: 0, width: 2 },
         1 => Extent { start: 2, width: 2 },
         2 => Extent { start: 4, width: 4 },
-        _ => Extent { start: 8, width: 8 },
+        3 => Extent { start: 8, width: 8 },
+        4 => Extent {
+            start: 16,
+            width: 4,
+        },
+        5 => Extent {
+            start: 20,
+            width: 4,
+        },
+        _ => Extent { start: 0, width: 0 },
     }
 }
 
-// Stores number `at % 4` of record `at / 4`.
-fn put_number(bytes: &mut [u8], layout: Layout, at: usize, number: u64) {
-    let e = extent_of(at % 4);
-    put_bytes(bytes, start_of(layout, at / 4) + e.start, e.width, number);
+// Stores number j of record i.
+fn put_number(bytes: &mut [u8], layout: Layout, i: usize, j: usize, number: u64) {
+    let e = extent_of(j);
+    put_bytes(bytes, start_of(layout, i) + e.start, e.width, number);
 }
 
-// The number of the next character: another one after a space. A value record has no count.
-fn next_at(layout: Layout, at: usize, c: u8) -> usize
-    requires { ⌜ at < 65536 ⌝ }
-    ensures { λ r. ⌜ r < 65536 ⌝ }
+// Number j of record i.
+pub fn number_at(bytes: &[u8], layout: Layout, i: usize, j: usize) -> u64 {
+    let e = extent_of(j);
+    number_before(bytes, start_of(layout, i) + e.start + e.width, e.width)
+}
+
+// The number of the next character, where eight are told for each record: another one after a space, and the last, which isn't stored, at a
+// semicolon.
+fn next_at(at: usize, c: u8) -> usize
+    requires { ⌜ at < 131072 ⌝ }
+    ensures { λ r. ⌜ r < 131072 ⌝ }
 {
-    if c != b' ' {
-        return at;
-    }
-    match layout {
-        Layout::Value => (at + 1 + (at + 1) % 4 / COUNT) % 65536,
-        Layout::Type => (at + 1) % 65536,
+    match c {
+        b' ' => (at + 1) % 131072,
+        b';' => at / 8 * 8 + 7,
+        _ => at,
     }
 }
 
 // Stores records from place i on, written as in document 01: "5 0 2; 1 1 1". Returns the place behind the last one.
 pub fn put_text(bytes: &mut [u8], layout: Layout, i: usize, text: &[u8]) -> usize {
-    let mut at = i % 16384 * 4;
+    let mut at = i % 16384 * 8;
     let mut number = 0;
     let n = text.len();
     for k in 0..n {
-        at = next_at(layout, at, text[k]);
+        at = next_at(at, text[k]);
         number = read_digit(number, text[k]);
-        put_number(bytes, layout, at, number);
+        put_number(bytes, layout, at / 8, at % 8, number);
     }
     if n == 0 {
         return i;
     }
-    at / 4 + 1
+    at / 8 + 1
 }
 
 // Stores a record, with count 1 where it has one.
 fn put(bytes: &mut [u8], layout: Layout, i: usize, kind: u64, key: u64, span: u64) {
-    let at = i % 16384 * 4;
-    put_number(bytes, layout, at, kind);
-    put_number(bytes, layout, at + 1, key);
-    put_number(bytes, layout, at + 2, span);
+    put_number(bytes, layout, i, KIND, kind);
+    put_number(bytes, layout, i, KEY, key);
+    put_number(bytes, layout, i, SPAN, span);
     put_count(bytes, layout, i, 1);
 }
 
@@ -127,7 +182,18 @@ fn put(bytes: &mut [u8], layout: Layout, i: usize, kind: u64, key: u64, span: u6
 pub fn put_count(bytes: &mut [u8], layout: Layout, i: usize, count: u64) {
     match layout {
         Layout::Value => (),
-        Layout::Type => put_number(bytes, layout, i % 16384 * 4 + COUNT, count),
+        _ => put_number(bytes, layout, i, COUNT, count),
+    }
+}
+
+// Stores the shortest and the longest length of the arrays of a record, where it has lengths.
+fn put_lengths(bytes: &mut [u8], layout: Layout, i: usize, length: u64) {
+    match layout {
+        Layout::Type => {
+            put_number(bytes, layout, i, SHORTEST, length);
+            put_number(bytes, layout, i, LONGEST, length);
+        }
+        _ => (),
     }
 }
 
@@ -140,7 +206,7 @@ fn put_null(bytes: &mut [u8], layout: Layout, i: usize, key: u64) -> usize {
 fn put_field(bytes: &mut [u8], layout: Layout, i: usize, key: u64) -> usize {
     match layout {
         Layout::Value => put_null(bytes, layout, i, key),
-        Layout::Type => {
+        _ => {
             put(bytes, layout, i, 7, key, 2);
             put_null(bytes, layout, std::num::wrapping_add_usize(i, 1), 0)
         }
@@ -171,6 +237,7 @@ fn put_item(bytes: &mut [u8], layout: Layout, item: Item, i: usize, key: u64) ->
         }
         Item::Array(end) => {
             put_around(bytes, layout, i, ARRAY, end);
+            put_lengths(bytes, layout, i, 1);
             inner
         }
     }

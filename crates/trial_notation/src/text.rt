@@ -51,7 +51,6 @@ fn with_digit(number: u64, digit: u64) -> u64 {
 pub fn read_digit(number: u64, c: u8) -> u64 {
     match c {
         b'0'..=b'9' => with_digit(number, (c - b'0') as u64),
-        b';' => number,
         _ => 0,
     }
 }

@@ -1,20 +1,20 @@
 // What a line of the output says: the numbers of an answer, and what a call has left in the buffers lent to it.
+use trial_notation::records::COUNT;
+use trial_notation::records::KEY;
+use trial_notation::records::KIND;
+use trial_notation::records::LONGEST;
 use trial_notation::records::Layout;
+use trial_notation::records::SHORTEST;
+use trial_notation::records::SPAN;
+use trial_notation::records::count_in;
+use trial_notation::records::number_at;
 use trial_notation::records::start_of;
 use trial_notation::text::part;
-use type_arena::type_record;
-use type_arena::type_record::count_at;
-use type_arena::type_record::key_at;
-use type_arena::type_record::kind_at;
-use type_arena::type_record::span_at;
-use type_arena::type_record::zero_at;
 ghost use mathlib.Core.Path.{_≡_};
-ghost use Prim.Native.Nat.{_+_, _*_, _≤_, _<_};
-ghost use lib.ListN.{length};
-ghost use Rattle.counting_theory.specs.Encoding.{typeSize};
+ghost use Prim.Native.Nat.{_<_};
 
 // A longer run of records is printed as its checksum.
-pub const LONGEST: usize = 64;
+pub const MOST_PRINTED: usize = 64;
 
 pub fn print(number: u64) {
     io::write_all(1, b" ");
@@ -62,44 +62,56 @@ pub fn print_checksum(bytes: &[u8]) {
     print(checksum(bytes));
 }
 
-// The numbers of record i, written as in the trials: byte 1 is the high byte of the kind.
-fn print_record(bytes: &[u8], i: usize)
-    requires { ⌜ typeSize * i + typeSize ≤ length (now bytes) ⌝ }
-{
-    print(wide(kind_at(bytes, i)) + 256 * wide(zero_at(bytes, i)));
-    print(key_at(bytes, i) as u64);
-    print(span_at(bytes, i) as u64);
-    print(count_at(bytes, i) as u64);
+// The shortest and the longest length of the arrays of record i, where they are not both zero.
+fn print_lengths(bytes: &[u8], i: usize) {
+    let shortest = number_at(bytes, Layout::Type, i, SHORTEST);
+    let longest = number_at(bytes, Layout::Type, i, LONGEST);
+    if shortest != 0 || longest != 0 {
+        print(shortest);
+        print(longest);
+    }
 }
 
-fn print_records(bytes: &[u8]) {
-    let n = bytes.len() / type_record::SIZE;
+// The numbers of record i, written as in the trials.
+fn print_record(bytes: &[u8], layout: Layout, i: usize) {
+    print(number_at(bytes, layout, i, KIND));
+    print(number_at(bytes, layout, i, KEY));
+    print(number_at(bytes, layout, i, SPAN));
+    print(number_at(bytes, layout, i, COUNT));
+    match layout {
+        Layout::Type => print_lengths(bytes, i),
+        _ => (),
+    }
+}
+
+fn print_records(bytes: &[u8], layout: Layout) {
+    let n = count_in(layout, bytes.len());
     for i in 0..n {
         if 0 < i {
             io::write_all(1, b";");
         }
-        print_record(bytes, i);
+        print_record(bytes, layout, i);
     }
 }
 
 // The type that a call has written.
-pub fn print_type(bytes: &[u8]) {
+pub fn print_type(bytes: &[u8], layout: Layout) {
     if bytes.len() == 0 {
         return;
     }
     io::write_all(1, b":");
-    if bytes.len() / type_record::SIZE <= LONGEST {
-        print_records(bytes);
+    if count_in(layout, bytes.len()) <= MOST_PRINTED {
+        print_records(bytes, layout);
     } else {
         print_checksum(bytes);
     }
 }
 
 // The bytes of a type of so many records at the front of an arena, and those behind it.
-pub fn type_in<'a>(arena: &'a [u8], count: u64) -> &'a [u8] {
-    part(arena, 0, start_of(Layout::Type, count as usize))
+pub fn type_in<'a>(arena: &'a [u8], layout: Layout, count: u64) -> &'a [u8] {
+    part(arena, 0, start_of(layout, count as usize))
 }
 
-pub fn behind_type<'a>(arena: &'a [u8], count: u64) -> &'a [u8] {
-    part(arena, start_of(Layout::Type, count as usize), arena.len())
+pub fn behind_type<'a>(arena: &'a [u8], layout: Layout, count: u64) -> &'a [u8] {
+    part(arena, start_of(layout, count as usize), arena.len())
 }

@@ -2,14 +2,17 @@
 // and behind the entries are not zero, the type, and of each entry the word and the number beside it.
 use byte_records::little_endian::number64;
 use trial_notation::buffers::DIRT;
-use trial_notation::buffers::LARGEST;
 use trial_notation::buffers::ROOM;
+use trial_notation::buffers::largest;
 use trial_notation::notation::build;
+use trial_notation::records::KIND;
 use trial_notation::records::Layout;
-use trial_notation::records::start_of;
+use trial_notation::records::RECORD;
+use trial_notation::records::count_in;
+use trial_notation::records::number_at;
 use trial_notation::text::number_or;
 use trial_notation::text::part;
-use trial_output::LONGEST;
+use trial_output::MOST_PRINTED;
 use trial_output::behind_type;
 use trial_output::nonzero;
 use trial_output::print;
@@ -17,14 +20,16 @@ use trial_output::print_answer;
 use trial_output::print_checksum;
 use trial_output::print_type;
 use trial_output::type_in;
-use type_arena::type_record;
-use type_arena::type_record::kind_at;
+use value_table::Answer;
 use value_table::record;
 ghost use Prim.Native.Nat.{_+_, _*_, _≤_};
 ghost use lib.ListN.{length};
 
 // The bytes of an entry; its word takes the first half.
 const ENTRY: usize = 16;
+
+// The most bytes of all entries. They are lent where a line names no length.
+const MOST_ENTRIES: usize = record::MAX_LENGTH / ENTRY * ENTRY;
 
 fn print_entry(entries: &[u8], i: usize)
     requires { ⌜ 16 * i + 16 ≤ length (now entries) ⌝ }
@@ -48,7 +53,7 @@ fn print_entries(entries: &[u8]) {
         return;
     }
     io::write_all(1, b" |");
-    if entries.len() / ENTRY <= LONGEST {
+    if entries.len() / ENTRY <= MOST_PRINTED {
         print_each(entries);
     } else {
         print_checksum(entries);
@@ -58,25 +63,30 @@ fn print_entries(entries: &[u8]) {
 // The bytes of the entries of a type: each of its records of kind 5 has one.
 fn entry_bytes(bytes: &[u8]) -> usize {
     let mut end = 0;
-    let n = bytes.len() / type_record::SIZE;
+    let n = count_in(Layout::Type, bytes.len());
     for i in 0..n {
-        if kind_at(bytes, i) == record::RECORD {
+        if number_at(bytes, Layout::Type, i, KIND) == RECORD {
             end = std::num::wrapping_add_usize(end, ENTRY);
         }
     }
     end
 }
 
-fn infer_into(table: &[u8], arena: &mut [u8], work: &mut [u8], entries: &mut [u8]) {
-    let answer = answers::answer_of(tag_bus::infer_tag_bus(table, arena, work, entries));
-    let written = type_in(arena, answer.count);
+// The answer, and what the call has left.
+fn print_left(answer: Answer, arena: &[u8], work: &[u8], entries: &[u8]) {
+    let written = type_in(arena, Layout::Type, answer.count);
     let end = entry_bytes(written);
     print_answer(answer);
-    print(nonzero(behind_type(arena, answer.count)));
+    print(nonzero(behind_type(arena, Layout::Type, answer.count)));
     print(nonzero(work));
     print(nonzero(part(entries, end, entries.len())));
-    print_type(written);
+    print_type(written, Layout::Type);
     print_entries(part(entries, 0, end));
+}
+
+fn infer_into(table: &[u8], arena: &mut [u8], work: &mut [u8], entries: &mut [u8]) {
+    let answer = answers::answer_of(tag_bus::infer_tag_bus(table, arena, work, entries));
+    print_left(answer, arena, work, entries);
 }
 
 // Call 8. The line may name the lengths of the entries, of the arena, of the working buffer and of the table.
@@ -85,10 +95,10 @@ pub fn try_tag_bus(head: &[u8], records: &[u8]) {
     let mut arena = [DIRT; ROOM];
     let mut work = [DIRT; ROOM];
     let mut entries = [DIRT; ROOM];
-    let built = start_of(Layout::Value, build(&mut bytes, Layout::Value, records));
+    let built = build(&mut bytes, Layout::Value, records);
     let table = part(&bytes, 0, number_or(head, 4, built));
-    let entries_length = number_or(head, 1, LARGEST);
-    let length = number_or(head, 2, LARGEST);
+    let entries_length = number_or(head, 1, MOST_ENTRIES);
+    let length = number_or(head, 2, largest(Layout::Type));
     let work_length = number_or(head, 3, length);
     if length <= ROOM {
         if work_length <= ROOM {

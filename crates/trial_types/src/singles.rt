@@ -1,11 +1,10 @@
 // Trials of the calls that write a type for one table or type, with a working buffer.
 use answers::Answered;
 use trial_notation::buffers::DIRT;
-use trial_notation::buffers::LARGEST;
 use trial_notation::buffers::ROOM;
+use trial_notation::buffers::largest;
 use trial_notation::notation::build;
 use trial_notation::records::Layout;
-use trial_notation::records::start_of;
 use trial_notation::text::number_or;
 use trial_notation::text::part;
 use trial_output::behind_type;
@@ -34,9 +33,9 @@ fn write(call: u8, equivalence: u64, given: &[u8], arena: &mut [u8], work: &mut 
 fn write_into(call: u8, equivalence: u64, given: &[u8], arena: &mut [u8], work: &mut [u8]) {
     let answer = answers::answer_of(write(call, equivalence, given, arena, work));
     print_answer(answer);
-    print(nonzero(behind_type(arena, answer.count)));
+    print(nonzero(behind_type(arena, Layout::Type, answer.count)));
     print(nonzero(work));
-    print_type(type_in(arena, answer.count));
+    print_type(type_in(arena, Layout::Type, answer.count), Layout::Type);
 }
 
 // Calls 2, 3 and 9. The line may name the lengths of the arena, of the working buffer, and of the table or type.
@@ -45,9 +44,9 @@ pub fn try_single(call: u8, equivalence: u64, head: &[u8], records: &[u8]) {
     let mut arena = [DIRT; ROOM];
     let mut work = [DIRT; ROOM];
     let layout = layout_of(call);
-    let built = start_of(layout, build(&mut bytes, layout, records));
+    let built = build(&mut bytes, layout, records);
     let given = part(&bytes, 0, number_or(head, 3, built));
-    let length = number_or(head, 1, LARGEST);
+    let length = number_or(head, 1, largest(Layout::Type));
     let work_length = number_or(head, 2, length);
     if length <= ROOM {
         if work_length <= ROOM {

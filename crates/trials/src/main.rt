@@ -4,7 +4,7 @@ mod texts;
 mod trial;
 
 fn main() {
-    let mut text = [0u8; 262144];
+    let mut text = [0u8; 393216];
     let n = io::read_full(0, &mut text);
     lines::each_line(&text[..n]);
 }

@@ -3,6 +3,7 @@
 use text_reader::call;
 use trial_notation::buffers::DIRT;
 use trial_notation::buffers::ROOM;
+use trial_notation::buffers::largest;
 use trial_notation::records::Layout;
 use trial_notation::records::start_of;
 use trial_notation::spelled::put_book;
@@ -62,7 +63,7 @@ pub fn try_text(head: &[u8], spelled: &[u8]) {
     let written = put_spelled(&mut bytes, 0, after);
     let book = part(&keys, 0, number_or(head, 2, listed));
     let text = part(&bytes, 0, number_or(head, 3, written));
-    let length = number_or(head, 1, record::MAX_LENGTH);
+    let length = number_or(head, 1, largest(Layout::Value));
     if length <= ROOM {
         read_into(text, book, &mut table[0..length]);
     }

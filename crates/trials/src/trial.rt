@@ -4,7 +4,6 @@ use crate::texts::try_text;
 use trial_notation::buffers::ROOM;
 use trial_notation::notation::build;
 use trial_notation::records::Layout;
-use trial_notation::records::start_of;
 use trial_notation::text::number_or;
 use trial_notation::text::part;
 use trial_notation::text::word;
@@ -16,7 +15,7 @@ use trial_types::singles::try_single;
 // Call 1. The line may name the table's length.
 fn try_table(head: &[u8], records: &[u8]) {
     let mut bytes = [0u8; ROOM];
-    let built = start_of(Layout::Value, build(&mut bytes, Layout::Value, records));
+    let built = build(&mut bytes, Layout::Value, records);
     let table = part(&bytes, 0, number_or(head, 1, built));
     print_answer(value_table::answer_of(value_table::judge(table)));
 }
@@ -24,7 +23,7 @@ fn try_table(head: &[u8], records: &[u8]) {
 // Call 4. The line may name the type's length.
 fn try_type(equivalence: u64, head: &[u8], records: &[u8]) {
     let mut bytes = [0u8; ROOM];
-    let built = start_of(Layout::Type, build(&mut bytes, Layout::Type, records));
+    let built = build(&mut bytes, Layout::Type, records);
     let judged = part(&bytes, 0, number_or(head, 1, built));
     print_answer(answers::answer_of(counting_type::judge_type(judged, equivalence)));
 }

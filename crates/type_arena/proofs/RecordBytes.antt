@@ -1,6 +1,6 @@
 -- The bytes of a type record, stored number by number.
 use mathlib.Core.Path.{_≡_, refl, _∙_}
-use mathlib.Core.List.{List, [], _++_}
+use mathlib.Core.List.{List, [], _++_, append-nil}
 use Prim.Native.Nat.{ℕ, _+_, _/_, _%_, _≤_, _<_}
 use native.Mathlib.Nat.{zero-add}
 use native.Mathlib.Numerals.{towards-suc}
@@ -9,6 +9,8 @@ use lib.ListN.{length, drop}
 use lib.Seq.{sets, sets-eq}
 use Rattle.byte_records.specs.Number.{bytesOf}
 use Rattle.byte_records.specs.Format.{recordBytes}
+use Rattle.byte_records.proofs.Number.{length-bytesOf}
+use Rattle.byte_records.proofs.Sets.{sets-append}
 use Rattle.byte_records.proofs.Format.{length-record}
 use Rattle.counting_theory.specs.Payload.{Payload, numbers}
 use Rattle.counting_theory.specs.Label.{Label}
@@ -19,6 +21,18 @@ use Rattle.type_arena.specs.Inside.Payload.{payloadOffset, payloadBytes}
 pub length-header : (l : Label) (span : ℕ) (a : Payload) → length (header l span a) ≡ typeSize
 unfolding header
 length-header l span a = length-record typeFormat _
+
+-- a payload in its parts
+pub sets-payload : (a : Payload) (l : List ℕ) (at : ℕ) →
+    sets (sets (sets l (at + payloadOffset) (bytesOf 8 (a .count))) (at + 16) (bytesOf 4 (a .shortest))) (at + 20) (bytesOf 4 (a .longest))
+    ≡ sets l (at + payloadOffset) (payloadBytes a)
+unfolding recordBytes numbers payloadBytes
+sets-payload a l at =
+    let c = bytesOf 8 (a .count) in
+    let s = bytesOf 4 (a .shortest) in
+    let second : at + payloadOffset + length c ≡ at + 16 = rw (length-bytesOf 8 (a .count)) (omega arith) in
+    let third : at + 16 + length s ≡ at + 20 = rw (length-bytesOf 4 (a .shortest)) (omega arith) in
+    rw (append-nil, sets-append c (s ++ bytesOf 4 (a .longest)) l (at + payloadOffset), second, sets-append s (bytesOf 4 (a .longest)) (sets l (at + payloadOffset) c) (at + 16), third) refl
 
 -- a type record in its parts, the first with the zero byte behind the kind
 pub sets-record : (kind key span : ℕ) (a : Payload) (l : List ℕ) (at : ℕ) → kind < 256 →

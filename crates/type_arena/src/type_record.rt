@@ -10,7 +10,7 @@ ghost use Rattle.counting_theory.specs.WellFormed.{badTypeLength};
 ghost use Rattle.counting_theory.specs.Encoding.{typeSize, typeKind, typeZero, typeKey, typeSpan};
 ghost use Rattle.counting_theory.specs.Inside.TypeBytes.{typeCount};
 
-pub const SIZE: usize = 16;
+pub const SIZE: usize = 24;
 
 // Where the fields of a record begin in it: behind those that stand before them in the format.
 const ZERO_OFFSET: usize = 1;
@@ -21,7 +21,14 @@ pub const SPAN_OFFSET: usize = 4;
 
 pub const PAYLOAD_OFFSET: usize = 8;
 
+pub const SHORTEST_OFFSET: usize = 16;
+
+pub const LONGEST_OFFSET: usize = 20;
+
 pub const FIELD: u8 = 7;
+
+// The largest allowed arena: as many whole records as the limit on lengths has room for.
+pub const LARGEST_ARENA: usize = record::MAX_LENGTH / SIZE * SIZE;
 
 // The most that the counts of one union may total.
 pub const MAX_TOTAL: usize = 1000000000000000;

@@ -3,6 +3,8 @@ pub mod pair;
 
 use type_arena::label_order::Order;
 use type_arena::label_order::compare_labels;
+use type_arena::payload::Payload;
+use type_arena::payload::payload_at;
 use type_arena::type_record;
 use type_arena::type_record::count_at;
 use type_arena::type_record::key_at;
@@ -16,12 +18,17 @@ ghost use Prim.Native.Nat.{ℕ, _+_, _-_, _≤_, _<_};
 ghost use lib.ListN.{length};
 ghost use lib.Dec.{eqb, leb, ltb};
 ghost use Rattle.value_table.specs.Value.{maxDepth, arrayKind, lastScalar};
+ghost use Rattle.counting_theory.specs.Payload.{lengthsFit, noLengths};
 ghost use Rattle.counting_theory.specs.Label.{Equivalence};
 ghost use Rattle.counting_theory.specs.Encoding.{typeKind, typeSpan};
 ghost use Rattle.counting_theory.specs.Inside.TypeBytes.{typeCount};
 ghost use Rattle.counting_theory.specs.WellFormed.{maxTotal, badTypeLength, wellFormed, placedRecord, fieldRecord, typeRecord, fieldCount};
 ghost use Rattle.type_arena.specs.Inside.Arena.{RecordIn, byFlag, Labelled};
-ghost use Rattle.type_check.specs.Inside.Checker.{RunOf, checkedOf, isSome, hasTotal, addends, fields, fits, ordered, addendRight, checkRun};
+ghost use Rattle.type_arena.specs.Inside.Payload.{payloadOf};
+ghost use Rattle.type_check.specs.Inside.Checker.{RunOf, checkedOf, isSome, hasTotal, addends, fields, countFits, fits, ordered, addendRight, checkRun};
+
+// The longest length that an array may have.
+const MAX_ELEMENTS: usize = 8192;
 
 // The total of a union, or that something in it is wrong.
 pub enum Checked {
@@ -105,7 +112,7 @@ fn field_record(b: &[u8], p: usize, end: usize) -> bool
 // The addend's count is at least 1 and keeps the union's total within the limit.
 fn count_fits(b: &[u8], p: usize, total: usize) -> bool
     requires { ⌜ RecordIn (now b) p × (total ≤ maxTotal) ⌝ }
-    ensures { λ r. ⌜ r ≡ (leb 1 (typeCount (now (b .entry)) p) && leb (total + typeCount (now (b .entry)) p) maxTotal) ⌝ }
+    ensures { λ r. ⌜ r ≡ countFits (now (b .entry)) p total ⌝ }
 {
     let count = count_at(b, p);
     if count < 1 {
@@ -123,6 +130,34 @@ fn count_agrees(count: usize, of_record: usize, label: bool) -> bool
     } else {
         count <= of_record
     }
+}
+
+// Whether an array's lengths are those of `count` arrays with so many elements in all. The bounds come before the products, which fit then.
+fn lengths_fit(a: Payload, elements: usize) -> bool
+    requires { ⌜ (1 ≤ a .count) × (a .count ≤ maxTotal) ⌝ }
+    ensures { λ r. ⌜ r ≡ lengthsFit (payloadOf a) elements ⌝ }
+{
+    if a.longest < a.shortest {
+        return false;
+    }
+    if MAX_ELEMENTS < a.longest {
+        return false;
+    }
+    let others = a.count - 1;
+    if elements < a.longest + others * a.shortest {
+        return false;
+    }
+    elements <= a.shortest + others * a.longest
+}
+
+// Whether a record that is no array has no lengths.
+fn no_lengths(a: Payload) -> bool
+    ensures { λ r. ⌜ r ≡ noLengths (payloadOf a) ⌝ }
+{
+    if a.shortest != 0 {
+        return false;
+    }
+    a.longest == 0
 }
 
 // Whether the addend at x comes before the one at y, by class, or is that one itself.
@@ -151,6 +186,9 @@ fn field_fits(b: &[u8], p: usize, end: usize, last: usize, of_record: usize, lab
     if key_at(b, p) <= last {
         return false;
     }
+    if !no_lengths(payload_at(b, p)) {
+        return false;
+    }
     count_agrees(count_at(b, p), of_record, label)
 }
 
@@ -160,10 +198,13 @@ fn check_scalar(b: &[u8], p: usize, end: usize, left: usize) -> bool
     ensures { λ r. ⌜ ((e : Equivalence) → r
         ≡ hasTotal (typeCount (now (b .entry)) p) (checkRun e (now (b .entry)) (p + 1) end (addends (maxDepth + 1 - left) (p + 1) 0))) ⌝ }
 {
+    if !count_fits(b, p + 1, 0) {
+        return false;
+    }
     if !addend_record(b, p + 1, end, left) {
         return false;
     }
-    if !count_fits(b, p + 1, 0) {
+    if !no_lengths(payload_at(b, p + 1)) {
         return false;
     }
     count_at(b, p + 1) == count_at(b, p)
@@ -178,10 +219,10 @@ pub fn check_union(b: &[u8], i: usize, end: usize, left: usize, label: bool) -> 
     let mut last = i;
     let mut total = 0;
     while p < end {
-        if !check_addend(b, p, end, left, label) {
+        if !count_fits(b, p, total) {
             return Checked::Faulty;
         }
-        if !count_fits(b, p, total) {
+        if !check_addend(b, p, end, left, label) {
             return Checked::Faulty;
         }
         if !in_order(b, last, p, label) {
@@ -196,7 +237,7 @@ pub fn check_union(b: &[u8], i: usize, end: usize, left: usize, label: bool) -> 
 
 // An addend by itself: its record, and the union or the fields inside it.
 fn check_addend(b: &[u8], p: usize, end: usize, left: usize, label: bool) -> bool
-    requires { ⌜ RunOf (now b) p end × (p < end) × (left ≤ maxDepth) ⌝ }
+    requires { ⌜ RunOf (now b) p end × (p < end) × (left ≤ maxDepth) × (1 ≤ typeCount (now b) p) × (typeCount (now b) p ≤ maxTotal) ⌝ }
     ensures { λ r. ⌜ r ≡ addendRight (byFlag label) (now (b .entry)) p end (maxDepth + 1 - left) ⌝ }
 {
     if !addend_record(b, p, end, left) {
@@ -204,16 +245,20 @@ fn check_addend(b: &[u8], p: usize, end: usize, left: usize, label: bool) -> boo
     }
     let kind = kind_at(b, p);
     let inner_end = p + span_at(b, p);
-    if kind == record::RECORD {
-        return check_fields(b, p + 1, inner_end, left, count_at(b, p), label);
+    let a = payload_at(b, p);
+    if kind == record::ARRAY {
+        return match check_union(b, p + 1, inner_end, left - 1, label) {
+            Checked::Total(elements) => lengths_fit(a, elements),
+            Checked::Faulty => false,
+        };
+    }
+    if !no_lengths(a) {
+        return false;
     }
     if kind < record::RECORD {
         return true;
     }
-    match check_union(b, p + 1, inner_end, left - 1, label) {
-        Checked::Total(_) => true,
-        Checked::Faulty => false,
-    }
+    check_fields(b, p + 1, inner_end, left, count_at(b, p), label)
 }
 
 // The fields of a record with this count, in records i to end.

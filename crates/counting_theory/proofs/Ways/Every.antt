@@ -16,6 +16,7 @@ use Rattle.counting_theory.specs.Answers.{Left}
 use Rattle.counting_theory.specs.Ways.{run, planMessages, inUse, WithinLimits, Final, HoldsProfile, EveryWay}
 use Rattle.counting_theory.proofs.Values.Counted.{counts}
 use Rattle.counting_theory.proofs.Values.Tally.{count-is-number}
+use Rattle.counting_theory.proofs.Lengths.{lengths-at}
 use Rattle.counting_theory.proofs.WellFormed.Closed.{profile-type}
 use Rattle.counting_theory.proofs.WellFormed.AcceptsExactly.{type-length, type-unique}
 use Rattle.counting_theory.proofs.Ways.Written.{bytes-in-use}
@@ -40,6 +41,7 @@ module _ (e : Equivalence) (n : ℕ) (allowed : badTypeLength n ≡ false) (ms :
         profile = same;
         payloads = there;
         counts = λ place. ap countOf (there place) ∙ count-is-number e (valuesOf ms) place;
+        lengths = λ place a h. lengths-at e (valuesOf ms) place a (sym (there place) ∙ h);
       }
 
 pub every-way : EveryWay

@@ -15,7 +15,7 @@ use Rattle.counting_theory.specs.Encoding.{typeSize, typeKind, typeKey, typePay
 use Rattle.counting_theory.specs.Inside.TypeBytes.{Fitting}
 use Rattle.type_arena.specs.Inside.Arena.{labelAt}
 use Rattle.type_arena.specs.Inside.Addend.{body, rest, Coded}
-use Rattle.inference.specs.Inside.Inferring.{wanted, Keyed, InferredSiblings, ArenaHolds, split, grown, Counted, PlacedAt}
+use Rattle.inference.specs.Inside.Inferring.{wanted, NumbersFit, InferredSiblings, ArenaHolds, split, grown, Counted, PlacedAt}
 use Rattle.folding.specs.Inside.Folding.{firstLabel, withFirst}
 use Rattle.counting_theory.proofs.Label.{kind-eq, counting-laws}
 use Rattle.counting_theory.proofs.Trie.Sorted.{sorted-add}
@@ -23,7 +23,8 @@ use Rattle.counting_theory.proofs.Trie.Growth.{add-grows}
 use Rattle.counting_theory.proofs.Tagged.Parts.{tagged-parts, parts-tagged}
 use Rattle.type_arena.proofs.FirstAddend.{Addend, addend, type-empty, coded-type}
 use Rattle.inference.proofs.InPlace.Items.{insert-size}
-use Rattle.inference.proofs.InPlace.Material.{keyed-add}
+use Rattle.type_arena.proofs.PayloadBytes.{kept-fitting}
+use Rattle.inference.proofs.InPlace.Material.{numbers-add}
 use Rattle.folding.proofs.KindTagged.{tagged-add}
 
 -- the label that is searched for is the first one's
@@ -55,10 +56,10 @@ unfolding add
 nothing-added [] h c = rw (type-empty byKind) refl
 nothing-added (n ∷ y) h c = absurd (omega arith)
 
-keyed-fitting : (f : CountingType) → Fitting f → Keyed f
+numbers-fitting : (f : CountingType) → Fitting f → NumbersFit f
 unfolding Fitting
-keyed-fitting nil h = tt
-keyed-fitting (node l a c s) h = ((h .0 .0, h .0 .1 .1 .0), keyed-fitting c (h .1), keyed-fitting s (h .2))
+numbers-fitting nil h = tt
+numbers-fitting (node l a c s) h = ((h .0 .0, h .0 .1 .1 .0, kept-fitting a (h .0 .1 .1 .1 .1)), numbers-fitting c (h .1), numbers-fitting s (h .2))
 
 module _ {field : Bool} {x : List ℕ} (k : Coded byKind field x) (some : 0 < length x) where
   abbrev l : Label
@@ -78,8 +79,8 @@ module _ {field : Bool} {x : List ℕ} (k : Coded byKind field x) (some : 0 < le
       let p = tagged-parts byKind field l (typePayload x 0) c s (rw is-node at (k .tagged)) in
       parts-tagged byKind field l (typePayload x 0) c nil (p .0, p .1, tt)
 
-  first-keyed : Keyed (node l (typePayload x 0) c nil)
-  first-keyed = let h = keyed-fitting (node l (typePayload x 0) c s) (rw is-node at (k .fitting)) in (h .0, h .1, tt)
+  first-numbers : NumbersFit (node l (typePayload x 0) c nil)
+  first-numbers = let h = numbers-fitting (node l (typePayload x 0) c s) (rw is-node at (k .fitting)) in (h .0, h .1, tt)
 
   pub first-siblings : (f : CountingType) → InferredSiblings byKind field f → InferredSiblings byKind field (withFirst x f)
   unfolding add
@@ -88,7 +89,7 @@ module _ {field : Bool} {x : List ℕ} (k : Coded byKind field x) (some : 0 < le
       record {
         tagged = tagged-add field r f first-tagged (h .tagged) (h .sorted);
         sorted = sorted-add counting-laws r f (h .sorted);
-        keyed = keyed-add r f first-keyed (h .keyed);
+        numbers = numbers-add r f first-numbers (h .numbers);
       }
 
 module _ (x : List ℕ) (f : CountingType) (q : List ℕ) (rest : ℕ) (r : Put) (b : List ℕ) (h : PlacedAt (firstLabel x) (typePayload x 0) f q rest r b) where

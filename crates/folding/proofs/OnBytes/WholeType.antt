@@ -15,7 +15,7 @@ use Rattle.counting_theory.specs.Trie.{nil, size, add}
 use Rattle.counting_theory.specs.Label.{byKind, byLabel, Counting, CountingType}
 use Rattle.counting_theory.specs.Encoding.{typeSize, encode, typeOf}
 use Rattle.counting_theory.specs.WellFormed.{withinLimit, wellFormed, badTypeLength, IsType}
-use Rattle.counting_theory.specs.Answers.{mergedTypes}
+use Rattle.counting_theory.specs.Answers.{mergedTypes, largestArena}
 use Rattle.answers.specs.Inside.Front.{WrittenInFront}
 use Rattle.type_arena.specs.Inside.Addend.{Coded}
 use Rattle.inference.specs.Inside.Inferring.{ArenaHolds}
@@ -34,7 +34,7 @@ use Rattle.folding.proofs.OnBytes.RunAdded.{run-full, run-records}
 -- nothing is in the arena
 pub empty-holds : (a : List ℕ) → length a ≤ maxLength → ArenaHolds byKind false a 0 0 nil [] a
 unfolding encode size
-empty-holds a short = record { bytes = refl; count = refl; used = refl; short = short; siblings = record { tagged = tt; sorted = tt; keyed = tt } }
+empty-holds a short = record { bytes = refl; count = refl; used = refl; short = short; siblings = record { tagged = tt; sorted = tt; numbers = tt } }
 
 pub empty-held : (a : List ℕ) → length a ≤ maxLength → HeldAt false a 0 0 0
 empty-held a short = record { f = nil; q = []; free = a; holds = empty-holds a short; starts = starts-zero nil }
@@ -61,7 +61,7 @@ module _ {b : List ℕ} (t : IsType byLabel b (typeOf byLabel b)) where
     whole-full e = omega (arith, run-full _ [] 0 r a h e, ap size is-kind)
 
   -- no type is larger than the largest arena
-  pub never-full : (a : List ℕ) → length a ≡ maxLength → length a < typeSize * size kind → ⊥
+  pub never-full : (a : List ℕ) → length a ≡ largestArena → length a < typeSize * size kind → ⊥
   never-full a h k = omega (arith, kind-size (typeOf byLabel b), t .room)
 
   module _ (n : ℕ) (a : List ℕ) (h : FoldedFront b n a) where

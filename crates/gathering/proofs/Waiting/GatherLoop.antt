@@ -26,7 +26,7 @@ use Rattle.inference.specs.declared.inferring.Inferred.{Inferred}
 use Rattle.inference.specs.declared.inferring.Inferred.the-variants.{Records, Full}
 use Rattle.inference.specs.Inside.Inferring.{InferredSiblings, ArenaHolds, Grown, Added}
 use Rattle.gathering.specs.Inside.Gathering.{slotStart, slotCount, messageAt, messageRaw, slotRaw, waiting, SameMessage, MessageAt, Slot, Slots, Gathering, GatheredTo}
-use Rattle.inference.proofs.InPlace.Runs.{FirstValue, first-of}
+use Rattle.inference.proofs.InPlace.Runs.{FirstValue, first-of, whole-records}
 use Rattle.inference.proofs.InPlace.Material.{times-siblings}
 use Rattle.gathering.proofs.Waiting.Messages.{message-is, message-at, same-message-at}
 use Rattle.gathering.proofs.Waiting.Slots.{slot-gives, waiting-gives, message-gives, waiting-more, waiting-replaced, slot-more, slot-first, slot-empty}
@@ -66,7 +66,7 @@ unfolding messageRaw add
 added-sibling e t i zero f m s = s
 added-sibling e t i (suc n) f m s =
     let r = m (omega arith) .run in
-    times-siblings e false (r .asFields) (r .depth) (messageAt t i) (r .valid) (r .fields) (suc n) (omega arith) f s
+    times-siblings e false (r .asFields) (r .depth) (messageAt t i) (r .valid) (omega (arith, r .short, whole-records _ (messageAt t i) (r .bytes))) (r .fields) (suc n) (omega arith) f s
 
 pub regroup : (s f w l : Option Payload) → (s ⊞ f) ⊞ (w ⊞ l) ≡ f ⊞ ((s ⊞ w) ⊞ l)
 regroup s f w l =

@@ -27,7 +27,7 @@ size-append (node l a c s) g = omega (arith, size-append s g)
 -- the siblings behind the first
 pub siblings-next : {e : Equivalence} {field : Bool} {l : Label} {a : Payload} {c s : CountingType} → InferredSiblings e field (node l a c s) → InferredSiblings e field s
 siblings-next {e} {field} {l} {a} {c} {s} h =
-    record { tagged = tagged-parts e field l a c s (h .tagged) .2; sorted = h .sorted .2; keyed = h .keyed .2 }
+    record { tagged = tagged-parts e field l a c s (h .tagged) .2; sorted = h .sorted .2; numbers = h .numbers .2 }
 
 pub siblings-last : {e : Equivalence} {field : Bool} (f : CountingType) {g : CountingType} → InferredSiblings e field (append f g) → InferredSiblings e field g
 unfolding append

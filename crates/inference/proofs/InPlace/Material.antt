@@ -1,17 +1,19 @@
 -- What is added of a run of values keeps siblings as inference makes them.
 use mathlib.Core.Path.{_≡_, refl, sym, _∙_, ap}
 use mathlib.Core.Bool.{Bool, true, false}
-use Prim.Native.Nat.{ℕ, suc, _≤_, _<_, Ordering, Ordering·lt as lt, Ordering·eq as eq, Ordering·gt as gt}
+use Prim.Native.Nat.{ℕ, suc, _^_, _≤_, _<_, Ordering, Ordering·lt as lt, Ordering·eq as eq, Ordering·gt as gt}
 use native.Mathlib.Omega.{arith}
 use lib.Dec.{eqb, lit<}
-use Rattle.value_table.specs.Value.{recordKind, Values, none, value, ValidAt}
+use Rattle.value_table.specs.Value.{recordKind, Values, none, value, size, ValidAt}
 use Rattle.counting_theory.specs.Payload.{Payload, one}
 use Rattle.counting_theory.specs.Trie.{nil, node, insertStep, insert, add, profile, reduce}
 use Rattle.counting_theory.specs.Label.{Equivalence, Label, compareLabel, Counting, CountingType}
 use Rattle.counting_theory.specs.Raw.{classOf, addend, raw}
 use Rattle.counting_theory.specs.Encoding.{Tagged}
 use Rattle.counting_theory.specs.Inside.Times.{times}
-use Rattle.inference.specs.Inside.Inferring.{Keyed, InferredSiblings}
+use Rattle.type_arena.specs.Inside.Payload.{LengthsKept}
+use Rattle.type_arena.proofs.PayloadBytes.{kept-one, kept-field, kept-join}
+use Rattle.inference.specs.Inside.Inferring.{NumbersFit, InferredSiblings}
 use Rattle.counting_theory.proofs.Label.{counting-laws}
 use Rattle.counting_theory.proofs.Trie.Sorted.{sorted-add, sorted-profile}
 use Rattle.counting_theory.proofs.Trie.Profile.{add-comm, reduce-add}
@@ -45,30 +47,39 @@ module _ (e : Equivalence) where
   run-tagged true asFields depth vs h i = inferred e true depth vs (rw (i refl) at h) .is-tagged
   run-tagged false asFields depth vs h i = rw (raw-unkeyed vs) at (inferred e false depth (unkeyed vs) (valid-unkeyed asFields depth vs h) .is-tagged)
 
-  keyed-raw : (field asFields : Bool) (depth : ℕ) (vs : Values) → ValidAt asFields depth vs → Keyed (raw e field vs)
-  unfolding raw ValidAt
-  keyed-raw field asFields depth none h = tt
-  keyed-raw true asFields depth (value head key content next) h =
-      ((lit< tt, key-below asFields key (h .0 .keyed)), ((omega (arith, h .0 .kind-high), lit< tt), keyed-raw (eqb (head .kind) recordKind) (eqb (head .kind) recordKind) (suc depth) content (h .1), tt), keyed-raw true asFields depth next (h .2))
-  keyed-raw false asFields depth (value head key content next) h =
-      ((omega (arith, h .0 .kind-high), lit< tt), keyed-raw (eqb (head .kind) recordKind) (eqb (head .kind) recordKind) (suc depth) content (h .1), keyed-raw false asFields depth next (h .2))
+  numbers-raw : (field asFields : Bool) (depth : ℕ) (vs : Values) → ValidAt asFields depth vs → size vs < 2 ^ 32 → NumbersFit (raw e field vs)
+  unfolding raw ValidAt size
+  numbers-raw field asFields depth none h few = tt
+  numbers-raw true asFields depth (value head key content next) h few =
+      let inside = numbers-raw (eqb (head .kind) recordKind) (eqb (head .kind) recordKind) (suc depth) content (h .1) (omega arith) in (
+        (lit< tt, key-below asFields key (h .0 .keyed), kept-field),
+        ((omega (arith, h .0 .kind-high), lit< tt, kept-one head content (omega arith)), inside, tt),
+        numbers-raw true asFields depth next (h .2) (omega arith),
+      )
+  numbers-raw false asFields depth (value head key content next) h few = (
+    (omega (arith, h .0 .kind-high), lit< tt, kept-one head content (omega arith)),
+    numbers-raw (eqb (head .kind) recordKind) (eqb (head .kind) recordKind) (suc depth) content (h .1) (omega arith),
+    numbers-raw false asFields depth next (h .2) (omega arith),
+  )
 
-keyed-insert : (l : Label) (a : Payload) (g : CountingType → CountingType) → (l .kind < 256) × (l .key < 65536) → ((c : CountingType) → Keyed c → Keyed (g c)) → (f : CountingType) → Keyed f → Keyed (insert Counting l a g f)
+numbers-insert : (l : Label) (a : Payload) (g : CountingType → CountingType) → (l .kind < 256) × (l .key < 65536) × LengthsKept a → ((c : CountingType) → NumbersFit c → NumbersFit (g c)) →
+    (f : CountingType) → NumbersFit f → NumbersFit (insert Counting l a g f)
 unfolding insert insertStep
-keyed-insert l a g h i nil k = (h, i nil tt, tt)
-keyed-insert l a g h i (node m b c s) k = go (compareLabel l m) (keyed-insert l a g h i s (k .2))
+numbers-insert l a g h i nil k = (h, i nil tt, tt)
+numbers-insert l a g h i (node m b c s) k = go (compareLabel l m) (numbers-insert l a g h i s (k .2))
   where
-    go : (o : Ordering) → Keyed (insert Counting l a g s) → Keyed (insertStep Counting o l a g m b c s (insert Counting l a g s))
+    go : (o : Ordering) → NumbersFit (insert Counting l a g s) → NumbersFit (insertStep Counting o l a g m b c s (insert Counting l a g s))
     go lt j = (h, i nil tt, k)
-    go eq j = (k .0, i c (k .1), k .2)
+    go eq j = ((k .0 .0, k .0 .1, kept-join b a (k .0 .2) (h .2)), i c (k .1), k .2)
     go gt j = (k .0, k .1, j)
 
-pub keyed-add : (r f : CountingType) → Keyed r → Keyed f → Keyed (add Counting r f)
+pub numbers-add : (r f : CountingType) → NumbersFit r → NumbersFit f → NumbersFit (add Counting r f)
 unfolding add
-keyed-add nil f h k = k
-keyed-add (node l a c s) f h k = keyed-add s (insert Counting l a (add Counting c) f) (h .2) (keyed-insert l a (add Counting c) (h .0) (λ d. keyed-add c d (h .1)) f k)
+numbers-add nil f h k = k
+numbers-add (node l a c s) f h k =
+    numbers-add s (insert Counting l a (add Counting c) f) (h .2) (numbers-insert l a (add Counting c) (h .0) (λ d. numbers-add c d (h .1)) f k)
 
-module _ (e : Equivalence) (field asFields : Bool) (depth : ℕ) (vs : Values) (valid : ValidAt asFields depth vs) (fields : field ≡ true → asFields ≡ true) where
+module _ (e : Equivalence) (field asFields : Bool) (depth : ℕ) (vs : Values) (valid : ValidAt asFields depth vs) (few : size vs < 2 ^ 32) (fields : field ≡ true → asFields ≡ true) where
   add-siblings : (f : CountingType) → InferredSiblings e field f → InferredSiblings e field (add Counting (raw e field vs) f)
   add-siblings f h =
       let r = raw e field vs in
@@ -77,7 +88,7 @@ module _ (e : Equivalence) (field asFields : Bool) (depth : ℕ) (vs : Values) (
       record {
         tagged = rw z at (tagged-reduce e field f p (h .tagged) (run-tagged e field asFields depth vs valid fields));
         sorted = sorted-add counting-laws r f (h .sorted);
-        keyed = keyed-add r f (keyed-raw e field asFields depth vs valid) (h .keyed);
+        numbers = numbers-add r f (numbers-raw e field asFields depth vs valid few) (h .numbers);
       }
 
   pub times-siblings : (w : ℕ) → 1 ≤ w → (f : CountingType) → InferredSiblings e field f → InferredSiblings e field (add Counting (times w (raw e field vs)) f)

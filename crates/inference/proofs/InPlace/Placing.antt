@@ -12,12 +12,12 @@ use Rattle.counting_theory.specs.Trie.{node, size}
 use Rattle.counting_theory.specs.Label.{Equivalence, Label, CountingType}
 use Rattle.counting_theory.specs.Encoding.{typeSize, typePayload, header, encode}
 use Rattle.type_arena.specs.Inside.Arena.{headerOf}
-use Rattle.type_arena.specs.Inside.Payload.{payloadOffset, payloadBytes}
+use Rattle.type_arena.specs.Inside.Payload.{payloadOffset, payloadBytes, LengthsKept}
 use Rattle.type_arena.proofs.PayloadBytes.{payload-joined}
 use Rattle.inference.specs.Inside.Inferring.{ArenaHolds, Split, grown, Counted}
 use Rattle.counting_theory.proofs.Encoding.Header.{length-encode}
 use Rattle.inference.proofs.InPlace.Part.{tail-part, tail-put}
-use Rattle.inference.proofs.InPlace.Append.{encode-append, size-append}
+use Rattle.inference.proofs.InPlace.Append.{encode-append, size-append, siblings-last}
 use Rattle.inference.proofs.InPlace.Splits.{HereAt, MissingAt}
 
 pub encode-node : (l : Label) (a : Payload) (c s : CountingType) → encode (node l a c s) ≡ header l (1 + size c) a ++ (encode c ++ encode s)
@@ -39,6 +39,9 @@ module _ {e : Equivalence} {field : Bool} {a : List ℕ} {n rest : ℕ} {f : Cou
       here-bytes : a ≡ encode (x .before) ++ here-tail
       here-bytes = h .bytes ∙ ap (λ g. encode g ++ (q ++ free)) (v .whole) ∙ simp (encode-append, encode-node, append-assoc)
 
+      here-kept : LengthsKept (v .held)
+      here-kept = siblings-last (x .before) (rw (v .whole) at (h .siblings)) .numbers .0 .2
+
       here-count : n ≡ size (x .before) + (1 + (size (x .content) + size (x .after)))
       unfolding size
       here-count = h .count ∙ ap size (v .whole) ∙ size-append _ _
@@ -58,7 +61,7 @@ module _ {e : Equivalence} {field : Bool} {a : List ℕ} {n rest : ℕ} {f : Cou
             place = omega (arith, v .spot-is);
             count = here-count;
             free = free;
-            bytes = z ∙ payload-joined a (encode (x .before)) p l (1 + size (x .content)) (v .held) _ here-bytes here-front w ∙ rw (v .held-is) refl;
+            bytes = z ∙ payload-joined a (encode (x .before)) p l (1 + size (x .content)) (v .held) _ here-bytes here-front here-kept w ∙ rw (v .held-is) refl;
           }
 
     module _ (v : MissingAt x 0 f p) where

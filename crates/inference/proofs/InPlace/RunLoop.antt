@@ -2,7 +2,7 @@
 use mathlib.Core.Path.{_≡_, refl, sym, _∙_, ap}
 use mathlib.Core.Bool.{Bool, true, false, cond, true≢false}
 use mathlib.Core.List.{List, _++_}
-use Prim.Native.Nat.{ℕ, suc, _+_, _-_, _*_, _≤_, _<_}
+use Prim.Native.Nat.{ℕ, suc, _+_, _-_, _*_, _^_, _≤_, _<_}
 use native.Mathlib.Nat.{mul-one, mul-assoc, mul-comm, mul-add, mul-pos, one-mul, mul-le-mul-left, mul-le-mul-right, le-trans}
 use native.Mathlib.Omega.{arith}
 use lib.Dec.{eqb}
@@ -210,11 +210,15 @@ module _ {e : Equivalence} {field : Bool} {w : ℕ} {vs : Values} {f : CountingT
           unfolding raw times add
           grown-is = ap (λ r. add Counting r (x .g)) (material heavy)
 
+          few-records : table.size (value (v .head) (v .key) (v .content) none) < 2 ^ 32
+          unfolding table.size
+          few-records = omega (arith, v .within, v .span-is)
+
           grown-siblings : InferredSiblings e field grown
           unfolding ValidAt
           grown-siblings =
               rw grown-is at
-              (times-siblings e field (x .asFields) (x .depth) (value (v .head) (v .key) (v .content) none) (v .proper, v .content-valid, tt) (x .fields) heavy heavy-some (x .g) (x .siblings))
+              (times-siblings e field (x .asFields) (x .depth) (value (v .head) (v .key) (v .content) none) (v .proper, v .content-valid, tt) few-records (x .fields) heavy heavy-some (x .g) (x .siblings))
 
           grown-same : add Counting (times w (raw e field (again .rest))) grown ≡ add Counting (times w (raw e field vs)) f
           grown-same =

@@ -24,7 +24,7 @@ use Rattle.type_arena.specs.Inside.Arena.{byFlag, labelAt, RecordIn}
 use Rattle.counting_theory.specs.Inside.Times.{times}
 use Rattle.byte_records.specs.Inside.Numbers.{numbersOf}
 use Rattle.inference.specs.Inside.Inferring.{StandsAt, ArenaHolds, Starts, split, grown, Counted, Grown, AddedAt, labelFor, ItemAt, EqualRecords, resumed}
-use Rattle.inference.specs.Inside.ScalarFields.{AddedSoFar, plain, fieldStart, withScalar}
+use Rattle.inference.specs.Inside.ScalarFields.{AddedSoFar, plain, fieldStart, BelowAt, withScalar}
 use Rattle.counting_theory.proofs.Label.{kind-eq, key-eq}
 use Rattle.counting_theory.proofs.LabelOrder.{kind-less, kind-more, key-more, no-record}
 use Rattle.counting_theory.proofs.Tagged.Parts.{listed-field, Shape, tagged-parts}
@@ -32,35 +32,39 @@ use Rattle.inference.proofs.InPlace.Append.{siblings-last}
 use Rattle.inference.proofs.InPlace.Items.{label-is}
 use Rattle.inference.proofs.InPlace.Nodes.{node-in}
 use Rattle.inference.proofs.InPlace.Placing.{holds-length, here-as-is}
-use Rattle.inference.proofs.InPlace.Seeking.{Seen, starts-zero, from-bytes, from-count, seen-start, seen-at, stop, not-both}
+use Rattle.inference.proofs.InPlace.Seeking.{Seen, starts-zero, starts-next, from-bytes, from-count, seen-start, seen-at, stop, not-both}
 use Rattle.inference.proofs.InPlace.Splits.{HereAt, here-at}
 use Rattle.inference.proofs.InPlace.AddItem.{step-within, step-span, step-empty, step-holds, step-kept}
 use Rattle.inference.proofs.InPlace.RunLoop.{ran-first, below, grown as grownBy, turn-room, turn-added}
 
 -- a sibling where one starts: what is read there is its label
-record SiblingAt (e : Equivalence) (field : Bool) (a : List ℕ) (at : ℕ) : Type 0 where
+record SiblingAt (e : Equivalence) (field : Bool) (a : List ℕ) (n at : ℕ) : Type 0 where
   label : Label
   children : CountingType
   kind-is : typeKind a at ≡ label .kind
   key-is : typeKey a at ≡ label .key
   shape : Shape e field label children
   here : RecordIn a at
+  reach : (1 ≤ typeSpan a at) × (at + typeSpan a at ≤ n)
 
 module _ {e : Equivalence} {field : Bool} {a : List ℕ} {n rest : ℕ} {f : CountingType} {q free : List ℕ} (h : ArenaHolds e field a n rest f q free) where
-  sibling-in : (first last : CountingType) → f ≡ append first last → (at : ℕ) → at ≡ size first → at < n → SiblingAt e field a at
+  sibling-in : (first last : CountingType) → f ≡ append first last → (at : ℕ) → at ≡ size first → at < n → SiblingAt e field a n at
   unfolding size
   sibling-in first nil whole at count u = absurd (omega (arith, from-count h first nil whole at count))
   sibling-in first (node k c d t) whole at count u =
       let s = siblings-last first (rw whole at (h .siblings)) in
       let bytes = from-bytes h first (node k c d t) whole at count in
-      let y = node-in a (h .short) at k c d t (q ++ free) (s .keyed) bytes in
-      record { label = k; children = d; kind-is = y .kind-is; key-is = y .key-is; shape = tagged-parts e field k c d t (s .tagged) .0; here = record { whole = y .here .whole; short = h .short } }
+      let y = node-in a (h .short) at k c d t (q ++ free) (s .numbers) bytes in
+      record { label = k; children = d; kind-is = y .kind-is; key-is = y .key-is; shape = tagged-parts e field k c d t (s .tagged) .0; here = record { whole = y .here .whole; short = h .short }; reach = omega (arith, y .span-is, from-count h first (node k c d t) whole at count) }
 
-  sibling-at : {at : ℕ} → Starts at f → at < n → SiblingAt e field a at
+  sibling-at : {at : ℕ} → Starts at f → at < n → SiblingAt e field a n at
   sibling-at {at} s u = sibling-in (s .first) (s .last) (s .whole) at (s .count) u
 
   pub table-at : {at : ℕ} → Starts at f → at < n → RecordIn a at
   table-at s u = sibling-at s u .here
+
+  pub reach-at : {at : ℕ} → Starts at f → at < n → (1 ≤ typeSpan a at) × (at + typeSpan a at ≤ n)
+  reach-at s u = sibling-at s u .reach
 
 module _ {e : Equivalence} {a : List ℕ} {n rest : ℕ} {f : CountingType} {q free : List ℕ} {at : ℕ} where
   pub field-kind : ArenaHolds e true a n rest f q free → Starts at f → at < n → fieldKind ≡ typeKind a at
@@ -122,6 +126,25 @@ module _ (label : Bool) {b : List ℕ} {n rest : ℕ} {f : CountingType} {q free
     pub key-stands : from < n → key ≡ typeKey b from → StandsAt wantedField f from
     key-stands u z =
         stop (h .short) (seen-at h wantedField s u (no-less u (omega arith))) u .equal (plain-equal label b from fieldKind key (field-kind h s u) z (λ y. omega arith))
+
+  -- what is behind a field with a smaller key, and where that has a smaller key too
+  module _ {p next : ℕ} (x : BelowAt b n key f p) (e : next ≡ p + typeSpan b p) where
+    pub starts-behind : Starts next f
+    starts-behind = rw e (starts-next h p (x .starts) (x .within))
+
+    pub next-below : next < n → typeKey b next < key → BelowAt b n key f next
+    next-below u v = record { starts = starts-behind; within = u; below = v }
+
+  -- a search goes on behind a field with a smaller key
+  pub begun-behind : {p : ℕ} → BelowAt b n key f p → Begun (byFlag label) b n wantedField f (p + typeSpan b p)
+  begun-behind {p} x =
+      let s = x .starts in
+      let u = x .within in
+      let seen = seen-at h wantedField s u (no-less s u (omega (arith, x .below))) in
+      record {
+        seen = stop (h .short) seen u .greater (plain-key-greater label b p fieldKind key (field-kind h s u) (x .below));
+        starts = starts-next h p s u;
+      }
 
 -- a scalar as raw material
 abbrev scalar : ℕ → ℕ → Values

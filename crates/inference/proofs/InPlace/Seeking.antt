@@ -11,12 +11,13 @@ use lib.ListN.{length, drop}
 use borrow.Author.Tests.{lt-ltb, le-ltb, ltb-true}
 use Rattle.value_table.specs.Value.{maxLength}
 use Rattle.inference.specs.declared.search.Found.the-variants.{Here, Missing}
+use Rattle.counting_theory.specs.Payload.{Payload}
 use Rattle.counting_theory.specs.Trie.{nil, node, size}
 use Rattle.counting_theory.specs.Inside.TrieLaws.{append}
 use Rattle.counting_theory.specs.Label.{Equivalence, Label, compareLabel, CountingType}
 use Rattle.counting_theory.specs.Encoding.{typeSize, typeSpan, encode}
 use Rattle.type_arena.specs.Inside.Arena.{labelAt, Labelled}
-use Rattle.inference.specs.Inside.Inferring.{spotHere, spot, InferredSiblings, ArenaHolds, Starts, resumed}
+use Rattle.inference.specs.Inside.Inferring.{spotHere, spot, InferredSiblings, ArenaHolds, Starts, Ahead, resumed}
 use Rattle.counting_theory.proofs.Trie.Profile.{append-assoc as forest-assoc}
 use Rattle.counting_theory.proofs.Encoding.Header.{length-encode}
 use Rattle.inference.proofs.InPlace.Part.{tail-drop}
@@ -27,17 +28,32 @@ pub starts-zero : (f : CountingType) → Starts 0 f
 unfolding append size
 starts-zero f = record { first = nil; last = f; whole = refl; count = refl }
 
--- The siblings g from record `at` on. A search among them gives what a search of all siblings f gives, unless it was resumed here and
+-- the siblings behind the first ones and one more
+next-from : {f : CountingType} {at : ℕ} (first : CountingType) (k : Label) (c : Payload) (d t : CountingType) → f ≡ append first (node k c d t) → at ≡ size first + (1 + size d) → Starts at f
+unfolding append size
+next-from first k c d t whole count =
+    record {
+      first = append first (node k c d nil);
+      last = t;
+      whole = whole ∙ sym (forest-assoc first (node k c d nil) t);
+      count = omega (arith, size-append first (node k c d nil));
+    }
+
+-- The siblings from record `at` on. A search among them gives what a search of all siblings f gives, unless it was resumed here and
 -- the label comes before the sibling here.
 pub record Seen (e : Equivalence) (a : List ℕ) (n : ℕ) (l : Label) (f : CountingType) (resumed : Bool) (at : ℕ) : Type 0 where
   pub field : Bool
-  pub g : CountingType
+  pub starts : Starts at f
   pub q : List ℕ
-  pub bytes : drop (typeSize * at) a ≡ encode g ++ q
-  pub count : at + size g ≡ n
-  pub siblings : InferredSiblings e field g
+  pub bytes : drop (typeSize * at) a ≡ encode (starts .last) ++ q
+  pub count : at + size (starts .last) ≡ n
+  pub siblings : InferredSiblings e field (starts .last)
   pub within : resumed ≡ true → at < n
-  pub same : (resumed ≡ true → compareLabel l (labelAt e a at) ≡ lt → ⊥) → spot l at g ≡ spot l 0 f
+  pub same : (resumed ≡ true → compareLabel l (labelAt e a at) ≡ lt → ⊥) → spot l at (starts .last) ≡ spot l 0 f
+
+-- where it was not resumed, the label is ahead
+pub seen-ahead : {e : Equivalence} {a : List ℕ} {n : ℕ} {l : Label} {f : CountingType} {at : ℕ} → Seen e a n l f false at → Ahead l f at
+seen-ahead x = record { starts = x .starts; same = x .same (λ z. absurd (true≢false (sym z))) }
 
 spot-skip : (l : Label) (at : ℕ) (f g : CountingType) → AllBefore l f → spot l at (append f g) ≡ spot l (at + size f) g
 unfolding spot spotHere append size
@@ -68,13 +84,8 @@ module _ {e : Equivalence} {field : Bool} {a : List ℕ} {n rest : ℕ} {f : Cou
   next-start first nil whole from count u = absurd (omega (arith, from-count first nil whole from count))
   next-start first (node k c d t) whole from count u =
       let s = from-siblings first (node k c d t) whole from count in
-      let y = node-in a (h .short) from k c d t (q ++ free) (s .keyed) (from-bytes first (node k c d t) whole from count) in
-      record {
-        first = append first (node k c d nil);
-        last = t;
-        whole = whole ∙ sym (forest-assoc first (node k c d nil) t);
-        count = omega (arith, y .span-is, size-append first (node k c d nil));
-      }
+      let y = node-in a (h .short) from k c d t (q ++ free) (s .numbers) (from-bytes first (node k c d t) whole from count) in
+      next-from first k c d t whole (omega (arith, y .span-is))
 
   -- at the end the first one follows again
   pub starts-again : {from p : ℕ} → Starts from f → 0 < n → p ≡ cond (ltb from n) from 0 → Starts p f × (p < n)
@@ -108,7 +119,7 @@ module _ {e : Equivalence} {field : Bool} {a : List ℕ} {n rest : ℕ} {f : Cou
     unfolding size
     before-last u m nil z b w i = absurd (omega arith)
     before-last u m (node k c d t) z b w i =
-        let label = node-in a (h .short) from k c d t (q ++ free) (i .keyed) b .label-is e field (i .tagged) in
+        let label = node-in a (h .short) from k c d t (q ++ free) (i .numbers) b .label-is e field (i .tagged) in
         all-before l first k c d t (rw z at (h .siblings .sorted)) (λ y. m (rw label y))
 
     first-before : from < n → (compareLabel l (labelAt e a from) ≡ lt → ⊥) → AllBefore l first
@@ -116,11 +127,26 @@ module _ {e : Equivalence} {field : Bool} {a : List ℕ} {n rest : ℕ} {f : Cou
 
     seen-from : (resumed : Bool) → (resumed ≡ true → from < n) → (resumed ≡ false → AllBefore l first) → Seen e a n l f resumed from
     seen-from resumed u b =
-        record { field = field; g = last; q = q ++ free; bytes = from-bytes h first last whole from count; count = from-count h first last whole from count; siblings = from-siblings h first last whole from count; within = u; same = λ m. from-same (go resumed u b m) }
+        record { field = field; starts = record { first = first; last = last; whole = whole; count = count }; q = q ++ free; bytes = from-bytes h first last whole from count; count = from-count h first last whole from count; siblings = from-siblings h first last whole from count; within = u; same = λ m. from-same (go resumed u b m) }
       where
         go : (o : Bool) → (o ≡ true → from < n) → (o ≡ false → AllBefore l first) → (o ≡ true → compareLabel l (labelAt e a from) ≡ lt → ⊥) → AllBefore l first
         go true u b m = first-before (u refl) (m refl)
         go false u b m = b refl
+
+  -- a search from where the label is ahead
+  pub ahead-seen : {p : ℕ} → Ahead l f p → Seen e a n l f false p
+  ahead-seen {p} x =
+      let s = x .starts in
+      record {
+        field = field;
+        starts = s;
+        q = q ++ free;
+        bytes = from-bytes h (s .first) (s .last) (s .whole) p (s .count);
+        count = from-count h (s .first) (s .last) (s .whole) p (s .count);
+        siblings = from-siblings h (s .first) (s .last) (s .whole) p (s .count);
+        within = λ z. absurd (true≢false (sym z));
+        same = λ m. x .same;
+      }
 
   -- a search from the first sibling on
   pub seen-start : Seen e a n l f false 0
@@ -155,12 +181,12 @@ pub record Stop (e : Equivalence) (a : List ℕ) (n : ℕ) (l : Label) (f : Coun
   pub greater : compareLabel l (labelAt e a at) ≡ gt → Seen e a n l f false (at + typeSpan a at)
 
 module _ {e : Equivalence} {a : List ℕ} {n : ℕ} {l : Label} {f : CountingType} {resumed : Bool} {at : ℕ} (short : length a ≤ maxLength) (x : Seen e a n l f resumed at) where
-  stop-at : at < n → (g : CountingType) → drop (typeSize * at) a ≡ encode g ++ x .q → at + size g ≡ n → InferredSiblings e (x .field) g →
+  stop-at : at < n → (first g : CountingType) → f ≡ append first g → at ≡ size first → drop (typeSize * at) a ≡ encode g ++ x .q → at + size g ≡ n → InferredSiblings e (x .field) g →
       ((resumed ≡ true → compareLabel l (labelAt e a at) ≡ lt → ⊥) → spot l at g ≡ spot l 0 f) → Stop e a n l f resumed at
-  unfolding size spot spotHere
-  stop-at u nil h z s m = absurd (omega arith)
-  stop-at u (node k c d t) h z s m =
-      let y = node-in a short at k c d t (x .q) (s .keyed) h in
+  unfolding append size spot spotHere next-from
+  stop-at u first nil whole count h z s m = absurd (omega arith)
+  stop-at u first (node k c d t) whole count h z s m =
+      let y = node-in a short at k c d t (x .q) (s .numbers) h in
       let label = y .label-is e (x .field) (s .tagged) in
       record {
         here = y .here;
@@ -170,7 +196,7 @@ module _ {e : Equivalence} {a : List ℕ} {n : ℕ} {l : Label} {f : CountingTyp
         less = λ w r. rw (rw label at w) at (m (λ v. absurd (true≢false (sym v ∙ r))));
         greater = λ w. record {
           field = x .field;
-          g = t;
+          starts = next-from first k c d t whole (omega (arith, y .span-is));
           q = x .q;
           bytes = y .in-next;
           count = omega (arith, y .span-is);
@@ -181,7 +207,7 @@ module _ {e : Equivalence} {a : List ℕ} {n : ℕ} {l : Label} {f : CountingTyp
       }
 
   pub stop : at < n → Stop e a n l f resumed at
-  stop u = stop-at u (x .g) (x .bytes) (x .count) (x .siblings) (x .same)
+  stop u = stop-at u (x .starts .first) (x .starts .last) (x .starts .whole) (x .starts .count) (x .bytes) (x .count) (x .siblings) (x .same)
 
   end-at : n ≤ at → (g : CountingType) → at + size g ≡ n → spot l at g ≡ spot l 0 f → Missing at ≡ spot l 0 f
   unfolding size spot
@@ -189,4 +215,4 @@ module _ {e : Equivalence} {a : List ℕ} {n : ℕ} {l : Label} {f : CountingTyp
   end-at u (node k c d t) z m = absurd (omega arith)
 
   pub seen-end : n ≤ at → Missing at ≡ spot l 0 f
-  seen-end u = end-at u (x .g) (x .count) (x .same (λ r. absurd (omega (arith, x .within r))))
+  seen-end u = end-at u (x .starts .last) (x .count) (x .same (λ r. absurd (omega (arith, x .within r))))

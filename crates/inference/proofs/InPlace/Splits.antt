@@ -86,13 +86,13 @@ module _ (l : Label) where
     content-node : (o : Ordering) (k : Label) (n : Payload) (c s : CountingType) → compareLabel l k ≡ o → InferredSiblings e field (node k n c s) →
         InferredSiblings e (eqb (l .kind) recordKind) (split l s .content) → InferredSiblings e (eqb (l .kind) recordKind) (splitHere o k n c s (split l s) .content)
     unfolding splitHere
-    content-node lt k n c s z h i = record { tagged = tt; sorted = tt; keyed = tt }
+    content-node lt k n c s z h i = record { tagged = tt; sorted = tt; numbers = tt }
     content-node eq k n c s z h i =
         let p = tagged-parts e field k n c s (h .tagged) in
-        rw (label-order .compare-eq z) (record { tagged = rw (fields-inside e field k c (p .0)) at (p .1); sorted = h .sorted .1; keyed = h .keyed .1 })
+        rw (label-order .compare-eq z) (record { tagged = rw (fields-inside e field k c (p .0)) at (p .1); sorted = h .sorted .1; numbers = h .numbers .1 })
     content-node gt k n c s z h i = i
 
     pub content-siblings : (f : CountingType) → InferredSiblings e field f → InferredSiblings e (eqb (l .kind) recordKind) (split l f .content)
     unfolding split
-    content-siblings nil h = record { tagged = tt; sorted = tt; keyed = tt }
+    content-siblings nil h = record { tagged = tt; sorted = tt; numbers = tt }
     content-siblings (node k n c s) h = content-node (compareLabel l k) k n c s refl h (content-siblings s (siblings-next h))

@@ -30,7 +30,7 @@ table-run {t} {ms} x =
 
 pub holds-nothing : (e : Equivalence) (a : List ℕ) → length a ≤ maxLength → ArenaHolds e false a 0 0 nil [] a
 unfolding encode size
-holds-nothing e a h = record { bytes = refl; count = refl; used = refl; short = h; siblings = record { tagged = tt; sorted = tt; keyed = tt } }
+holds-nothing e a h = record { bytes = refl; count = refl; used = refl; short = h; siblings = record { tagged = tt; sorted = tt; numbers = tt } }
 
 -- the run once, added to nothing
 pub added-once : (e : Equivalence) (ms : Values) → add Counting (times 1 (raw e false ms)) nil ≡ profileOf e ms

@@ -17,6 +17,8 @@ use Rattle.inference.specs.declared.key_list.Listed.{Listed}
 use Rattle.inference.specs.declared.key_list.Listed.the-variants.{Keys, TooMany}
 use Rattle.inference.specs.declared.search.Found.{Found}
 use Rattle.inference.specs.declared.search.Found.the-variants.{Here, Missing}
+use Rattle.inference.specs.declared.search.Passed.{Passed}
+use Rattle.inference.specs.declared.search.Passed.the-variants.{Ended, Upto}
 use Rattle.inference.specs.declared.search.Head.{Head}
 use Rattle.inference.specs.declared.search.Head.the-variants.{Settled, Lists}
 use Rattle.inference.specs.declared.placing.Put.{Put}
@@ -34,7 +36,7 @@ use Rattle.counting_theory.specs.Encoding.{typeSize, typeKind, typeSpan, header
 use Rattle.key_word.specs.Word.{wordBits}
 use Rattle.type_arena.specs.Inside.Arena.{keysIn, labelAt}
 use Rattle.type_arena.specs.Inside.LabelOrder.{orderingOf}
-use Rattle.type_arena.specs.Inside.Payload.{itemPayload}
+use Rattle.type_arena.specs.Inside.Payload.{LengthsKept, itemPayload}
 
 -- the bytes of a key, and the first n keys of a key list in bytes
 abbrev pub keySize : ℕ
@@ -114,16 +116,16 @@ spot l at (node k count c s) = spotHere (compareLabel l k) at (spot l (at + (1 +
 abbrev pub StandsAt : Label → CountingType → ℕ → Type 0
 StandsAt l f p = Here p ≡ spot l 0 f
 
--- each kind and key fits its bytes
-abbrev pub Keyed : CountingType → Type 0
-Keyed nil = Unit {0}
-Keyed (node l a c s) = ((l .kind < 256) × (l .key < 65536)) × Keyed c × Keyed s
+-- each kind, key and length fits its bytes; a count need not, since sums wrap
+abbrev pub NumbersFit : CountingType → Type 0
+NumbersFit nil = Unit {0}
+NumbersFit (node l a c s) = ((l .kind < 256) × (l .key < 65536) × LengthsKept a) × NumbersFit c × NumbersFit s
 
 -- f is a union or, where `field` is true, a record's run of fields, as inference makes them
 pub record InferredSiblings (e : Equivalence) (field : Bool) (f : CountingType) : Type 0 where
   pub tagged : Tagged e field f
   pub sorted : Sorted Counting f
-  pub keyed : Keyed f
+  pub numbers : NumbersFit f
 
 -- the arena a is the siblings f, of n records, then q, the `rest` records that are in use behind them, then what is free
 pub record ArenaHolds (e : Equivalence) (field : Bool) (a : List ℕ) (n rest : ℕ) (f : CountingType) (q free : List ℕ) : Type 0 where
@@ -139,6 +141,16 @@ pub record Starts (from : ℕ) (f : CountingType) : Type 0 where
   pub last : CountingType
   pub whole : f ≡ append first last
   pub count : from ≡ size first
+
+-- a sibling of f, or the end, is at record p, and a search for l from there on gives what one of all siblings gives
+pub record Ahead (l : Label) (f : CountingType) (p : ℕ) : Type 0 where
+  pub starts : Starts p f
+  pub same : spot l p (starts .last) ≡ spot l 0 f
+
+-- what comes of passing siblings of f from record `from` on: where l stands or would, or from where on it is ahead
+abbrev pub PassedTo : Label → CountingType → ℕ → Passed → Type 0
+PassedTo l f from (Ended x) = x ≡ spot l 0 f
+PassedTo l f from (Upto p) = (from ≤ p) × Ahead l f p
 
 -- where a search may begin after a label was found at record p of n: there, or behind it among fields, if a sibling is there
 abbrev pub resumed : Bool → List ℕ → ℕ → ℕ → ℕ

@@ -3,7 +3,7 @@
 use mathlib.Core.Path.{_≡_}
 use mathlib.Core.Bool.{Bool, true, false, cond}
 use mathlib.Core.List.{List, [], _++_}
-use Prim.Native.Nat.{ℕ, _*_, _≤_}
+use Prim.Native.Nat.{ℕ, _*_, _≤_, _<_}
 use lib.Dec.{ltb}
 use lib.ListN.{length, drop}
 use Rattle.value_table.specs.Value.{maxLength, recordSize, Values, none, value, ValidAt}
@@ -76,6 +76,12 @@ pub record SomeField (b : List ℕ) (p : ℕ) : Type 0 where
 -- where a search for a field begins: at `from`, unless there is none, or one with a larger key
 abbrev pub fieldStart : List ℕ → ℕ → ℕ → ℕ → ℕ
 fieldStart b from n key = cond (ltb from n) (cond (ltb key (typeKey b from)) 0 from) 0
+
+-- one of the fields f stands at record p of n, with a smaller key
+pub record BelowAt (b : List ℕ) (n key : ℕ) (f : CountingType) (p : ℕ) : Type 0 where
+  pub starts : Starts p f
+  pub within : p < n
+  pub below : typeKey b p < key
 
 -- the field stands there; or a search for it may begin there
 abbrev pub SoughtIn : Label → CountingType → Sought → Type 0

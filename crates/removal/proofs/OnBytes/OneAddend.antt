@@ -9,25 +9,28 @@ use lib.Dec.{eqb}
 use lib.ListN.{length}
 use borrow.Author.Tests.{eqb-true, le-leb, lt-leb}
 use Rattle.value_table.specs.Value.{recordKind}
-use Rattle.counting_theory.specs.Payload.{Payload}
+use Rattle.removal_theory.specs.Payload.{Payload}
 use Rattle.counting_theory.specs.Trie.{nil, node, size}
-use Rattle.counting_theory.specs.Label.{Equivalence, byKind, Label, Counting, CountingType}
-use Rattle.counting_theory.specs.Encoding.{typeSize, typeKind, typeKey, typePayload, encode, typeOf}
-use Rattle.counting_theory.specs.Inside.TypeBytes.{typeCount}
-use Rattle.counting_theory.specs.WellFormed.{maxTotal, fieldsOf, fieldCounts}
-use Rattle.type_arena.specs.declared.level.Level.{Level}
-use Rattle.type_arena.specs.Inside.Arena.{labelAt, headerOf}
-use Rattle.type_arena.specs.Inside.Addend.{body, Coded}
+use Rattle.counting_theory.specs.Label.{Equivalence, byKind, Label}
+use Rattle.removal_theory.specs.Label.{Counting, CountingType}
+use Rattle.removal_theory.specs.Encoding.{typeSize, typeKind, typeKey, typePayload, encode, typeOf}
+use Rattle.removal_theory.specs.Inside.TypeBytes.{typeCount}
+use Rattle.counting_theory.specs.WellFormed.{maxTotal}
+use Rattle.removal_theory.specs.WellFormed.{fieldsOf, fieldCounts}
+use Rattle.removal_arena.specs.declared.level.Level.{Level}
+use Rattle.removal_arena.specs.Inside.Arena.{labelAt, headerOf}
+use Rattle.removal_arena.specs.Inside.Addend.{body, Coded}
 use Rattle.removal.specs.Difference.{Taken, short, gone, left, kept, emptied, takenNode, difference}
 use Rattle.removal.specs.Removed.{takenBy, taken}
 use Rattle.removal.specs.Inside.Removing.{keepsCounts, bytesLeft, runLeft, addendLeft}
 use Rattle.counting_theory.proofs.Order.{number-refl, less-compare, more-compare}
-use Rattle.counting_theory.proofs.Label.{kind-eq, counting-laws}
-use Rattle.counting_theory.proofs.Tagged.Parts.{Shape}
-use Rattle.counting_theory.proofs.Encoding.Header.{payload-count, length-encode}
+use Rattle.counting_theory.proofs.Label.{kind-eq}
+use Rattle.removal_theory.proofs.Label.{counting-laws}
+use Rattle.removal_theory.proofs.Tagged.Parts.{Shape}
+use Rattle.removal_theory.proofs.Encoding.Header.{payload-count, length-encode}
 use Rattle.counting_theory.proofs.Trie.Canonical.{some-none}
-use Rattle.type_arena.proofs.FirstAddend.{header-first, coded-length}
-use Rattle.type_arena.proofs.Runs.{At, Head}
+use Rattle.removal_arena.proofs.FirstAddend.{header-first, coded-length}
+use Rattle.removal_arena.proofs.Runs.{At, Head}
 use Rattle.removal.proofs.Difference.{steps, difference-self, removal-nil}
 use Rattle.removal.proofs.Remains.{size-removal}
 use Rattle.removal.proofs.Taken.{taken-laws}

@@ -11,17 +11,18 @@ use lib.ListN.{length}
 use lib.Seq.{sets, length-sets}
 use Rattle.value_table.specs.Value.{recordKind}
 use Rattle.counting_theory.specs.Label.{byKind}
-use Rattle.counting_theory.specs.Encoding.{typePayload, typeKind, typeOf}
-use Rattle.counting_theory.specs.Inside.TypeBytes.{typeCount}
-use Rattle.counting_theory.specs.WellFormed.{maxTotal, fieldCounts}
-use Rattle.counting_theory.proofs.WellFormed.Nodes.{fieldCounts-parts}
-use Rattle.counting_theory.proofs.Encoding.Header.{payload-count}
-use Rattle.type_arena.specs.declared.level.Level.{Level}
-use Rattle.type_arena.specs.Inside.Arena.{labelAt}
-use Rattle.type_arena.specs.Inside.Addend.{front, body, rest, Kept}
-use Rattle.type_arena.specs.Inside.Runs.{TypeRun, insideOf}
-use Rattle.type_arena.proofs.FirstAddend.{front-rest}
-use Rattle.type_arena.proofs.Runs.{At, order, Head}
+use Rattle.removal_theory.specs.Encoding.{typePayload, typeKind, typeOf}
+use Rattle.removal_theory.specs.Inside.TypeBytes.{typeCount}
+use Rattle.counting_theory.specs.WellFormed.{maxTotal}
+use Rattle.removal_theory.specs.WellFormed.{fieldCounts}
+use Rattle.removal_theory.proofs.WellFormed.Nodes.{fieldCounts-parts}
+use Rattle.removal_theory.proofs.Encoding.Header.{payload-count}
+use Rattle.removal_arena.specs.declared.level.Level.{Level}
+use Rattle.removal_arena.specs.Inside.Arena.{labelAt}
+use Rattle.removal_arena.specs.Inside.Addend.{front, body, rest, Kept}
+use Rattle.removal_arena.specs.Inside.Runs.{TypeRun, insideOf}
+use Rattle.removal_arena.proofs.FirstAddend.{front-rest}
+use Rattle.removal_arena.proofs.Runs.{At, order, Head}
 use Rattle.removal.specs.Inside.Removing.{WholeRun, runLeft, addendLeft, placed, unless, RemovedSoFar, AddendRemoved}
 use Rattle.removal.proofs.OnBytes.Placing.{unless-none, unless-set, placed-none, placed-some, placed-next}
 use Rattle.removal.proofs.OnBytes.Steps.{Step, step-less, step-more, step-same, whole-out}

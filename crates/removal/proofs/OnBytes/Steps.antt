@@ -9,21 +9,22 @@ use lib.Dec.{eqb, leb, ltb}
 use native.Mathlib.Decide.{decLt}
 use borrow.Author.Tests.{le-leb, lt-leb, le-ltb, lt-ltb}
 use Rattle.value_table.specs.Value.{recordKind}
-use Rattle.counting_theory.specs.Payload.{Payload}
+use Rattle.removal_theory.specs.Payload.{Payload}
 use Rattle.counting_theory.specs.Trie.{nil, node, size}
-use Rattle.counting_theory.specs.Label.{Equivalence, byKind, Label, Counting, CountingType}
-use Rattle.counting_theory.specs.Encoding.{typePayload, header, encode, typeOf}
-use Rattle.counting_theory.specs.WellFormed.{fieldsOf, fieldCounts}
-use Rattle.type_arena.specs.declared.level.Level.{Level}
-use Rattle.type_arena.specs.Inside.Arena.{labelAt}
-use Rattle.type_arena.specs.Inside.Addend.{front, body, rest}
+use Rattle.counting_theory.specs.Label.{Equivalence, byKind, Label}
+use Rattle.removal_theory.specs.Label.{Counting, CountingType}
+use Rattle.removal_theory.specs.Encoding.{typePayload, header, encode, typeOf}
+use Rattle.removal_theory.specs.WellFormed.{fieldsOf, fieldCounts}
+use Rattle.removal_arena.specs.declared.level.Level.{Level}
+use Rattle.removal_arena.specs.Inside.Arena.{labelAt}
+use Rattle.removal_arena.specs.Inside.Addend.{front, body, rest}
 use Rattle.removal.specs.Difference.{Taken, short, gone, left, kept, emptied, takenNode, differenceStep, differenceNode, difference}
 use Rattle.removal.specs.Removed.{taken}
 use Rattle.removal.specs.Inside.Removing.{WholeRun, bytesLeft, runLeft, addendLeft, followed, unless}
 use Rattle.counting_theory.proofs.WellFormed.Tests.{implies}
-use Rattle.counting_theory.proofs.WellFormed.Nodes.{fieldCounts-parts}
-use Rattle.type_arena.proofs.FirstAddend.{header-first, coded-type, type-empty}
-use Rattle.type_arena.proofs.Runs.{At, order, Head}
+use Rattle.removal_theory.proofs.WellFormed.Nodes.{fieldCounts-parts}
+use Rattle.removal_arena.proofs.FirstAddend.{header-first, coded-type, type-empty}
+use Rattle.removal_arena.proofs.Runs.{At, order, Head}
 use Rattle.removal.proofs.OnBytes.Placing.{followed-empty, followed-none, followed-tests}
 
 encode-node : (l : Label) (a : Payload) (c s : CountingType) → encode (node l a c s) ≡ encode (node l a c nil) ++ encode s

@@ -11,16 +11,17 @@ use lib.ListN.{length, length-append}
 use lib.Seq.{sets}
 use borrow.Author.Tests.{not-true}
 use Rattle.counting_theory.specs.Label.{byKind}
-use Rattle.counting_theory.specs.Encoding.{typeSize, typeKind, typeKey, typeOf}
-use Rattle.counting_theory.specs.Inside.TypeBytes.{typeCount}
-use Rattle.counting_theory.specs.WellFormed.{maxTotal, fieldsOf}
-use Rattle.type_arena.specs.declared.level.Level.{Level}
-use Rattle.type_arena.specs.Inside.Arena.{headerOf}
-use Rattle.type_arena.specs.Inside.Addend.{front, body}
-use Rattle.type_arena.specs.Inside.Runs.{insideOf}
-use Rattle.type_arena.proofs.FirstAddend.{body-rest, front-rest}
-use Rattle.type_arena.proofs.RecordBytes.{length-header}
-use Rattle.type_arena.proofs.Runs.{At, Head}
+use Rattle.removal_theory.specs.Encoding.{typeSize, typeKind, typeKey, typeOf}
+use Rattle.removal_theory.specs.Inside.TypeBytes.{typeCount}
+use Rattle.counting_theory.specs.WellFormed.{maxTotal}
+use Rattle.removal_theory.specs.WellFormed.{fieldsOf}
+use Rattle.removal_arena.specs.declared.level.Level.{Level}
+use Rattle.removal_arena.specs.Inside.Arena.{headerOf}
+use Rattle.removal_arena.specs.Inside.Addend.{front, body}
+use Rattle.removal_arena.specs.Inside.Runs.{insideOf}
+use Rattle.removal_arena.proofs.FirstAddend.{body-rest, front-rest}
+use Rattle.removal_arena.proofs.RecordBytes.{length-header}
+use Rattle.removal_arena.proofs.Runs.{At, Head}
 use Rattle.byte_records.proofs.Sets.{sets-last}
 use Rattle.removal.specs.declared.pass.Remainder.the-variants.{Bytes, NotPart}
 use Rattle.removal.specs.Inside.Removing.{runLeft, addendLeft, placed, unless, RemovedSoFar, AddendRemoved, remainderAt}

@@ -3,7 +3,7 @@ use mathlib.Core.Path.{refl}
 use mathlib.Core.List.{[]}
 use native.Mathlib.Omega.{arith}
 use borrow.Author.Needs.{needs}
-use Rattle.answers.proofs.Fronts.{front-length, front-cleared}
+use Rattle.removal_check.proofs.Fronts.{front-length, front-cleared}
 use Rattle.removal.proofs.WholeTypes.{exact-removed}
 use Rattle.removal.proofs.remove.Statement.{statement}
 use Rattle.removal.proofs.remove.Tie as tie

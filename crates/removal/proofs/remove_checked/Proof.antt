@@ -2,7 +2,7 @@
 use native.Mathlib.Omega.{arith}
 use borrow.Author.Needs.{needs}
 use Rattle.removal.specs.Inside.Removing.{remainderAt}
-use Rattle.type_arena.proofs.Runs.{type-run, type-short}
+use Rattle.removal_arena.proofs.Runs.{type-run, type-short}
 use Rattle.removal.proofs.WholeTypes.{type-whole, front-not-part, front-no-room, front-removed}
 use Rattle.removal.proofs.remove_checked.Statement.{statement}
 use Rattle.removal.proofs.remove_checked.Tie as tie

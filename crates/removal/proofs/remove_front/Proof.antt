@@ -7,11 +7,11 @@ use Prim.Native.Nat.{ℕ}
 use lib.ListN.{length}
 use borrow.Author.Needs.{needs}
 use Rattle.counting_theory.specs.Label.{Equivalence}
-use Rattle.counting_theory.specs.Encoding.{typeOf}
-use Rattle.counting_theory.specs.WellFormed.{badTypeLength}
+use Rattle.removal_theory.specs.Encoding.{typeOf}
+use Rattle.removal_theory.specs.WellFormed.{badTypeLength}
 use Rattle.counting_theory.specs.Answers.{equivalenceOf, Written, turnedDown}
-use Rattle.type_check.specs.Inside.Pair.{pairUnder, onPair}
-use Rattle.answers.proofs.Fronts.{front-refused}
+use Rattle.removal_check.specs.Inside.Pair.{pairUnder, onPair}
+use Rattle.removal_check.proofs.Fronts.{front-refused}
 use Rattle.removal.specs.Removed.{removedType, removedTypes, removedUnder, removed}
 use Rattle.removal.proofs.remove_front.Statement.{statement}
 use Rattle.removal.proofs.remove_front.Tie as tie

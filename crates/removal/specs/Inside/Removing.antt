@@ -7,13 +7,15 @@ use Prim.Native.Nat.{ℕ, _+_, _≤_}
 use lib.ListN.{length}
 use lib.Seq.{sets}
 use Rattle.counting_theory.specs.Trie.{nil}
-use Rattle.counting_theory.specs.Label.{Equivalence, byKind, Counting, CountingType}
-use Rattle.counting_theory.specs.Encoding.{typePayload, encode, typeOf}
-use Rattle.counting_theory.specs.WellFormed.{maxTotal, fieldsOf, fieldCounts}
-use Rattle.type_arena.specs.declared.level.Level.{Level}
-use Rattle.type_arena.specs.Inside.Arena.{byFlag, labelAt}
-use Rattle.type_arena.specs.Inside.Addend.{front, body, Coded}
-use Rattle.type_arena.specs.Inside.Runs.{TypeRun}
+use Rattle.counting_theory.specs.Label.{Equivalence, byKind}
+use Rattle.removal_theory.specs.Label.{Counting, CountingType}
+use Rattle.removal_theory.specs.Encoding.{typePayload, encode, typeOf}
+use Rattle.counting_theory.specs.WellFormed.{maxTotal}
+use Rattle.removal_theory.specs.WellFormed.{fieldsOf, fieldCounts}
+use Rattle.removal_arena.specs.declared.level.Level.{Level}
+use Rattle.removal_arena.specs.Inside.Arena.{byFlag, labelAt}
+use Rattle.removal_arena.specs.Inside.Addend.{front, body, Coded}
+use Rattle.removal_arena.specs.Inside.Runs.{TypeRun}
 use Rattle.removal.specs.declared.pass.Remainder.{Remainder}
 use Rattle.removal.specs.declared.pass.Remainder.the-variants.{Bytes, NotPart}
 use Rattle.removal.specs.Difference.{takenNode, difference}

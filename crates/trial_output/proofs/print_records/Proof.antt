@@ -5,10 +5,10 @@ use Rattle.trial_output.proofs.print_records.Statement.{statement}
 use Rattle.trial_output.proofs.print_records.Tie as tie
 
 abbrev Inv-loop : tie.InvT-loop
-Inv-loop bytes n i₀ t4 i = i ≤ n
+Inv-loop bytes layout n i₀ t4 i = i ≤ n
 
 abbrev μ-loop : tie.MeasureT-loop
-μ-loop bytes n i₀ t4 i = n - i
+μ-loop bytes layout n i₀ t4 i = n - i
 
 pub print-records-spec : {M : Type 1} → statement M
 print-records-spec =
@@ -16,6 +16,7 @@ print-records-spec =
     (tie.spec
     Inv-loop
     μ-loop
+    (λ c κs. search needs)
     (λ c. search needs)
     (λ c. search needs)
     (λ c κs. search needs)

@@ -1,17 +1,25 @@
 -- The checker: unions by addends, addends by their inner unions, fields between, with a remaining depth that falls.
 use mathlib.Core.Path.{_≡_, refl, sym, ap, _∙_}
-use Prim.Native.Nat.{ℕ, _+_, _*_, _-_, _<_}
+use mathlib.Core.Bool.{true, false}
+use mathlib.Core.List.{List}
+use Prim.Native.Nat.{ℕ, _+_, _*_, _-_, _≤_, _<_}
 use native.Mathlib.Omega.{arith}
 use borrow.Author.Needs.{needs}
 use borrow.Author.Tests.{not-true, not-false}
 use borrow.Fn.Kinds.{In}
 use borrow.Fn.PlainCycle.{Measures, is, falls, and}
-use Rattle.counting_theory.specs.Encoding.{typeSpan}
+use Rattle.value_table.specs.Value.{maxDepth, arrayKind}
+use Rattle.counting_theory.specs.Payload.{Payload, noLengths}
+use Rattle.counting_theory.specs.Encoding.{typeKind, typeSpan, typePayload}
 use Rattle.counting_theory.specs.Inside.TypeBytes.{typeCount}
+use Rattle.counting_theory.specs.WellFormed.{maxTotal, typeRecord}
+use Rattle.counting_theory.proofs.Encoding.Header.{payload-count}
+use Rattle.counting_theory.proofs.Payload.{proper-array}
 use Rattle.type_arena.specs.Inside.Arena.{byFlag}
-use Rattle.type_check.specs.Inside.Checker.{checkedOf, isSome, hasTotal, addends, checkRun, addendRight}
-use Rattle.type_check.proofs.OnePass.CheckLoop.{addend-inside, wrong-record, record-span, with-fields, with-union, with-nothing}
-use Rattle.type_check.proofs.OnePass.Loops.{run-from, run-within, in-table, Addends, addends-start, addends-done, last-inside, wrong-addend, wrong-count, wrong-order, addend-span, count-below, addends-next, Fields, fields-start, fields-done, wrong-field, field-span, wrong-total, fields-next}
+use Rattle.type_arena.specs.Inside.Payload.{payloadOf}
+use Rattle.type_check.specs.Inside.Checker.{RunOf, checkedOf, hasTotal, properWithin, addends, checkRun, addendRight}
+use Rattle.type_check.proofs.OnePass.CheckLoop.{addend-inside, wrong-record, record-span, with-found, wrong-lengths, with-fields, with-nothing}
+use Rattle.type_check.proofs.OnePass.Loops.{run-from, run-within, in-table, Addends, addends-start, addends-done, last-inside, wrong-count, count-bounds, wrong-addend, wrong-order, addend-span, addends-next, Fields, fields-start, fields-done, wrong-field, field-span, wrong-total, fields-next}
 use Rattle.type_check.proofs.check_addend.Reads as check-addend
 use Rattle.type_check.proofs.check_addend.Kinds as check-addend-kinds
 use Rattle.type_check.proofs.+check_addend+check_field+check_fields+check_union.Lts-check_addend as check-addend-lts
@@ -29,6 +37,9 @@ use Rattle.type_check.proofs.check_scalar.Reads as check-scalar-reads
 use Rattle.type_check.proofs.count_fits.Reads as count-fits-reads
 use Rattle.type_check.proofs.field_fits.Reads as field-fits-reads
 use Rattle.type_check.proofs.in_order.Reads as in-order-reads
+use Rattle.type_check.proofs.lengths_fit.Reads as lengths-fit-reads
+use Rattle.type_check.proofs.no_lengths.Reads as no-lengths-reads
+use Rattle.type_arena.proofs.payload.payload_at.Reads as payload-at-reads
 use Rattle.type_arena.proofs.type_record.count_at.Reads as count-at-reads
 use Rattle.type_arena.proofs.type_record.key_at.Reads as key-at-reads
 use Rattle.type_arena.proofs.type_record.kind_at.Reads as kind-at-reads
@@ -73,16 +84,41 @@ abbrev check-union-below : ℕ → In 1 check-union-kinds.ps
 check-union-below t = and 1 check-union-kinds.ps (falls 1 check-union-kinds.ps _<_ μ-check-union t) check-union.Pre
 
 abbrev check-addend-calls : ℕ → check-addend-lts.Claims
-check-addend-calls t = (addend-record-reads.Asked, addend-record-reads.Learnt, kind-at-reads.Asked, kind-at-reads.Learnt, span-at-reads.Asked, span-at-reads.Learnt, count-at-reads.Asked, count-at-reads.Learnt, check-fields-below t, check-fields.Post, check-union-below t, check-union.Post)
+check-addend-calls t = (addend-record-reads.Asked, addend-record-reads.Learnt, kind-at-reads.Asked, kind-at-reads.Learnt, span-at-reads.Asked, span-at-reads.Learnt, payload-at-reads.Asked, payload-at-reads.Learnt, check-union-below t, check-union.Post, lengths-fit-reads.Asked, lengths-fit-reads.Learnt, no-lengths-reads.Asked, no-lengths-reads.Learnt, count-at-reads.Asked, count-at-reads.Learnt, check-fields-below t, check-fields.Post)
 
 module _ (t : ℕ) where
-  -- what the call on the inner union says of the addend
+  -- what is known of an addend once its payload is at hand
+  module _ (c : check-addend-lts.After-payload-at (check-addend-calls t) (check-addend-at t) check-addend.Post) where
+    abbrev start : check-addend-lts.Start (check-addend-calls t) (check-addend-at t) check-addend.Post
+    start = c .before .before .before .before .before .before
+
+    abbrev bytes : List ℕ
+    bytes = start .args .b .now
+
+    right : typeRecord bytes (start .args .p) (start .args .end) false (33 - start .args .left) ≡ true
+    right = sym (c .before .before .before .before .addend-record .ensures) ∙ not-false _ (c .before .before .before .if1 .left)
+
+    spanned : (1 ≤ typeSpan bytes (start .args .p)) × (start .args .p + typeSpan bytes (start .args .p) ≤ start .args .end) × (33 - start .args .left ≤ maxDepth) × (typeKind bytes (start .args .p) ≤ arrayKind)
+    spanned = record-span (byFlag (start .args .label)) _ _ _ _ right
+
+    inside-run : RunOf bytes (start .args .p + 1) (start .args .p + c .before .span-at .result)
+    inside-run = run-within (start .pre .1 .0) (omega (arith, spanned .0, c .before .span-at .ensures .0)) (omega (arith, spanned .1, c .before .span-at .ensures .0))
+
+    counted : (1 ≤ c .payload-at .result .count) × (c .payload-at .result .count ≤ maxTotal)
+    unfolding payloadOf
+    counted =
+        let z : c .payload-at .result .count ≡ typeCount bytes (start .args .p) = ap (λ (a : Payload). a .count) (c .payload-at .ensures) ∙ payload-count bytes (start .args .p) in
+        (omega (arith, z, start .pre .1 .3), omega (arith, z, start .pre .1 .4))
+
+  -- what the call on the inner union says of an array
   inner-union : (c : check-addend-lts.After-check-union (check-addend-calls t) (check-addend-at t) check-addend.Post) →
-      let a = c .before .before .before .before .before .before .before .before .args in isSome (checkedOf (c .check-union .result)) ≡ addendRight (byFlag (a .label)) (a .b .now) (a .p) (a .end) (33 - a .left)
+      let s = start (c .before .before) in
+      properWithin (s .args .b .now) (s .args .p) (checkedOf (c .check-union .result)) ≡ addendRight (byFlag (s .args .label)) (s .args .b .now) (s .args .p) (s .args .end) (33 - s .args .left)
   inner-union c =
-      let h = (sym (c .before .before .before .before .before .before .addend-record .ensures) ∙ not-false _ (c .before .before .before .before .before .if1 .left)) in
-      let d : 33 - (c .before .before .before .before .before .before .before .before .args .left - 1) ≡ 33 - c .before .before .before .before .before .before .before .before .args .left + 1 = omega (arith, record-span (byFlag (c .before .before .before .before .before .before .before .before .args .label)) _ _ _ _ h .2, c .before .before .before .before .before .before .before .before .pre .1 .2) in
-      ap isSome (rw (d, c .before .before .before .span-at .ensures .0) at (c .check-union .ensures)) ∙ with-union _ _ _ _ _ h (λ z. c .before .before .if2 .left (c .before .before .before .before .kind-at .ensures ∙ z))
+      let k = c .before .before in
+      let a = start k .args in
+      with-found _ _ _ _ _ (right k) _ _ _ (λ z. omega (arith, z, k .before .before .kind-at .ensures, c .before .if2 .taken)) (c .check-union .ensures)
+      (ap (λ n. a .p + n) (k .before .span-at .ensures .0)) (omega (arith, spanned k .2, start k .pre .1 .2))
 
   check-addend-addend-record-requires : check-addend-lts.Need-addend-record-requires (check-addend-calls t) (check-addend-at t) check-addend.Post
   check-addend-addend-record-requires c κs = (in-table (c .before .pre .1 .0) (c .before .pre .1 .1), c .before .pre .1 .2)
@@ -99,47 +135,79 @@ module _ (t : ℕ) where
   check-addend-add-inner-end : check-addend-lts.Need-add-inner-end (check-addend-calls t) (check-addend-at t) check-addend.Post
   check-addend-add-inner-end c = omega (arith, record-span (byFlag (c .before .before .before .before .before .args .label)) _ _ _ _ (sym (c .before .before .before .addend-record .ensures) ∙ not-false _ (c .before .before .if1 .left)) .1, c .span-at .ensures .0, c .before .before .before .before .before .pre .1 .0 .within)
 
-  check-addend-add-check-fields : check-addend-lts.Need-add-check-fields (check-addend-calls t) (check-addend-at t) check-addend.Post
-  check-addend-add-check-fields c = omega (arith, c .before .before .before .before .before .before .pre .1 .0 .within, c .before .before .before .before .before .before .pre .1 .1)
-
-  check-addend-count-at-requires : check-addend-lts.Need-count-at-requires (check-addend-calls t) (check-addend-at t) check-addend.Post
-  check-addend-count-at-requires c κs = in-table (c .before .before .before .before .before .before .pre .1 .0) (c .before .before .before .before .before .before .pre .1 .1) .whole
-
-  check-addend-check-fields-requires : check-addend-lts.Need-check-fields-requires (check-addend-calls t) (check-addend-at t) check-addend.Post
-  check-addend-check-fields-requires c κs =
-      let s = record-span (byFlag (c .before .before .before .before .before .before .before .args .label)) _ _ _ _ (sym (c .before .before .before .before .before .addend-record .ensures) ∙ not-false _ (c .before .before .before .before .if1 .left)) in
-      (omega (arith, c .before .before .before .before .before .before .before .pre .0), (rw (c .before .before .span-at .ensures .0) (run-within (c .before .before .before .before .before .before .before .pre .1 .0) (omega (arith, s .0)) (s .1)), omega (arith, s .2, c .before .before .before .before .before .before .before .pre .1 .2), c .before .before .before .before .before .before .before .pre .1 .2))
-
-  check-addend-returns-2 : check-addend-lts.Need-returns-2 (check-addend-calls t) (check-addend-at t) check-addend.Post
-  check-addend-returns-2 c =
-      rw (c .before .before .before .span-at .ensures .0, c .before .count-at .ensures) at (c .check-fields .ensures)
-      ∙ with-fields _ _ _ _ _ (sym (c .before .before .before .before .before .before .addend-record .ensures) ∙ not-false _ (c .before .before .before .before .before .if1 .left)) (sym (c .before .before .before .before .kind-at .ensures) ∙ c .before .before .if2 .taken)
-
-  check-addend-returns-3 : check-addend-lts.Need-returns-3 (check-addend-calls t) (check-addend-at t) check-addend.Post
-  check-addend-returns-3 c = with-nothing _ _ _ _ _ (sym (c .before .before .before .before .before .addend-record .ensures) ∙ not-false _ (c .before .before .before .before .if1 .left)) (rw (c .before .before .before .kind-at .ensures) at (c .if3 .taken))
+  check-addend-payload-at-requires : check-addend-lts.Need-payload-at-requires (check-addend-calls t) (check-addend-at t) check-addend.Post
+  check-addend-payload-at-requires c κs = in-table (c .before .before .before .before .before .pre .1 .0) (c .before .before .before .before .before .pre .1 .1) .whole
 
   check-addend-add-check-union : check-addend-lts.Need-add-check-union (check-addend-calls t) (check-addend-at t) check-addend.Post
-  check-addend-add-check-union c = omega (arith, c .before .before .before .before .before .before .before .pre .1 .0 .within, c .before .before .before .before .before .before .before .pre .1 .1)
+  check-addend-add-check-union c = let s = start (c .before) in omega (arith, s .pre .1 .0 .within, s .pre .1 .1)
 
   check-addend-sub-check-union : check-addend-lts.Need-sub-check-union (check-addend-calls t) (check-addend-at t) check-addend.Post
-  check-addend-sub-check-union c = omega (arith, record-span (byFlag (c .before .before .before .before .before .before .before .args .label)) _ _ _ _ (sym (c .before .before .before .before .before .addend-record .ensures) ∙ not-false _ (c .before .before .before .before .if1 .left)) .2)
+  check-addend-sub-check-union c = omega (arith, spanned (c .before) .2)
 
   check-addend-check-union-requires : check-addend-lts.Need-check-union-requires (check-addend-calls t) (check-addend-at t) check-addend.Post
-  check-addend-check-union-requires c κs =
-      let s = record-span (byFlag (c .before .before .before .before .before .before .before .args .label)) _ _ _ _ (sym (c .before .before .before .before .before .addend-record .ensures) ∙ not-false _ (c .before .before .before .before .if1 .left)) in
-      (omega (arith, s .2, c .before .before .before .before .before .before .before .pre .0, c .before .before .before .before .before .before .before .pre .1 .2), (rw (c .before .before .span-at .ensures .0) (run-within (c .before .before .before .before .before .before .before .pre .1 .0) (omega (arith, s .0)) (s .1)), omega (arith, c .before .before .before .before .before .before .before .pre .1 .2)))
+  check-addend-check-union-requires c κs = let s = start (c .before) in (omega (arith, spanned (c .before) .2, s .pre .0, s .pre .1 .2), (inside-run (c .before), omega (arith, s .pre .1 .2)))
+
+  check-addend-enum-known-elements : check-addend-lts.Need-enum-known-elements (check-addend-calls t) (check-addend-at t) check-addend.Post
+  check-addend-enum-known-elements c = search needs
+
+  check-addend-lengths-fit-requires : check-addend-lts.Need-lengths-fit-requires (check-addend-calls t) (check-addend-at t) check-addend.Post
+  check-addend-lengths-fit-requires c κs = counted (c .before .before .before .before .before)
 
   check-addend-enum-told : check-addend-lts.Need-enum-told (check-addend-calls t) (check-addend-at t) check-addend.Post
   check-addend-enum-told c = search needs
 
-  check-addend-enum-told-2 : check-addend-lts.Need-enum-told-2 (check-addend-calls t) (check-addend-at t) check-addend.Post
-  check-addend-enum-told-2 c = search needs
+  check-addend-returns-2 : check-addend-lts.Need-returns-2 (check-addend-calls t) (check-addend-at t) check-addend.Post
+  check-addend-returns-2 c =
+      let k = c .before .before .before .before .before .before in
+      let a = start k .args in
+      rw (k .payload-at .ensures) at (c .lengths-fit .ensures)
+      ∙ sym (proper-array (typeKind (a .b .now) (a .p)) (typePayload (a .b .now) (a .p)) _ (sym (k .before .before .kind-at .ensures) ∙ c .before .before .before .before .before .if2 .taken))
+      ∙ sym (ap (λ x. properWithin (a .b .now) (a .p) (checkedOf x)) (c .before .before .elements .given .1))
+      ∙ inner-union (c .before .before .before .before)
+
+  check-addend-returns-3 : check-addend-lts.Need-returns-3 (check-addend-calls t) (check-addend-at t) check-addend.Post
+  check-addend-returns-3 c =
+      let a = start (c .before .before .before .before) .args in
+      sym (ap (λ x. properWithin (a .b .now) (a .p) (checkedOf x)) (c .enum-told .given .1)) ∙ inner-union (c .before .before)
+
+  -- no array
+  module _ (c : check-addend-lts.After-no-lengths (check-addend-calls t) (check-addend-at t) check-addend.Post) where
+    abbrev held : check-addend-lts.After-payload-at (check-addend-calls t) (check-addend-at t) check-addend.Post
+    held = c .before .before
+
+    other : ¬ (typeKind (bytes held) (start held .args .p) ≡ arrayKind)
+    other z = c .before .if2 .left (held .before .before .kind-at .ensures ∙ z)
+
+    lengths-told : c .no-lengths .result ≡ noLengths (typePayload (bytes held) (start held .args .p))
+    lengths-told = rw (held .payload-at .ensures) at (c .no-lengths .ensures)
+
+  check-addend-no-lengths-requires : check-addend-lts.Need-no-lengths-requires (check-addend-calls t) (check-addend-at t) check-addend.Post
+  check-addend-no-lengths-requires c κs = tt
 
   check-addend-returns-4 : check-addend-lts.Need-returns-4 (check-addend-calls t) (check-addend-at t) check-addend.Post
-  check-addend-returns-4 c = sym (ap (λ x. isSome (checkedOf x)) (c .enum-told .given .1)) ∙ inner-union (c .before .before)
+  check-addend-returns-4 c = wrong-lengths _ _ _ _ _ (right (held (c .before))) (other (c .before)) (sym (lengths-told (c .before)) ∙ not-true _ (c .if3 .taken))
 
   check-addend-returns-5 : check-addend-lts.Need-returns-5 (check-addend-calls t) (check-addend-at t) check-addend.Post
-  check-addend-returns-5 c = sym (ap (λ x. isSome (checkedOf x)) (c .enum-told2 .given .1)) ∙ inner-union (c .before .before)
+  check-addend-returns-5 c = let k = c .before .before in with-nothing _ _ _ _ _ (right (held k)) (other k) (sym (lengths-told k) ∙ not-false _ (c .before .if3 .left)) (rw (held k .before .before .kind-at .ensures) at (c .if4 .taken))
+
+  check-addend-add-check-fields : check-addend-lts.Need-add-check-fields (check-addend-calls t) (check-addend-at t) check-addend.Post
+  check-addend-add-check-fields c = let s = start (held (c .before .before)) in omega (arith, s .pre .1 .0 .within, s .pre .1 .1)
+
+  check-addend-count-at-requires : check-addend-lts.Need-count-at-requires (check-addend-calls t) (check-addend-at t) check-addend.Post
+  check-addend-count-at-requires c κs = let s = start (held (c .before .before)) in in-table (s .pre .1 .0) (s .pre .1 .1) .whole
+
+  check-addend-check-fields-requires : check-addend-lts.Need-check-fields-requires (check-addend-calls t) (check-addend-at t) check-addend.Post
+  check-addend-check-fields-requires c κs =
+      let k = held (c .before .before .before) in
+      let s = start k in
+      (omega (arith, s .pre .0), (inside-run k, omega (arith, spanned k .2, s .pre .1 .2), s .pre .1 .2))
+
+  check-addend-returns-6 : check-addend-lts.Need-returns-6 (check-addend-calls t) (check-addend-at t) check-addend.Post
+  check-addend-returns-6 c =
+      let k = c .before .before .before .before in
+      let kind = held k .before .before .kind-at .ensures in
+      rw (held k .before .span-at .ensures .0, c .before .count-at .ensures) at (c .check-fields .ensures)
+      ∙ with-fields _ _ _ _ _ (right (held k)) (other k) (sym (lengths-told k) ∙ not-false _ (c .before .before .before .if3 .left)) (omega (arith, kind, spanned (held k) .3, c .before .before .if4 .left, k .before .if2 .left))
 
 abbrev check-field-calls : ℕ → check-field-lts.Claims
 check-field-calls t = (kind-at-reads.Asked, kind-at-reads.Learnt, check-scalar-reads.Asked, check-scalar-reads.Learnt, check-union-below t, check-union.Post, count-at-reads.Asked, count-at-reads.Learnt)
@@ -248,53 +316,59 @@ abbrev check-union-μ-loop : check-union-lts.MeasureT-loop
 check-union-μ-loop b i end left label p₀ last₀ total₀ p last total = end - p
 
 abbrev check-union-calls : ℕ → check-union-lts.Claims
-check-union-calls t = (check-addend-below t, check-addend.Post, count-fits-reads.Asked, count-fits-reads.Learnt, in-order-reads.Asked, in-order-reads.Learnt, count-at-reads.Asked, count-at-reads.Learnt, span-at-reads.Asked, span-at-reads.Learnt)
+check-union-calls t = (count-fits-reads.Asked, count-fits-reads.Learnt, check-addend-below t, check-addend.Post, in-order-reads.Asked, in-order-reads.Learnt, count-at-reads.Asked, count-at-reads.Learnt, span-at-reads.Asked, span-at-reads.Learnt)
 
 module _ (t : ℕ) where
   check-union-loop-holds : check-union-lts.Need-loop-holds (check-union-calls t) (check-union-at t) check-union.Post check-union-Inv-loop check-union-μ-loop
   check-union-loop-holds c = addends-start _ _ _ _ _ (c .before .pre .1 .0 .upto)
 
-  check-union-check-addend-requires : check-union-lts.Need-check-addend-requires (check-union-calls t) (check-union-at t) check-union.Post check-union-Inv-loop check-union-μ-loop
-  check-union-check-addend-requires c κs = (omega arith, (run-from (c .before .before .before .pre .1 .0) (c .before .loop .inv .upto), c .loop-test .taken, c .before .before .before .pre .1 .1))
+  check-union-count-fits-requires : check-union-lts.Need-count-fits-requires (check-union-calls t) (check-union-at t) check-union.Post check-union-Inv-loop check-union-μ-loop
+  check-union-count-fits-requires c κs = (in-table (run-from (c .before .before .before .pre .1 .0) (c .before .loop .inv .upto)) (c .loop-test .taken), c .before .loop .inv .limit)
 
   check-union-returns : check-union-lts.Need-returns (check-union-calls t) (check-union-at t) check-union.Post check-union-Inv-loop check-union-μ-loop
-  check-union-returns c = wrong-addend (c .before .before .before .loop .inv) (c .before .before .loop-test .taken) (sym (c .before .check-addend .ensures) ∙ not-true _ (c .if1 .taken))
+  check-union-returns c = wrong-count (c .before .before .before .loop .inv) (c .before .before .loop-test .taken) (sym (c .before .count-fits .ensures) ∙ not-true _ (c .if1 .taken))
 
-  check-union-count-fits-requires : check-union-lts.Need-count-fits-requires (check-union-calls t) (check-union-at t) check-union.Post check-union-Inv-loop check-union-μ-loop
-  check-union-count-fits-requires c κs = (in-table (run-from (c .before .before .before .before .before .pre .1 .0) (c .before .before .before .loop .inv .upto)) (c .before .before .loop-test .taken), c .before .before .before .loop .inv .limit)
+  check-union-check-addend-requires : check-union-lts.Need-check-addend-requires (check-union-calls t) (check-union-at t) check-union.Post check-union-Inv-loop check-union-μ-loop
+  check-union-check-addend-requires c κs =
+      let s = c .before .before .before .before .before .pre in
+      let n = count-bounds (c .before .before .before .loop .inv) (c .before .before .loop-test .taken) (sym (c .before .count-fits .ensures) ∙ not-false _ (c .if1 .left)) in
+      (omega (arith, s .0), (run-from (s .1 .0) (c .before .before .before .loop .inv .upto), c .before .before .loop-test .taken, s .1 .1, n .0, omega (arith, n .1)))
 
   check-union-returns-2 : check-union-lts.Need-returns-2 (check-union-calls t) (check-union-at t) check-union.Post check-union-Inv-loop check-union-μ-loop
-  check-union-returns-2 c = wrong-count (c .before .before .before .before .before .loop .inv) (c .before .before .before .before .loop-test .taken) (sym (c .before .before .before .check-addend .ensures) ∙ not-false _ (c .before .before .if1 .left)) (sym (c .before .count-fits .ensures) ∙ not-true _ (c .if2 .taken))
+  check-union-returns-2 c = wrong-addend (c .before .before .before .before .before .loop .inv) (c .before .before .before .before .loop-test .taken) (sym (c .before .before .before .count-fits .ensures) ∙ not-false _ (c .before .before .if1 .left)) (sym (c .before .check-addend .ensures) ∙ not-true _ (c .if2 .taken))
 
   check-union-in-order-requires : check-union-lts.Need-in-order-requires (check-union-calls t) (check-union-at t) check-union.Post check-union-Inv-loop check-union-μ-loop
   check-union-in-order-requires c κs =
-      let h = addend-inside _ _ _ _ _ (run-from (c .before .before .before .before .before .before .before .pre .1 .0) (c .before .before .before .before .before .loop .inv .upto)) (sym (c .before .before .before .check-addend .ensures) ∙ not-false _ (c .before .before .if1 .left)) in
+      let h = addend-inside _ _ _ _ _ (run-from (c .before .before .before .before .before .before .before .pre .1 .0) (c .before .before .before .before .before .loop .inv .upto)) (sym (c .before .check-addend .ensures) ∙ not-false _ (c .if2 .left)) in
       (last-inside (c .before .before .before .before .before .loop .inv) h, h)
 
   check-union-returns-3 : check-union-lts.Need-returns-3 (check-union-calls t) (check-union-at t) check-union.Post check-union-Inv-loop check-union-μ-loop
-  check-union-returns-3 c = wrong-order (c .before .before .before .before .before .before .before .loop .inv) (c .before .before .before .before .before .before .loop-test .taken) (sym (c .before .before .before .before .before .check-addend .ensures) ∙ not-false _ (c .before .before .before .before .if1 .left)) (sym (c .before .before .before .count-fits .ensures) ∙ not-false _ (c .before .before .if2 .left)) (sym (c .before .in-order .ensures) ∙ not-true _ (c .if3 .taken))
+  check-union-returns-3 c = wrong-order (c .before .before .before .before .before .before .before .loop .inv) (c .before .before .before .before .before .before .loop-test .taken) (sym (c .before .before .before .before .before .count-fits .ensures) ∙ not-false _ (c .before .before .before .before .if1 .left)) (sym (c .before .before .before .check-addend .ensures) ∙ not-false _ (c .before .before .if2 .left)) (sym (c .before .in-order .ensures) ∙ not-true _ (c .if3 .taken))
 
   check-union-count-at-requires : check-union-lts.Need-count-at-requires (check-union-calls t) (check-union-at t) check-union.Post check-union-Inv-loop check-union-μ-loop
   check-union-count-at-requires c κs = in-table (run-from (c .before .before .before .before .before .before .before .before .before .pre .1 .0) (c .before .before .before .before .before .before .before .loop .inv .upto)) (c .before .before .before .before .before .before .loop-test .taken) .whole
 
   check-union-add-total : check-union-lts.Need-add-total (check-union-calls t) (check-union-at t) check-union.Post check-union-Inv-loop check-union-μ-loop
-  check-union-add-total c = omega (arith, count-below (c .before .before .before .before .before .before .before .before .loop .inv) (c .before .before .before .before .before .before .before .loop-test .taken) (sym (c .before .before .before .before .before .before .check-addend .ensures) ∙ not-false _ (c .before .before .before .before .before .if1 .left)) (sym (c .before .before .before .before .count-fits .ensures) ∙ not-false _ (c .before .before .before .if2 .left)), c .count-at .ensures)
+  check-union-add-total c = omega (arith, count-bounds (c .before .before .before .before .before .before .before .before .loop .inv) (c .before .before .before .before .before .before .before .loop-test .taken) (sym (c .before .before .before .before .before .before .count-fits .ensures) ∙ not-false _ (c .before .before .before .before .before .if1 .left)) .1, c .count-at .ensures)
 
   check-union-span-at-requires : check-union-lts.Need-span-at-requires (check-union-calls t) (check-union-at t) check-union.Post check-union-Inv-loop check-union-μ-loop
   check-union-span-at-requires c κs = in-table (run-from (c .before .before .before .before .before .before .before .before .before .before .pre .1 .0) (c .before .before .before .before .before .before .before .before .loop .inv .upto)) (c .before .before .before .before .before .before .before .loop-test .taken) .whole
 
+  -- the addend at p has been accepted
+  module _ (c : check-union-lts.After-span-at (check-union-calls t) (check-union-at t) check-union.Post check-union-Inv-loop check-union-μ-loop) where
+    spans : let l = c .before .before .before .before .before .before .before .before .before .loop in (1 ≤ typeSpan (c .before .before .before .before .before .before .before .before .before .before .before .args .b .now) (l .p)) × (l .p + typeSpan (c .before .before .before .before .before .before .before .before .before .before .before .args .b .now) (l .p) ≤ c .before .before .before .before .before .before .before .before .before .before .before .args .end)
+    spans = addend-span (c .before .before .before .before .before .before .before .before .before .loop .inv) (c .before .before .before .before .before .before .before .before .loop-test .taken) (sym (c .before .before .before .before .before .before .before .count-fits .ensures) ∙ not-false _ (c .before .before .before .before .before .before .if1 .left)) (sym (c .before .before .before .before .before .check-addend .ensures) ∙ not-false _ (c .before .before .before .before .if2 .left))
+
   check-union-add-p : check-union-lts.Need-add-p (check-union-calls t) (check-union-at t) check-union.Post check-union-Inv-loop check-union-μ-loop
-  check-union-add-p c = omega (arith, addend-span (c .before .before .before .before .before .before .before .before .before .loop .inv) (c .before .before .before .before .before .before .before .before .loop-test .taken) (sym (c .before .before .before .before .before .before .before .check-addend .ensures) ∙ not-false _ (c .before .before .before .before .before .before .if1 .left)) .1, c .span-at .ensures .0, c .before .before .before .before .before .before .before .before .before .before .before .pre .1 .0 .within)
+  check-union-add-p c = omega (arith, spans c .1, c .span-at .ensures .0, c .before .before .before .before .before .before .before .before .before .before .before .pre .1 .0 .within)
 
   check-union-loop-less : check-union-lts.Need-loop-less (check-union-calls t) (check-union-at t) check-union.Post check-union-Inv-loop check-union-μ-loop
-  check-union-loop-less c =
-      let s = addend-span (c .before .before .before .before .before .before .before .before .before .loop .inv) (c .before .before .before .before .before .before .before .before .loop-test .taken) (sym (c .before .before .before .before .before .before .before .check-addend .ensures) ∙ not-false _ (c .before .before .before .before .before .before .if1 .left)) in
-      omega (arith, s .0, s .1, c .span-at .ensures .0)
+  check-union-loop-less c = omega (arith, spans c, c .span-at .ensures .0)
 
   check-union-loop-again : check-union-lts.Need-loop-again (check-union-calls t) (check-union-at t) check-union.Post check-union-Inv-loop check-union-μ-loop
   check-union-loop-again c =
       rw (c .before .count-at .ensures, c .span-at .ensures .0)
-      (addends-next (c .before .before .before .before .before .before .before .before .before .loop .inv) (c .before .before .before .before .before .before .before .before .loop-test .taken) (sym (c .before .before .before .before .before .before .before .check-addend .ensures) ∙ not-false _ (c .before .before .before .before .before .before .if1 .left)) (sym (c .before .before .before .before .before .count-fits .ensures) ∙ not-false _ (c .before .before .before .before .if2 .left)) (run-from (c .before .before .before .before .before .before .before .before .before .before .before .pre .1 .0) (c .before .before .before .before .before .before .before .before .before .loop .inv .upto)) (sym (c .before .before .before .in-order .ensures) ∙ not-false _ (c .before .before .if3 .left)))
+      (addends-next (c .before .before .before .before .before .before .before .before .before .loop .inv) (c .before .before .before .before .before .before .before .before .loop-test .taken) (sym (c .before .before .before .before .before .before .before .count-fits .ensures) ∙ not-false _ (c .before .before .before .before .before .before .if1 .left)) (sym (c .before .before .before .before .before .check-addend .ensures) ∙ not-false _ (c .before .before .before .before .if2 .left)) (run-from (c .before .before .before .before .before .before .before .before .before .before .before .pre .1 .0) (c .before .before .before .before .before .before .before .before .before .loop .inv .upto)) (sym (c .before .before .before .in-order .ensures) ∙ not-false _ (c .before .before .if3 .left)))
 
   check-union-returns-4 : check-union-lts.Need-returns-4 (check-union-calls t) (check-union-at t) check-union.Post check-union-Inv-loop check-union-μ-loop
   check-union-returns-4 c = addends-done (c .before .loop .inv) (c .loop-test .left)
@@ -302,7 +376,7 @@ module _ (t : ℕ) where
 pub +check-addend+check-field+check-fields+check-union-spec : {M : Type 1} → statement M
 +check-addend+check-field+check-fields+check-union-spec =
     close μ-check-addend μ-check-field μ-check-fields μ-check-union
-    (λ t. check-addend-lts.spec (check-addend-calls t) (check-addend-at t) check-addend.Post (check-addend-addend-record-requires t) (check-addend-returns t) (check-addend-kind-at-requires t) (check-addend-span-at-requires t) (check-addend-add-inner-end t) (check-addend-add-check-fields t) (check-addend-count-at-requires t) (check-addend-check-fields-requires t) (check-addend-returns-2 t) (check-addend-returns-3 t) (check-addend-add-check-union t) (check-addend-sub-check-union t) (check-addend-check-union-requires t) (check-addend-enum-told t) (check-addend-enum-told-2 t) (check-addend-returns-4 t) (check-addend-returns-5 t))
+    (λ t. check-addend-lts.spec (check-addend-calls t) (check-addend-at t) check-addend.Post (check-addend-addend-record-requires t) (check-addend-returns t) (check-addend-kind-at-requires t) (check-addend-span-at-requires t) (check-addend-add-inner-end t) (check-addend-payload-at-requires t) (check-addend-add-check-union t) (check-addend-sub-check-union t) (check-addend-check-union-requires t) (check-addend-enum-known-elements t) (check-addend-lengths-fit-requires t) (check-addend-enum-told t) (check-addend-returns-2 t) (check-addend-returns-3 t) (check-addend-no-lengths-requires t) (check-addend-returns-4 t) (check-addend-returns-5 t) (check-addend-add-check-fields t) (check-addend-count-at-requires t) (check-addend-check-fields-requires t) (check-addend-returns-6 t))
     (λ t. check-field-lts.spec (check-field-calls t) (check-field-at t) check-field.Post (check-field-add-if1 t) (check-field-add-kind-at t) (check-field-kind-at-requires t) (check-field-check-scalar-requires t) (check-field-returns t) (check-field-add-check-union t) (check-field-check-union-requires t) (check-field-enum-known-total t) (check-field-count-at-requires t) (check-field-enum-told t) (check-field-returns-2 t) (check-field-returns-3 t))
     (λ t. check-fields-lts.spec (check-fields-calls t) (check-fields-at t) check-fields.Post check-fields-Inv-loop check-fields-μ-loop (check-fields-loop-holds t) (check-fields-field-fits-requires t) (check-fields-returns t) (check-fields-span-at-requires t) (check-fields-add-inner-end t) (check-fields-sub-check-field t) (check-fields-check-field-requires t) (check-fields-returns-2 t) (check-fields-key-at-requires t) (check-fields-loop-less t) (check-fields-loop-again t) (check-fields-returns-3 t))
-    (λ t. check-union-lts.spec (check-union-calls t) (check-union-at t) check-union.Post check-union-Inv-loop check-union-μ-loop (check-union-loop-holds t) (check-union-check-addend-requires t) (check-union-returns t) (check-union-count-fits-requires t) (check-union-returns-2 t) (check-union-in-order-requires t) (check-union-returns-3 t) (check-union-count-at-requires t) (check-union-add-total t) (check-union-span-at-requires t) (check-union-add-p t) (check-union-loop-less t) (check-union-loop-again t) (check-union-returns-4 t))
+    (λ t. check-union-lts.spec (check-union-calls t) (check-union-at t) check-union.Post check-union-Inv-loop check-union-μ-loop (check-union-loop-holds t) (check-union-count-fits-requires t) (check-union-returns t) (check-union-check-addend-requires t) (check-union-returns-2 t) (check-union-in-order-requires t) (check-union-returns-3 t) (check-union-count-at-requires t) (check-union-add-total t) (check-union-span-at-requires t) (check-union-add-p t) (check-union-loop-less t) (check-union-loop-again t) (check-union-returns-4 t))

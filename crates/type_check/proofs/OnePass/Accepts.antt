@@ -13,7 +13,7 @@ use Rattle.byte_records.proofs.Tests.{and-parts}
 use Rattle.counting_theory.specs.Trie.{nil, node, size, total, largestBelow}
 use Rattle.counting_theory.specs.Label.{Equivalence, CountingType}
 use Rattle.counting_theory.specs.Encoding.{typeSize, typeSpan, typePayload}
-use Rattle.counting_theory.specs.WellFormed.{maxTotal, counted, fieldsOf, fieldCounts}
+use Rattle.counting_theory.specs.WellFormed.{maxTotal, counted, fieldsOf, fieldCounts, measured}
 use Rattle.type_check.specs.Inside.Checker.{Run, addends, fields, totalOf, fits, after, content, checkRun}
 use Rattle.counting_theory.proofs.WellFormed.Nodes.{counted-parts}
 use Rattle.counting_theory.proofs.WellFormed.Record.{TypeRecord}
@@ -70,14 +70,14 @@ module _ (e : Equivalence) (b : List ℕ) where
   beside-nil p (fields depth ofRecord lastKey) h = (tt, refl)
 
   accepted-nil : (p end : ℕ) (r : Run) (t : ℕ) → totalOf r ≤ maxTotal → p ≡ end → checkRun e b p end r ≡ some t → Accepted p end r t
-  unfolding largestBelow counted fieldCounts
+  unfolding largestBelow counted fieldCounts measured
   accepted-nil p end r t m z h =
       let i : some (totalOf r) ≡ some t = sym (check-end e b end r) ∙ (rw z at h) in
       let j : t ≡ totalOf r = cc in
       record {
         type = nil;
         holds = holds-nil e b p end (isFields r) (depthOf r) z;
-        rest = record { ruled = record { counts = refl; below = omega arith; sorted = tt; totals = tt; fields = refl }; beside = beside-nil p r m };
+        rest = record { ruled = record { counts = refl; below = omega arith; sorted = tt; totals = tt; fields = refl; payloads = refl }; beside = beside-nil p r m };
         sum = j ∙ sum-nil r;
       }
 

@@ -9,12 +9,10 @@ use lib.Dec.{lit≤}
 use lib.ListN.{length}
 use Rattle.byte_records.specs.Number.{Bytes}
 use Rattle.counting_theory.proofs.WellFormed.Limit.{limit-totals, totals-limit}
-use Rattle.counting_theory.proofs.WellFormed.Tests.{both}
-use Rattle.counting_theory.specs.Payload.{proper}
-use Rattle.counting_theory.specs.Trie.{nil, node, largestTotal}
+use Rattle.counting_theory.specs.Trie.{largestTotal}
 use Rattle.counting_theory.specs.Label.{Equivalence, CountingType}
 use Rattle.counting_theory.specs.Encoding.{typeRecords, typeOf}
-use Rattle.counting_theory.specs.WellFormed.{wellFormed, measured, badTypeLength}
+use Rattle.counting_theory.specs.WellFormed.{wellFormed, badTypeLength}
 use Rattle.type_check.specs.Inside.Checker.{Run, addends, checkRun, isSome}
 use Rattle.counting_theory.proofs.WellFormed.Rules.{Rules}
 use Rattle.counting_theory.proofs.WellFormed.AcceptsExactly.{type-holds, type-rules, holds-type, type-unique, well-formed-type}
@@ -34,18 +32,12 @@ some-of (some t) h = (t, refl)
 abbrev whole : Run
 whole = addends 1 0 0
 
--- nothing is asked of a payload beside its count
-all-proper : (f : CountingType) → measured f ≡ true
-unfolding measured proper
-all-proper nil = refl
-all-proper (node l a c s) = both (all-proper c) (all-proper s)
-
 module _ (e : Equivalence) (b : List ℕ) (f : CountingType) where
   rules-rest : Rules e f → Rest e b 0 whole f
   unfolding largestTotal
   rules-rest r =
       record {
-        ruled = record { counts = r .counts; below = omega (arith, limit-totals f (r .limit)); sorted = r .sorted; totals = r .totals; fields = r .fields };
+        ruled = record { counts = r .counts; below = omega (arith, limit-totals f (r .limit)); sorted = r .sorted; totals = r .totals; fields = r .fields; payloads = r .payloads };
         beside = (λ z. absurd (true≢false z), omega (arith, limit-totals f (r .limit)));
       }
 
@@ -53,7 +45,7 @@ module _ (e : Equivalence) (b : List ℕ) (f : CountingType) where
   unfolding largestTotal
   rest-rules x =
       let r = x .ruled in
-      record { counts = r .counts; limit = totals-limit f (omega (arith, r .below, x .beside .1)); sorted = r .sorted; totals = r .totals; fields = r .fields; payloads = all-proper f }
+      record { counts = r .counts; limit = totals-limit f (omega (arith, r .below, x .beside .1)); sorted = r .sorted; totals = r .totals; fields = r .fields; payloads = r .payloads }
 
 pub check-well-formed : (e : Equivalence) (b : List ℕ) → Bytes b → badTypeLength (length b) ≡ false →
     wellFormed e b ≡ isSome (checkRun e b 0 (typeRecords b) (addends 1 0 0))

@@ -1,57 +1,60 @@
 -- The turns of the checker's loops: what is left to check settles the verdict on the whole run.
 use mathlib.Core.Path.{_≡_, refl, sym, ap, _∙_}
-use mathlib.Core.Bool.{Bool, true, false, cond, _&&_, and-assoc, and-comm, true≢false}
+use mathlib.Core.Bool.{Bool, true, false, cond, _&&_, and-comm, true≢false}
 use mathlib.Core.List.{List, [], _∷_}
 use mathlib.Core.Option.{Option, none, some}
 use Prim.Native.Nat.{ℕ, zero, suc, _+_, _-_, _≤_, _<_}
 use native.Mathlib.Omega.{arith}
-use lib.Dec.{eqb, leb}
+use lib.Dec.{eqb}
 use borrow.Author.Tests.{eqb-true, eqb-false, eq-eqb, ne-eqb}
-use Rattle.value_table.specs.Value.{recordKind, maxDepth}
+use Rattle.value_table.specs.Value.{recordKind, arrayKind, maxDepth}
 use Rattle.byte_records.specs.Inside.Chain.{Chain, done, next}
 use Rattle.byte_records.proofs.Tests.{and-parts}
 use Rattle.counting_theory.specs.Label.{Equivalence}
-use Rattle.counting_theory.specs.Encoding.{typeKind, typeKey, typeSpan}
+use Rattle.counting_theory.specs.Payload.{noLengths}
+use Rattle.counting_theory.specs.Encoding.{typeKind, typeKey, typeSpan, typePayload}
 use Rattle.counting_theory.specs.Inside.TypeBytes.{typeCount}
-use Rattle.counting_theory.specs.WellFormed.{maxTotal, typeRecord}
+use Rattle.counting_theory.specs.WellFormed.{typeRecord}
 use Rattle.type_arena.specs.Inside.Arena.{Labelled}
-use Rattle.type_check.specs.Inside.Checker.{addends, fields, fits, ordered, agrees, checkRun, isSome, hasTotal, addendRight, RunOf}
+use Rattle.type_check.specs.Inside.Checker.{addends, fields, countFits, fits, ordered, checkRun, isSome, hasTotal, properWithin, inside, addendRight, RunOf}
+use Rattle.counting_theory.proofs.Payload.{proper-other}
 use Rattle.counting_theory.proofs.WellFormed.Record.{type-record}
 use Rattle.type_check.proofs.OnePass.Fits.{fits-record}
 use Rattle.type_check.proofs.OnePass.OneRecord.{check-end, check-step}
 
 -- the tests of one addend, in the order in which they are made
-regroup : (t o c d s : Bool) → (t && o && c && d && s) ≡ ((t && s) && (c && d && o))
-regroup false o c d s = refl
-regroup true o c d false = and-comm (o && c && d) false
-regroup true o c d true = and-comm (o && c && d) true ∙ rw (and-assoc o c d) (and-comm o (c && d))
+regroup : (k t o s : Bool) → (k && t && o && s) ≡ (k && ((t && s) && o))
+regroup false t o s = refl
+regroup true false o s = refl
+regroup true true o s = and-comm o s
 
 module _ (e : Equivalence) (b : List ℕ) where
-  addends-agree : (p depth last total : ℕ) (x : Option ℕ) → agrees b p (addends depth last total) x ≡ isSome x
-  addends-agree p depth last total none = refl
-  addends-agree p depth last total (some t) = refl
-
-  fields-agree : (p depth ofRecord lastKey : ℕ) (x : Option ℕ) → agrees b p (fields depth ofRecord lastKey) x ≡ hasTotal (typeCount b p) x
-  fields-agree p depth ofRecord lastKey none = refl
-  fields-agree p depth ofRecord lastKey (some t) = refl
-
-  abbrev pub countFits : ℕ → ℕ → Bool
-  countFits p total = leb 1 (typeCount b p) && leb (total + typeCount b p) maxTotal
-
   pub union-step : (p end depth last total : ℕ) → p < end →
       checkRun e b p end (addends depth last total)
-      ≡ cond (addendRight e b p end depth && (countFits p total && ordered e b last p)) (checkRun e b (p + typeSpan b p) end (addends depth p (total + typeCount b p))) none
+      ≡ cond (countFits b p total && (addendRight e b p end depth && ordered e b last p)) (checkRun e b (p + typeSpan b p) end (addends depth p (total + typeCount b p))) none
   unfolding fits
-  union-step p end depth last total l =
-      check-step e b p end (addends depth last total) l
-      ∙ rw (addends-agree p depth last total, regroup) refl
+  union-step p end depth last total l = check-step e b p end (addends depth last total) l ∙ rw regroup refl
 
   pub fields-step : (p end depth ofRecord lastKey : ℕ) → p < end →
       checkRun e b p end (fields depth ofRecord lastKey)
       ≡ cond (fits e b p end (fields depth ofRecord lastKey) && hasTotal (typeCount b p) (checkRun e b (p + 1) (p + typeSpan b p) (addends (depth + 1) (p + 1) 0)))
       (checkRun e b (p + typeSpan b p) end (fields depth ofRecord (typeKey b p))) none
-  fields-step p end depth ofRecord lastKey l =
-      check-step e b p end (fields depth ofRecord lastKey) l ∙ rw (fields-agree p depth ofRecord lastKey) refl
+  fields-step p end depth ofRecord lastKey l = check-step e b p end (fields depth ofRecord lastKey) l
+
+-- what a payload asks of what stands inside: that it is right, and lengths for an array alone
+module _ (b : List ℕ) (p : ℕ) where
+  within-some : (o : Option ℕ) → properWithin b p o ≡ true → isSome o ≡ true
+  within-some none h = h
+  within-some (some t) h = refl
+
+  module _ (other : ¬ (typeKind b p ≡ arrayKind)) where
+    other-within : noLengths (typePayload b p) ≡ true → (o : Option ℕ) → properWithin b p o ≡ isSome o
+    other-within h none = refl
+    other-within h (some t) = proper-other (typeKind b p) (typePayload b p) t other ∙ h
+
+    wrong-within : noLengths (typePayload b p) ≡ false → (o : Option ℕ) → properWithin b p o ≡ false
+    wrong-within h none = refl
+    wrong-within h (some t) = proper-other (typeKind b p) (typePayload b p) t other ∙ h
 
 passed : (c : Bool) (x : Option ℕ) → isSome (cond c x none) ≡ true → (c ≡ true) × (isSome x ≡ true)
 passed true x h = (refl, h)
@@ -91,7 +94,7 @@ module _ (e : Equivalence) (b : List ℕ) where
         whole = omega (arith, r .within);
         fields = λ k.
             let c = fields-chain (typeSpan b p) (p + 1) (p + typeSpan b p) depth (typeCount b p) 0 (omega arith) (omega arith)
-            (rw (eq-eqb (typeKind b p) recordKind k) at (a .1)) in
+            (rw (eq-eqb (typeKind b p) recordKind k) at (within-some b p (checkRun e b (p + 1) (p + typeSpan b p) (inside b p depth)) (a .1))) in
             record { keys = c .0; chain = c .1; within = omega (arith, r .within) };
       }
 
@@ -101,19 +104,30 @@ module _ (e : Equivalence) (b : List ℕ) (p end depth : ℕ) where
   wrong-record h = rw h refl
 
   module _ (h : typeRecord b p end false depth ≡ true) where
-    -- what a right record says of its span and depth
-    pub record-span : (1 ≤ typeSpan b p) × (p + typeSpan b p ≤ end) × (depth ≤ maxDepth)
-    record-span = let f = type-record b p end false depth h in (f .span-low, f .span-fits, f .own .shallow)
+    -- what a right record says of its span, depth and kind
+    pub record-span : (1 ≤ typeSpan b p) × (p + typeSpan b p ≤ end) × (depth ≤ maxDepth) × (typeKind b p ≤ arrayKind)
+    record-span = let f = type-record b p end false depth h in (f .span-low, f .span-fits, f .own .shallow, f .own .kind-high)
 
-    pub with-fields : typeKind b p ≡ recordKind → isSome (checkRun e b (p + 1) (p + typeSpan b p) (fields depth (typeCount b p) 0)) ≡ addendRight e b p end depth
-    with-fields k = rw (h, eq-eqb (typeKind b p) recordKind k) refl
-
-    pub with-union : (typeKind b p ≡ recordKind → ⊥) → isSome (checkRun e b (p + 1) (p + typeSpan b p) (addends (depth + 1) (p + 1) 0)) ≡ addendRight e b p end depth
+    with-union : ¬ (typeKind b p ≡ recordKind) → properWithin b p (checkRun e b (p + 1) (p + typeSpan b p) (addends (depth + 1) (p + 1) 0)) ≡ addendRight e b p end depth
     with-union n = rw (h, ne-eqb (typeKind b p) recordKind n) refl
 
-    pub with-nothing : typeKind b p < recordKind → true ≡ addendRight e b p end depth
-    with-nothing k =
-        let one : typeSpan b p ≡ 1 = type-record b p end false depth h .own .scalar (omega arith) in
-        ap isSome (sym (check-end e b (p + 1) (addends (depth + 1) (p + 1) 0)))
-        ∙ ap (λ n. isSome (checkRun e b (p + 1) (p + n) (addends (depth + 1) (p + 1) 0))) (sym one)
-        ∙ with-union (λ z. omega arith)
+    -- where o is what the check of a union inside has found
+    pub with-found : (o : Option ℕ) (stop inner : ℕ) → ¬ (typeKind b p ≡ recordKind) → o ≡ checkRun e b (p + 1) stop (addends inner (p + 1) 0) → stop ≡ p + typeSpan b p → inner ≡ depth + 1 →
+        properWithin b p o ≡ addendRight e b p end depth
+    with-found o stop inner n x y z = rw (x, y, z) (with-union n)
+
+    module _ (other : ¬ (typeKind b p ≡ arrayKind)) where
+      pub wrong-lengths : noLengths (typePayload b p) ≡ false → false ≡ addendRight e b p end depth
+      wrong-lengths z = rw (h, wrong-within b p other z) refl
+
+      module _ (z : noLengths (typePayload b p) ≡ true) where
+        pub with-fields : typeKind b p ≡ recordKind → isSome (checkRun e b (p + 1) (p + typeSpan b p) (fields depth (typeCount b p) 0)) ≡ addendRight e b p end depth
+        with-fields k = sym (other-within b p other z (checkRun e b (p + 1) (p + typeSpan b p) (fields depth (typeCount b p) 0))) ∙ rw (h, eq-eqb (typeKind b p) recordKind k) refl
+
+        pub with-nothing : typeKind b p < recordKind → true ≡ addendRight e b p end depth
+        with-nothing k =
+            let one : typeSpan b p ≡ 1 = type-record b p end false depth h .own .scalar (omega arith) in
+            ap isSome (sym (check-end e b (p + 1) (addends (depth + 1) (p + 1) 0)))
+            ∙ ap (λ n. isSome (checkRun e b (p + 1) (p + n) (addends (depth + 1) (p + 1) 0))) (sym one)
+            ∙ sym (other-within b p other z (checkRun e b (p + 1) (p + typeSpan b p) (addends (depth + 1) (p + 1) 0)))
+            ∙ with-union (λ i. omega arith)

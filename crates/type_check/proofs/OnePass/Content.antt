@@ -41,12 +41,13 @@ module _ (b : List ℕ) (p : ℕ) where
   after-goes-on (fields depth ofRecord lastKey) = (refl, refl)
 
   pub agrees-some : (r : Run) (o : Option ℕ) → agrees b p r o ≡ true → (t : ℕ) × (o ≡ some t) × Totals b p r t
-  agrees-some r none h = absurd (true≢false (sym h))
-  agrees-some (addends depth last sum) (some t) h = (t, refl, tt)
+  agrees-some (addends depth last sum) none h = absurd (true≢false (sym h))
+  agrees-some (addends depth last sum) (some t) h = (t, refl, h)
+  agrees-some (fields depth ofRecord lastKey) none h = absurd (true≢false (sym h))
   agrees-some (fields depth ofRecord lastKey) (some t) h = (t, refl, eqb-true t (typeCount b p) h)
 
   pub some-agrees : (r : Run) (t : ℕ) → Totals b p r t → agrees b p r (some t) ≡ true
-  some-agrees (addends depth last sum) t h = refl
+  some-agrees (addends depth last sum) t h = h
   some-agrees (fields depth ofRecord lastKey) t h = eq-eqb t (typeCount b p) h
 
 pub sum-nil : (r : Run) → totalOf r ≡ sumOf r nil

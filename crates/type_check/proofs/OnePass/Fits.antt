@@ -7,11 +7,12 @@ use lib.Dec.{eqb, leb, ltb}
 use borrow.Author.Tests.{leb-true, le-leb, ltb-true, lt-ltb}
 use Rattle.byte_records.proofs.Tests.{and-parts}
 use Rattle.counting_theory.specs.Label.{Equivalence, compareLabel}
-use Rattle.counting_theory.specs.Encoding.{typeKey}
+use Rattle.counting_theory.specs.Payload.{noLengths}
+use Rattle.counting_theory.specs.Encoding.{typeKey, typePayload}
 use Rattle.counting_theory.specs.Inside.TypeBytes.{typeCount}
 use Rattle.counting_theory.specs.WellFormed.{maxTotal, typeRecord, isLt, fieldCount}
 use Rattle.type_arena.specs.Inside.Arena.{labelAt}
-use Rattle.type_check.specs.Inside.Checker.{Run, addends, fields, fits}
+use Rattle.type_check.specs.Inside.Checker.{Run, addends, fields, countFits, fits}
 use Rattle.counting_theory.proofs.WellFormed.Tests.{both, three-parts, three}
 use Rattle.counting_theory.proofs.WellFormed.Rules.{isLt-true}
 use Rattle.counting_theory.proofs.WellFormed.Record.{TypeRecord, type-record, record-test}
@@ -30,7 +31,7 @@ module _ (e : Equivalence) (b : List ℕ) (p : ℕ) where
   abbrev pub Follows : Run → Type 0
   Follows (addends depth last total) =
       (eqb last p ≡ false → compareLabel (labelAt e b last) (labelAt e b p) ≡ lt) × (1 ≤ typeCount b p) × (total + typeCount b p ≤ maxTotal)
-  Follows (fields depth ofRecord lastKey) = (lastKey < typeKey b p) × (fieldCount e (typeCount b p) ofRecord ≡ true)
+  Follows (fields depth ofRecord lastKey) = (lastKey < typeKey b p) × (noLengths (typePayload b p) ≡ true) × (fieldCount e (typeCount b p) ofRecord ≡ true)
 
   after-last : (last : ℕ) → (eqb last p || isLt (compareLabel (labelAt e b last) (labelAt e b p))) ≡ true →
       eqb last p ≡ false → compareLabel (labelAt e b last) (labelAt e b p) ≡ lt
@@ -45,22 +46,25 @@ module _ (e : Equivalence) (b : List ℕ) (p : ℕ) where
       go true h = refl
       go false h = ap isLt (h refl)
 
+  pub count-told : (total : ℕ) → countFits b p total ≡ true → (1 ≤ typeCount b p) × (total + typeCount b p ≤ maxTotal)
+  count-told total h =
+      let x = and-parts (leb 1 (typeCount b p)) (leb (total + typeCount b p) maxTotal) h in
+      (leb-true 1 (typeCount b p) (x .0), leb-true (total + typeCount b p) maxTotal (x .1))
+
   module _ (end : ℕ) where
     pub fits-record : (r : Run) → fits e b p end r ≡ true → TypeRecord b p end (isFields r) (depthOf r) × Follows r
     unfolding fits
     fits-record (addends depth last total) h =
-        let x = three-parts _ (leb 1 (typeCount b p)) (leb (total + typeCount b p) maxTotal) h in
-        let y = and-parts (typeRecord b p end false depth) _ (x .0) in (
-          type-record b p end false depth (y .0),
-          (after-last last (y .1), leb-true 1 (typeCount b p) (x .1), leb-true (total + typeCount b p) maxTotal (x .2)),
-        )
+        let x = three-parts (countFits b p total) (typeRecord b p end false depth) _ h in
+        let y = count-told total (x .0) in
+        (type-record b p end false depth (x .1), (after-last last (x .2), y .0, y .1))
     fits-record (fields depth ofRecord lastKey) h =
-        let x = three-parts (typeRecord b p end true depth) (ltb lastKey (typeKey b p)) (fieldCount e (typeCount b p) ofRecord) h in
-        (type-record b p end true depth (x .0), (ltb-true lastKey (typeKey b p) (x .1), x .2))
+        let x = three-parts _ (noLengths (typePayload b p)) (fieldCount e (typeCount b p) ofRecord) h in
+        let y = and-parts (typeRecord b p end true depth) (ltb lastKey (typeKey b p)) (x .0) in
+        (type-record b p end true depth (y .0), (ltb-true lastKey (typeKey b p) (y .1), x .1, x .2))
 
     pub record-fits : (r : Run) → TypeRecord b p end (isFields r) (depthOf r) → Follows r → fits e b p end r ≡ true
     unfolding fits
     record-fits (addends depth last total) r h =
-        three (both (record-test b p end false depth r) (last-before last (h .0)))
-        (le-leb 1 (typeCount b p) (h .1)) (le-leb (total + typeCount b p) maxTotal (h .2))
-    record-fits (fields depth ofRecord lastKey) r h = three (record-test b p end true depth r) (lt-ltb lastKey (typeKey b p) (h .0)) (h .1)
+        three (both (le-leb 1 (typeCount b p) (h .1)) (le-leb (total + typeCount b p) maxTotal (h .2))) (record-test b p end false depth r) (last-before last (h .0))
+    record-fits (fields depth ofRecord lastKey) r h = three (both (record-test b p end true depth r) (lt-ltb lastKey (typeKey b p) (h .0))) (h .1) (h .2)

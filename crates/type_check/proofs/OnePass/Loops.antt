@@ -6,19 +6,19 @@ use mathlib.Core.Logic.{_⊎_, inl, inr}
 use mathlib.Core.Option.{none, some}
 use Prim.Native.Nat.{ℕ, _+_, _≤_, _<_}
 use native.Mathlib.Omega.{arith}
-use lib.Dec.{leb}
-use borrow.Author.Tests.{leb-true, eq-eqb}
+use borrow.Author.Tests.{eq-eqb}
 use Rattle.value_table.specs.Value.{recordKind}
 use Rattle.byte_records.proofs.Tests.{and-parts}
 use Rattle.counting_theory.specs.Label.{Equivalence}
-use Rattle.counting_theory.specs.Encoding.{typeKind, typeKey, typeSpan}
+use Rattle.counting_theory.specs.Payload.{noLengths}
+use Rattle.counting_theory.specs.Encoding.{typeKind, typeKey, typeSpan, typePayload}
 use Rattle.counting_theory.specs.Inside.TypeBytes.{typeCount}
 use Rattle.counting_theory.specs.WellFormed.{maxTotal, typeRecord}
 use Rattle.type_arena.specs.Inside.Arena.{RecordIn, Labelled}
-use Rattle.type_check.specs.Inside.Checker.{addends, fields, fits, ordered, checkRun, isSome, hasTotal, addendRight, RunOf}
-use Rattle.type_check.proofs.OnePass.Fits.{fits-record}
+use Rattle.type_check.specs.Inside.Checker.{addends, fields, countFits, fits, ordered, checkRun, isSome, hasTotal, addendRight, RunOf}
+use Rattle.type_check.proofs.OnePass.Fits.{fits-record, count-told}
 use Rattle.type_check.proofs.OnePass.OneRecord.{check-end}
-use Rattle.type_check.proofs.OnePass.CheckLoop.{countFits, union-step, fields-step, addend-inside, record-span, wrong-record, with-nothing}
+use Rattle.type_check.proofs.OnePass.CheckLoop.{union-step, fields-step, addend-inside, record-span, wrong-record, wrong-lengths, with-nothing}
 
 -- parts of a run stand where the run does
 pub run-from : {b : List ℕ} {i end p : ℕ} → RunOf b i end → p ≤ end → RunOf b p end
@@ -55,53 +55,54 @@ module _ {e : Equivalence} {b : List ℕ} {i end depth p last total : ℕ} (w : 
 
   module _ (l : p < end) where
     -- each test that fails settles the union
-    pub wrong-addend : addendRight e b p end depth ≡ false → none ≡ checkRun e b i end (addends depth i 0)
-    wrong-addend h = sym (rw h at (union-step e b p end depth last total l)) ∙ w .left
+    pub wrong-count : countFits b p total ≡ false → none ≡ checkRun e b i end (addends depth i 0)
+    wrong-count h = sym (rw h at (union-step e b p end depth last total l)) ∙ w .left
 
-    module _ (right : addendRight e b p end depth ≡ true) where
-      pub wrong-count : countFits e b p total ≡ false → none ≡ checkRun e b i end (addends depth i 0)
-      wrong-count h = sym (rw (right, h) at (union-step e b p end depth last total l)) ∙ w .left
+    module _ (counts : countFits b p total ≡ true) where
+      pub count-bounds : (1 ≤ typeCount b p) × (total + typeCount b p ≤ maxTotal)
+      count-bounds = count-told e b p total counts
 
-      pub addend-span : (1 ≤ typeSpan b p) × (p + typeSpan b p ≤ end)
-      addend-span = let f = record-span e b p end depth (and-parts _ _ right .0) in (f .0, f .1)
+      pub wrong-addend : addendRight e b p end depth ≡ false → none ≡ checkRun e b i end (addends depth i 0)
+      wrong-addend h = sym (rw (counts, h) at (union-step e b p end depth last total l)) ∙ w .left
 
-      module _ (counts : countFits e b p total ≡ true) where
+      module _ (right : addendRight e b p end depth ≡ true) where
+        pub addend-span : (1 ≤ typeSpan b p) × (p + typeSpan b p ≤ end)
+        addend-span = let f = record-span e b p end depth (and-parts _ _ right .0) in (f .0, f .1)
+
         pub wrong-order : ordered e b last p ≡ false → none ≡ checkRun e b i end (addends depth i 0)
-        wrong-order h = sym (rw (right, counts, h) at (union-step e b p end depth last total l)) ∙ w .left
-
-        pub count-below : total + typeCount b p ≤ maxTotal
-        count-below = leb-true (total + typeCount b p) maxTotal (and-parts (leb 1 (typeCount b p)) (leb (total + typeCount b p) maxTotal) counts .1)
+        wrong-order h = sym (rw (counts, right, h) at (union-step e b p end depth last total l)) ∙ w .left
 
         pub addends-next : RunOf b p end → ordered e b last p ≡ true → Addends e b i end depth (p + typeSpan b p) p (total + typeCount b p)
         addends-next r h =
             record {
               upto = addend-span .1;
-              left = sym (rw (right, counts, h) at (union-step e b p end depth last total l)) ∙ w .left;
-              limit = count-below;
+              left = sym (rw (counts, right, h) at (union-step e b p end depth last total l)) ∙ w .left;
+              limit = count-bounds .1;
               before = inr (addend-inside e b p end depth r right);
             }
 
--- A union of one scalar: its record and its count settle it.
+-- A union of one scalar: its record and its payload settle it.
 module _ (e : Equivalence) (b : List ℕ) (q end depth : ℕ) (one : end ≡ q + 1) (scalar : typeKind b q < recordKind) (r : RunOf b q end) where
   start : Addends e b q end depth q q 0
   start = addends-start e b q end depth (r .upto)
 
-  pub wrong-scalar : typeRecord b q end false depth ≡ false → none ≡ checkRun e b q end (addends depth q 0)
-  wrong-scalar h = wrong-addend start (omega arith) (sym (wrong-record e b q end depth h))
+  pub wrong-scalar-count : countFits b q 0 ≡ false → none ≡ checkRun e b q end (addends depth q 0)
+  wrong-scalar-count c = wrong-count start (omega arith) c
 
-  module _ (h : typeRecord b q end false depth ≡ true) where
-    right : addendRight e b q end depth ≡ true
-    right = sym (with-nothing e b q end depth h scalar)
+  module _ (c : countFits b q 0 ≡ true) where
+    pub wrong-scalar : typeRecord b q end false depth ≡ false → none ≡ checkRun e b q end (addends depth q 0)
+    wrong-scalar h = wrong-addend start (omega arith) c (sym (wrong-record e b q end depth h))
 
-    pub wrong-scalar-count : countFits e b q 0 ≡ false → none ≡ checkRun e b q end (addends depth q 0)
-    wrong-scalar-count c = wrong-count start (omega arith) right c
+    module _ (h : typeRecord b q end false depth ≡ true) where
+      pub wrong-scalar-lengths : noLengths (typePayload b q) ≡ false → none ≡ checkRun e b q end (addends depth q 0)
+      wrong-scalar-lengths z = wrong-addend start (omega arith) c (sym (wrong-lengths e b q end depth h (λ i. omega arith) z))
 
-    pub scalar-total : countFits e b q 0 ≡ true → some (typeCount b q) ≡ checkRun e b q end (addends depth q 0)
-    scalar-total c =
-        let o : ordered e b q q ≡ true = rw (eq-eqb q q refl) refl in
-        let n = addends-next start (omega arith) right c r o in
-        let z : 0 + typeCount b q ≡ typeCount b q = omega arith in
-        rw z at (addends-done n (omega (arith, record-span e b q end depth h .0)))
+      pub scalar-total : noLengths (typePayload b q) ≡ true → some (typeCount b q) ≡ checkRun e b q end (addends depth q 0)
+      scalar-total z =
+          let o : ordered e b q q ≡ true = rw (eq-eqb q q refl) refl in
+          let n = addends-next start (omega arith) c (sym (with-nothing e b q end depth h (λ i. omega arith) z scalar)) r o in
+          let m : 0 + typeCount b q ≡ typeCount b q = omega arith in
+          rw m at (addends-done n (omega (arith, record-span e b q end depth h .0)))
 
 -- The fields of a record at the field at p, behind the key `last`.
 pub record Fields (e : Equivalence) (b : List ℕ) (i end depth ofRecord p last : ℕ) : Type 0 where

@@ -15,6 +15,7 @@ use Rattle.counting_theory.specs.Encoding.{typeKey, typeSpan}
 use Rattle.counting_theory.specs.WellFormed.{fieldCount, fieldsOf}
 use Rattle.type_arena.specs.Inside.Arena.{labelAt}
 use Rattle.type_check.specs.Inside.Checker.{Run, addends, fields, after, content}
+use Rattle.counting_theory.proofs.Payload.{proper-other}
 use Rattle.counting_theory.proofs.Order.{compare-less, less-compare}
 use Rattle.counting_theory.proofs.Label.{kind-eq, compare-fields}
 use Rattle.counting_theory.proofs.WellFormed.Tests.{both}
@@ -25,7 +26,7 @@ use Rattle.counting_theory.proofs.WellFormed.RecordsHold.{holds-first}
 use Rattle.type_arena.proofs.Nodes.{fitting-heads, node-in}
 use Rattle.type_check.proofs.OnePass.Fits.{isFields, depthOf, Follows}
 use Rattle.type_check.proofs.OnePass.Ruled.{NodeRuled, ruled-node, ruled-parts}
-use Rattle.type_check.proofs.OnePass.Rest.{sumOf, Totals, Rest, total-positive, inside-told, inside-holds}
+use Rattle.type_check.proofs.OnePass.Rest.{sumOf, Totals, Rest, total-positive, sum-inside, inside-told, inside-holds}
 
 module _ (e : Equivalence) (b : List ℕ) (p end : ℕ) (l : Label) (a : Payload) (c s : CountingType) where
   -- what the first record, its content and the records behind are asked
@@ -51,6 +52,7 @@ module _ (e : Equivalence) (b : List ℕ) (p end : ℕ) (l : Label) (a : Payload
         within = inner .0;
         field-total = λ k. absurd (omega (arith, h .tagged .0 .kind-high));
         fields-of = inner .1;
+        payload = rw (n .kind-is, n .payload-is, n .count-is, sum-inside e b p depth (a .count) c (eqb (l .kind) recordKind) (h .tagged .1)) at (x .totals);
       } in
       record {
         ruled = ruled-node e l a c s own (x .inside .ruled) (x .behind .ruled);
@@ -67,12 +69,13 @@ module _ (e : Equivalence) (b : List ℕ) (p end : ℕ) (l : Label) (a : Payload
         within = omega (arith, x .inside .beside .1);
         field-total = λ k. omega (arith, n .count-is, x .totals);
         fields-of = λ z. absurd (omega (arith, kind-eq (h .tagged .0), eqb-true (l .kind) recordKind z));
+        payload = proper-other (l .kind) a _ (λ z. omega (arith, kind-eq (h .tagged .0), z)) ∙ rw (n .payload-is) at (x .follows .1);
       } in
       record {
         ruled = ruled-node e l a c s own (x .inside .ruled) (x .behind .ruled);
         beside = (
           ap (compareLabel (fieldLabel lastKey)) (sym label) ∙ compare-fields lastKey (typeKey b p) ∙ less-compare lastKey (typeKey b p) (x .follows .0),
-          both (rw (n .count-is) at (x .follows .1)) (x .behind .beside .1),
+          both (rw (n .count-is) at (x .follows .2)) (x .behind .beside .1),
         );
       }
 
@@ -86,7 +89,7 @@ module _ (e : Equivalence) (b : List ℕ) (p end : ℕ) (l : Label) (a : Payload
       let inner = inside-holds e b p depth (a .count) c (eqb (l .kind) recordKind) _ (h .tagged .1) (h .shallow .1) (own .within) (own .fields-of) in
       record {
         follows = (λ z. rw label (x .beside .0 z), omega (arith, n .count-is, own .positive), omega (arith, n .count-is, x .beside .1));
-        totals = tt;
+        totals = rw (n .kind-is, n .payload-is, n .count-is, sum-inside e b p depth (a .count) c (eqb (l .kind) recordKind) (h .tagged .1)) (own .payload);
         inside = record { ruled = ruledC; beside = rw (n .kind-is, n .count-is) inner };
         behind = record { ruled = ruledS; beside = (λ z. rw label (own .before), omega (arith, n .count-is, x .beside .1)) };
       }
@@ -98,7 +101,11 @@ module _ (e : Equivalence) (b : List ℕ) (p end : ℕ) (l : Label) (a : Payload
       let key = sym (compare-fields lastKey (typeKey b p)) ∙ ap (compareLabel (fieldLabel lastKey)) label ∙ x .beside .0 in
       let inner = inside-holds e b p depth (a .count) c false (depth + 1) (h .tagged .1) (h .shallow .2) (own .within) (λ z. absurd (true≢false (sym z))) in
       record {
-        follows = (compare-less lastKey (typeKey b p) key, rw (n .count-is) (counts .0));
+        follows = (
+          compare-less lastKey (typeKey b p) key,
+          rw (n .payload-is) (sym (proper-other (l .kind) a _ (λ z. omega (arith, kind-eq (h .tagged .0), z))) ∙ own .payload),
+          rw (n .count-is) (counts .0),
+        );
         totals = omega (arith, n .count-is, own .field-total (kind-eq (h .tagged .0)));
         inside = record { ruled = ruledC; beside = inner };
         behind = record { ruled = ruledS; beside = (rw label (own .before), counts .1) };

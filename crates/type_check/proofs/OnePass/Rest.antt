@@ -8,7 +8,8 @@ use lib.Dec.{eqb}
 use borrow.Author.Tests.{eq-eqb}
 use Rattle.counting_theory.specs.Trie.{nil, node, size, Before, total}
 use Rattle.counting_theory.specs.Label.{Equivalence, fieldLabel, compareLabel, Counting, CountingType}
-use Rattle.counting_theory.specs.Encoding.{Tagged}
+use Rattle.counting_theory.specs.Payload.{proper}
+use Rattle.counting_theory.specs.Encoding.{typeKind, typePayload, Tagged}
 use Rattle.counting_theory.specs.Inside.TypeBytes.{typeCount}
 use Rattle.counting_theory.specs.WellFormed.{maxTotal, counted, fieldsOf, Shallow}
 use Rattle.type_arena.specs.Inside.Arena.{labelAt}
@@ -24,9 +25,9 @@ abbrev pub sumOf : Run → CountingType → ℕ
 sumOf (addends depth last sum) f = sum + total Counting f
 sumOf (fields depth ofRecord lastKey) f = 0
 
--- a field's count is the total t inside it
+-- an addend's payload fits the total t inside it, and a field's count is that total
 abbrev pub Totals : List ℕ → ℕ → Run → ℕ → Type 0
-Totals b p (addends depth last sum) t = Unit {0}
+Totals b p (addends depth last sum) t = proper (typeKind b p) (typePayload b p) t ≡ true
 Totals b p (fields depth ofRecord lastKey) t = t ≡ typeCount b p
 
 module _ (e : Equivalence) where
@@ -60,6 +61,11 @@ module _ (e : Equivalence) (b : List ℕ) where
     -- what is expected inside an addend, by whether it is a record
     abbrev pub Inside : Bool → Type 0
     Inside record? = Beside (p + 1) (cond record? (fields depth count 0) (addends (depth + 1) (p + 1) 0)) c
+
+    -- its total, as the check has it
+    pub sum-inside : (record? : Bool) → Tagged e record? c → sumOf (cond record? (fields depth count 0) (addends (depth + 1) (p + 1) 0)) c ≡ total Counting c
+    sum-inside true h = sym (total-fields e c h)
+    sum-inside false h = omega arith
 
     pub inside-told : (record? : Bool) → Tagged e record? c → Inside record? → (total Counting c ≤ maxTotal) × (record? ≡ true → fieldsOf e count c ≡ true)
     inside-told true h i = (omega (arith, total-fields e c h), λ z. i .1)

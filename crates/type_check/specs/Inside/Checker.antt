@@ -10,7 +10,8 @@ use Rattle.value_table.specs.Value.{recordKind, maxLength}
 use Rattle.type_check.specs.declared.Checked.{Checked}
 use Rattle.type_check.specs.declared.Checked.the-variants.{Total, Faulty}
 use Rattle.counting_theory.specs.Label.{Equivalence, compareLabel}
-use Rattle.counting_theory.specs.Encoding.{typeSize, typeKind, typeKey, typeSpan}
+use Rattle.counting_theory.specs.Payload.{noLengths, proper}
+use Rattle.counting_theory.specs.Encoding.{typeSize, typeKind, typeKey, typeSpan, typePayload}
 use Rattle.counting_theory.specs.Inside.TypeBytes.{typeCount}
 use Rattle.type_arena.specs.Inside.Arena.{labelAt}
 use Rattle.counting_theory.specs.WellFormed.{maxTotal, typeRecord, isLt, fieldCount}
@@ -33,18 +34,30 @@ inside b p depth = cond (eqb (typeKind b p) recordKind) (fields depth (typeCount
 abbrev pub ordered : Equivalence → List ℕ → ℕ → ℕ → Bool
 ordered e b last p = eqb last p || isLt (compareLabel (labelAt e b last) (labelAt e b p))
 
+-- its count is at least 1, and keeps the total of its union within the limit
+abbrev pub countFits : List ℕ → ℕ → ℕ → Bool
+countFits b p total = leb 1 (typeCount b p) && leb (total + typeCount b p) maxTotal
+
 -- the record at p is right by itself and beside what came before it
 unfoldable pub fits : Equivalence → List ℕ → ℕ → ℕ → Run → Bool
 fits e b p end (addends depth last total) =
-    typeRecord b p end false depth && ordered e b last p
-    && leb 1 (typeCount b p) && leb (total + typeCount b p) maxTotal
+    countFits b p total && typeRecord b p end false depth && ordered e b last p
 fits e b p end (fields depth ofRecord lastKey) =
-    typeRecord b p end true depth && ltb lastKey (typeKey b p) && fieldCount e (typeCount b p) ofRecord
+    typeRecord b p end true depth && ltb lastKey (typeKey b p) && noLengths (typePayload b p) && fieldCount e (typeCount b p) ofRecord
 
 -- the run after the record at p
 abbrev pub after : List ℕ → ℕ → Run → Run
 after b p (addends depth last total) = addends depth p (total + typeCount b p)
 after b p (fields depth ofRecord lastKey) = fields depth ofRecord (typeKey b p)
+
+-- what stands inside has this total; or a total that the payload of the record at p fits
+abbrev pub hasTotal : ℕ → Option ℕ → Bool
+hasTotal count none = false
+hasTotal count (some t) = eqb t count
+
+abbrev pub properWithin : List ℕ → ℕ → Option ℕ → Bool
+properWithin b p none = false
+properWithin b p (some t) = proper (typeKind b p) (typePayload b p) t
 
 -- what is expected inside the record at p, and what its total must be
 abbrev pub content : List ℕ → ℕ → Run → Run
@@ -52,9 +65,8 @@ content b p (addends depth last total) = inside b p depth
 content b p (fields depth ofRecord lastKey) = addends (depth + 1) (p + 1) 0
 
 abbrev pub agrees : List ℕ → ℕ → Run → Option ℕ → Bool
-agrees b p r none = false
-agrees b p (addends depth last total) (some t) = true
-agrees b p (fields depth ofRecord lastKey) (some t) = eqb t (typeCount b p)
+agrees b p (addends depth last total) o = properWithin b p o
+agrees b p (fields depth ofRecord lastKey) o = hasTotal (typeCount b p) o
 
 -- the total of the run of records p to end, or none where something is wrong; k bounds the number of records
 unfoldable pub check : Equivalence → List ℕ → ℕ → ℕ → ℕ → Run → Option ℕ
@@ -87,8 +99,4 @@ pub record RunOf (b : List ℕ) (i end : ℕ) : Type 0 where
 
 -- the addend at p is right by itself: its record and what stands inside it
 abbrev pub addendRight : Equivalence → List ℕ → ℕ → ℕ → ℕ → Bool
-addendRight e b p end depth = typeRecord b p end false depth && isSome (checkRun e b (p + 1) (p + typeSpan b p) (inside b p depth))
-
-abbrev pub hasTotal : ℕ → Option ℕ → Bool
-hasTotal count none = false
-hasTotal count (some t) = eqb t count
+addendRight e b p end depth = typeRecord b p end false depth && properWithin b p (checkRun e b (p + 1) (p + typeSpan b p) (inside b p depth))

@@ -26,13 +26,16 @@ list-label-requires c κs =
     let g = s .1 in
     (λ z. record { values = g .values; run = rw (eq-eqb _ recordKind z) at (g .run) }, s .4)
 
+elements-in-requires : tie.Need-elements-in-requires
+elements-in-requires c κs = c .before .before .before .before .before .before .before .before .before .before .pre .1
+
 given-requires : tie.Need-given-requires
 given-requires c κs = tt
 
 place-requires : tie.Need-place-requires
 place-requires c κs =
-    let g = c .before .before .before .before .before .before .before .before .before .before .before .before .before .pre in
-    (g .0, listed-keys (c .before .before .before) (g .1 .values) (g .1 .run) .1)
+    let g = c .before .before .before .before .before .before .before .before .before .before .before .before .before .before .pre in
+    (g .0, listed-keys (c .before .before .before .before) (g .1 .values) (g .1 .run) .1)
 
 returns : tie.Need-returns
 returns c field f q free vs h s r =
@@ -43,10 +46,10 @@ returns c field f q free vs h s r =
 
 returns-2 : tie.Need-returns-2
 returns-2 c field f q free vs h s r =
-    let a = c .before .before .before .before .before .before .before .before .before .before .before .before .before .before .before .before .args in
+    let a = c .before .before .before .before .before .before .before .before .before .before .before .before .before .before .before .before .before .args in
     let k = c .before .before .place in
-    let l = label-is (byFlag (a .label)) (a .kind) (a .key) (c .before .before .before .before .before .before .before .keys .given .0 .0) (c .before .before .before .before .before .before .before .before .before .before .before .list-label .last .1 .1 .1 .1 .0) vs (listed-keys (c .before .before .before .before .before .before) vs r .0) in
-    located (byFlag (a .label)) (a .kind) (a .key) (a .weight) vs f q (a .rest) (k .result) (k .last .0) (rw (l, c .before .before .before .before .before .given .ensures vs) at (k .ensures field f q free h s))
+    let l = label-is (byFlag (a .label)) (a .kind) (a .key) (c .before .before .before .before .before .before .before .before .keys .given .0 .0) (c .before .before .before .before .before .before .before .before .before .before .before .before .list-label .last .1 .1 .1 .1 .0) vs (listed-keys (c .before .before .before .before .before .before .before) vs r .0) in
+    located (byFlag (a .label)) (a .kind) (a .key) (a .weight) vs f q (a .rest) (k .result) (k .last .0) (rw (l, c .before .before .before .before .before .given .ensures vs (c .before .before .before .before .before .before .elements-in .ensures vs r)) at (k .ensures field f q free h s))
 
 pub locate-spec : {M : Type 1} → statement M
 locate-spec =
@@ -55,6 +58,7 @@ locate-spec =
     list-label-requires
     (λ c. search needs)
     (λ c. search needs)
+    elements-in-requires
     given-requires
     place-requires
     (λ c. search needs)

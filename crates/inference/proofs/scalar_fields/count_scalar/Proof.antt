@@ -1,14 +1,14 @@
 -- `count_scalar` meets its contract.
 use mathlib.Core.List.{List, _++_}
 use mathlib.Core.Bool.{Bool, true, false}
-use mathlib.Core.Path.{refl, sym, _∙_}
+use mathlib.Core.Path.{_≡_, refl, sym, _∙_}
 use Prim.Native.Nat.{ℕ, _+_, _*_, _-_, _≤_}
 use native.Mathlib.Omega.{arith}
 use lib.ListN.{length, take, drop, length-take, length-drop}
 use borrow.Author.Needs.{needs}
 use Rattle.counting_theory.specs.Label.{fieldKind, CountingType}
 use Rattle.counting_theory.specs.Encoding.{typeSize, typeSpan, encode}
-use Rattle.value_table.specs.Value.{none, value}
+use Rattle.value_table.specs.Value.{none, value, count}
 use Rattle.type_arena.specs.Inside.Arena.{byFlag}
 use Rattle.type_arena.specs.Inside.Payload.{itemPayload}
 use Rattle.inference.specs.Inside.Inferring.{grown, ArenaHolds, StandsAt, split, Counted}
@@ -58,6 +58,10 @@ given-requires c κs = tt
 join-payload-requires : tie.Need-join-payload-requires
 join-payload-requires c κs = omega (arith, bound (c .before .before .before .before .before .before .before .before .before .before .before))
 
+no-elements : 0 ≡ count none
+unfolding count
+no-elements = refl
+
 -- the scalar in its union, when the field has been counted
 module _ (c : tie.After-slice-known2) where
   abbrev found : tie.After-find-scalar
@@ -77,7 +81,7 @@ module _ (c : tie.After-slice-known2) where
 
   module _ (label : Bool) (n rest key : ℕ) (f : CountingType) (q free : List ℕ) (h : ArenaHolds (byFlag label) true (start .args .a .now) n rest f q free) (o : StandsAt (plain (byFlag label) fieldKind key) f (start .args .p)) where
     counted : Counted (split (plain (byFlag label) fieldKind key) f) (plain (byFlag label) fieldKind key) (grown (split (plain (byFlag label) fieldKind key) f .payload) (itemPayload (start .args .weight) fieldKind (value (record { kind = start .args .kind }) key none none))) q (start .args .p) n arena
-    counted = rw (c .before .before .before .given .ensures none) at (here-counted h _ _ _ (field-here h key _ o) _ _ (c .before .before .join-payload .ensures))
+    counted = rw (c .before .before .before .given .ensures none (λ z. no-elements)) at (here-counted h _ _ _ (field-here h key _ o) _ _ (c .before .before .join-payload .ensures))
 
     abbrev union : CountingType
     union = split (plain (byFlag label) fieldKind key) f .content
@@ -110,7 +114,7 @@ returns-2 c label n rest key f q free h o =
     let j = inner i label n rest key f q free h o in
     let k = here-counted j _ _ _ (here-at _ 0 _ _ (stands i label n rest key f q free h o)) _ _ (c .before .before .join-payload2 .ensures) in
     scalar-counted h key _ o _ (found i .before .before .before .span-at .ensures .0) (start i .args .weight) (start i .args .kind) (counted i label n rest key f q free h o) (short i) (start i .pre .1)
-    (rw (c .before .before .before .given2 .ensures none) at k)
+    (rw (c .before .before .before .given2 .ensures none (λ z. no-elements)) at k)
     (omega (arith, short i, simp (length-take, length-drop) at (c .before .before .join-payload2 .kept .0)))
 
 pub count-scalar-spec : {M : Type 1} → statement M

@@ -1,14 +1,15 @@
 -- `seek_field` meets its contract.
 use mathlib.Core.List.{List}
 use mathlib.Core.Bool.{Bool, true, false}
-use Prim.Native.Nat.{ℕ, _-_}
+use Prim.Native.Nat.{ℕ, _+_, _-_, _≤_}
 use native.Mathlib.Omega.{arith}
 use Rattle.counting_theory.specs.Label.{fieldKind, CountingType}
+use Rattle.counting_theory.specs.Encoding.{typeSpan}
 use Rattle.type_arena.specs.Inside.Arena.{byFlag}
 use Rattle.inference.specs.Inside.Inferring.{ArenaHolds, Starts}
-use Rattle.inference.specs.Inside.ScalarFields.{plain}
-use Rattle.inference.proofs.InPlace.Seeking.{Stop, stop, starts-next}
-use Rattle.inference.proofs.InPlace.Scalars.{Begun, begun-start, table-at, field-kind, plain-equal, plain-key-greater}
+use Rattle.inference.specs.Inside.ScalarFields.{plain, BelowAt}
+use Rattle.inference.proofs.InPlace.Seeking.{Stop, stop}
+use Rattle.inference.proofs.InPlace.Scalars.{Begun, begun-start, begun-behind, table-at, reach-at, field-kind, plain-equal}
 use Rattle.inference.proofs.scalar_fields.seek_field.Statement.{statement}
 use Rattle.inference.proofs.scalar_fields.seek_field.Tie as tie
 
@@ -54,27 +55,44 @@ returns c label rest f q free h s =
 returns-2 : tie.Need-returns-2 Inv-loop μ-loop
 returns-2 c label rest f q free h s = c .before .before .before .before .loop .inv label rest f q free h s .1
 
+last-alike-requires : tie.Need-last-alike-requires Inv-loop μ-loop
+last-alike-requires c κs =
+    let i = c .before .before .before in
+    let g = start i .pre in
+    let s = begun i (g .label) (g .rest) (g .f) (g .q) (g .free) (g .holds) (g .starts) .starts in (
+      record { label = g .label; rest = g .rest; f = g .f; q = g .q; free = g .free; holds = g .holds; starts = s },
+      i .loop-test .taken,
+      omega (arith, c .before .before .key-at .ensures, c .before .if1 .left, c .if2 .left),
+    )
+
+-- the last field passed
+module _ (c : tie.After-last-alike Inv-loop μ-loop) where
+  abbrev head : tie.In-loop Inv-loop μ-loop
+  head = c .before .before .before .before
+
+  last : (label : Bool) (rest : ℕ) (f : CountingType) (q free : List ℕ) → ArenaHolds (byFlag label) true (start head .args .b .now) (start head .args .n) rest f q free → Starts (start head .args .from) f →
+      BelowAt (start head .args .b .now) (start head .args .n) (start head .args .key) f (c .last-alike .result)
+  last label rest f q free h s = c .last-alike .ensures .1 label rest f q free h (begun head label rest f q free h s .starts)
+
+  last-one : BelowAt (start head .args .b .now) (start head .args .n) (start head .args .key) (start head .pre .f) (c .last-alike .result)
+  last-one = let g = start head .pre in last (g .label) (g .rest) (g .f) (g .q) (g .free) (g .holds) (g .starts)
+
+  reach : (1 ≤ typeSpan (start head .args .b .now) (c .last-alike .result)) × (c .last-alike .result + typeSpan (start head .args .b .now) (c .last-alike .result) ≤ start head .args .n)
+  reach = reach-at (start head .pre .holds) (last-one .starts) (last-one .within)
+
 span-at-requires : tie.Need-span-at-requires Inv-loop μ-loop
-span-at-requires c κs = one (c .before .before .before) .here .whole
+span-at-requires c κs = let x = last-one c in table-at (start (head c) .pre .holds) (x .starts) (x .within) .whole
 
 add-at : tie.Need-add-at Inv-loop μ-loop
-add-at c = omega (arith, one (c .before .before .before .before) .upto, c .span-at .ensures .0)
+add-at c = omega (arith, reach (c .before), c .span-at .ensures .0)
 
 loop-less : tie.Need-loop-less Inv-loop μ-loop
-loop-less c = omega (arith, one (c .before .before .before .before) .upto, one (c .before .before .before .before) .some, c .span-at .ensures .0)
+loop-less c = omega (arith, c .before .last-alike .ensures .0, reach (c .before), c .span-at .ensures .0)
 
 loop-again : tie.Need-loop-again Inv-loop μ-loop
 loop-again c label rest f q free h s =
-    let i = c .before .before .before .before in
-    let x = begun i label rest f q free h s .starts in
-    rw (c .span-at .ensures .0) (
-      record {
-        seen = all i label rest f q free h s .greater
-            (plain-key-greater label _ _ fieldKind _ (field-kind h x (i .loop-test .taken)) (omega (arith, c .before .before .before .key-at .ensures, c .before .before .if1 .left, c .before .if2 .left)));
-        starts = starts-next h _ x (i .loop-test .taken);
-      },
-      x,
-    )
+    let x = last (c .before) label rest f q free h s in
+    rw (c .span-at .ensures .0) (begun-behind label h _ x, x .starts)
 
 returns-3 : tie.Need-returns-3 Inv-loop μ-loop
 returns-3 c label rest f q free h s = c .before .loop .inv label rest f q free h s .1
@@ -90,6 +108,7 @@ seek-field-spec =
     key-at-requires
     returns
     returns-2
+    last-alike-requires
     span-at-requires
     add-at
     loop-less

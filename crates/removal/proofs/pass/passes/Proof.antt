@@ -4,8 +4,8 @@ use mathlib.Core.Bool.{Bool}
 use native.Mathlib.Omega.{arith}
 use lib.ListN.{length}
 use Rattle.counting_theory.specs.Label.{Equivalence}
-use Rattle.type_arena.specs.Inside.Addend.{Coded}
-use Rattle.type_arena.proofs.FirstAddend.{headed}
+use Rattle.removal_arena.specs.Inside.Addend.{Coded}
+use Rattle.removal_arena.proofs.FirstAddend.{headed}
 use Rattle.removal.proofs.CountLimit.{Seeking, seeking-start, seeking-first, seeking-next, seeking-found, seeking-done}
 use Rattle.removal.proofs.pass.passes.Statement.{statement}
 use Rattle.removal.proofs.pass.passes.Tie as tie

@@ -7,7 +7,7 @@ use Rattle.trial_notation.proofs.records.put_text.Statement.{statement}
 use Rattle.trial_notation.proofs.records.put_text.Tie as tie
 
 abbrev Inv-loop : tie.InvT-loop
-Inv-loop bytes₀ layout i text at₀ number₀ n k₀ bytes at number k = (k ≤ n) × (at < 65536) × (length bytes ≡ length bytes₀)
+Inv-loop bytes₀ layout i text at₀ number₀ n k₀ bytes at number k = (k ≤ n) × (at < 131072) × (length bytes ≡ length bytes₀)
 
 abbrev μ-loop : tie.MeasureT-loop
 μ-loop bytes₀ layout i text at₀ number₀ n k₀ bytes at number k = n - k

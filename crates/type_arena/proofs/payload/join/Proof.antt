@@ -7,7 +7,9 @@ use Rattle.type_arena.proofs.payload.join.Tie as tie
 
 returns : tie.Need-returns
 unfolding payloadOf
-returns c = wrapped-join (payloadOf (c .before .args .a)) (payloadOf (c .before .args .b)) (record { count = c .wrapping-add-usize .result }) (c .wrapping-add-usize .ensures)
+returns c =
+    let x = c .before .before .before .args in
+    wrapped-join (payloadOf (x .a)) (payloadOf (x .b)) _ (c .before .before .wrapping-add-usize .ensures) (c .before .smaller .ensures) (c .larger .ensures)
 
 pub join-spec : {M : Type 1} → statement M
-join-spec = tie.close (tie.spec (λ c κs. search needs) returns)
+join-spec = tie.close (tie.spec (λ c κs. search needs) (λ c κs. search needs) (λ c κs. search needs) returns)

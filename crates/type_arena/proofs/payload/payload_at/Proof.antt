@@ -9,7 +9,19 @@ use Rattle.type_arena.proofs.payload.payload_at.Tie as tie
 
 returns : tie.Need-returns
 unfolding payloadOf typePayload ofNumbers fieldsFrom fieldAt
-returns c = λ i. record { count = c .number64 .ensures i }
+returns c = λ i. record { count = c .before .before .number64 .ensures i; shortest = c .before .number32 .ensures .0 i; longest = c .number322 .ensures .0 i }
 
 pub payload-at-spec : {M : Type 1} → statement M
-payload-at-spec = tie.close (tie.spec (λ c. search needs) (λ c. search needs) (λ c κs. search needs) returns)
+payload-at-spec =
+    tie.close
+    (tie.spec
+    (λ c. search needs)
+    (λ c. search needs)
+    (λ c κs. search needs)
+    (λ c. search needs)
+    (λ c. search needs)
+    (λ c κs. search needs)
+    (λ c. search needs)
+    (λ c. search needs)
+    (λ c κs. search needs)
+    returns)

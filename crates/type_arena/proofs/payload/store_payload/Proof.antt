@@ -1,15 +1,25 @@
 -- `store_payload` meets its contract.
-use mathlib.Core.List.{append-nil}
-use Rattle.byte_records.specs.Format.{recordBytes}
-use Rattle.counting_theory.specs.Payload.{numbers}
-use Rattle.type_arena.specs.Inside.Payload.{payloadOf, payloadBytes}
+use Rattle.type_arena.proofs.RecordBytes.{sets-payload}
+use Rattle.type_arena.specs.Inside.Payload.{payloadOf}
 use borrow.Author.Needs.{needs}
 use Rattle.type_arena.proofs.payload.store_payload.Statement.{statement}
 use Rattle.type_arena.proofs.payload.store_payload.Tie as tie
 
 returns : tie.Need-returns
-unfolding payloadOf payloadBytes numbers recordBytes
-returns c = rw append-nil (c .before .before .store64 .ensures)
+unfolding payloadOf
+returns c =
+    let a = c .before .before .before .before .before .before .before .before .before .before .before .before .before .args in
+    cc (sets-payload (payloadOf (a .a)) (a .out .now) (a .at))
 
 pub store-payload-spec : {M : Type 1} → statement M
-store-payload-spec = tie.close (tie.spec (λ c. search needs) (λ c κs. search needs) (λ c. search needs) returns)
+store-payload-spec =
+    tie.close
+    (tie.spec
+    (λ c. search needs)
+    (λ c κs. search needs)
+    (λ c. search needs)
+    (λ c κs. search needs)
+    (λ c. search needs)
+    (λ c κs. search needs)
+    (λ c. search needs)
+    returns)

@@ -4,10 +4,10 @@ use Prim.Native.Nat.{ℕ, _-_}
 use native.Mathlib.Omega.{arith}
 use lib.ListN.{length}
 use borrow.Author.Needs.{needs}
-use Rattle.type_arena.specs.Inside.Payload.{payloadOf}
-use Rattle.type_arena.specs.Inside.Runs.{insideOf}
-use Rattle.type_arena.proofs.FirstAddend.{headed, body-rest, coded-length}
-use Rattle.type_arena.proofs.Runs.{Head, head, rank-inside}
+use Rattle.removal_arena.specs.Inside.Payload.{payloadOf}
+use Rattle.removal_arena.specs.Inside.Runs.{insideOf}
+use Rattle.removal_arena.proofs.FirstAddend.{headed, body-rest, coded-length}
+use Rattle.removal_arena.proofs.Runs.{Head, head, rank-inside}
 use Rattle.removal.proofs.OnBytes.OneAddend.{short-left, over-left}
 use Rattle.removal.proofs.OnBytes.RemovalLoop.{whole-inside}
 use Rattle.removal.proofs.OnBytes.Stored.{addend-lost, addend-gone, LeftInside, inside-fits, addend-kept, addend-not-part}

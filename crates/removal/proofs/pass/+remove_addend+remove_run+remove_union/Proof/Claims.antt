@@ -4,7 +4,7 @@ use Prim.Native.Nat.{ℕ, _+_, _*_, _<_}
 use lib.ListN.{length}
 use borrow.Fn.Kinds.{In}
 use borrow.Fn.PlainCycle.{Measures, is, falls, and}
-use Rattle.type_arena.proofs.Runs.{rank}
+use Rattle.removal_arena.proofs.Runs.{rank}
 use Rattle.removal.proofs.OnBytes.RemovalLoop.{State}
 use Rattle.removal.proofs.pass.remove_addend.Reads as remove-addend
 use Rattle.removal.proofs.pass.remove_addend.Kinds as remove-addend-kinds
@@ -19,15 +19,15 @@ use Rattle.byte_records.proofs.store.put_bytes.Reads as put-bytes-reads
 use Rattle.removal.proofs.pass.limit_inside.Reads as limit-inside-reads
 use Rattle.removal.proofs.pass.passes.Reads as passes-reads
 use Rattle.removal.proofs.pass.same_bytes.Reads as same-bytes-reads
-use Rattle.type_arena.proofs.addend.body_of.Reads as body-of-reads
-use Rattle.type_arena.proofs.addend.keep.Reads as keep-reads
-use Rattle.type_arena.proofs.addend.rest_of.Reads as rest-of-reads
-use Rattle.type_arena.proofs.label_order.compare_labels.Reads as compare-labels-reads
-use Rattle.type_arena.proofs.level.inside.Reads as inside-reads
-use Rattle.type_arena.proofs.record_store.put_record.Reads as put-record-reads
-use Rattle.type_arena.proofs.type_record.count_at.Reads as count-at-reads
-use Rattle.type_arena.proofs.type_record.key_at.Reads as key-at-reads
-use Rattle.type_arena.proofs.type_record.kind_at.Reads as kind-at-reads
+use Rattle.removal_arena.proofs.addend.body_of.Reads as body-of-reads
+use Rattle.removal_arena.proofs.addend.keep.Reads as keep-reads
+use Rattle.removal_arena.proofs.addend.rest_of.Reads as rest-of-reads
+use Rattle.removal_arena.proofs.label_order.compare_labels.Reads as compare-labels-reads
+use Rattle.removal_arena.proofs.level.inside.Reads as inside-reads
+use Rattle.removal_arena.proofs.record_store.put_record.Reads as put-record-reads
+use Rattle.removal_arena.proofs.type_record.count_at.Reads as count-at-reads
+use Rattle.removal_arena.proofs.type_record.key_at.Reads as key-at-reads
+use Rattle.removal_arena.proofs.type_record.kind_at.Reads as kind-at-reads
 
 abbrev pub μ-addend : Measures 4 remove-addend-kinds.ps ℕ
 μ-addend κs a = 3 * rank (a .1 .1 .1 .1 .0)

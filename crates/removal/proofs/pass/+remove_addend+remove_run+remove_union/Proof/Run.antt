@@ -6,9 +6,9 @@ use native.Mathlib.Omega.{arith}
 use lib.Dec.{ltb}
 use lib.ListN.{length}
 use borrow.Author.Needs.{needs}
-use Rattle.type_arena.specs.Inside.LabelOrder.{orderingOf}
-use Rattle.type_arena.proofs.FirstAddend.{headed}
-use Rattle.type_arena.proofs.Runs.{Head, head, same-kinds}
+use Rattle.removal_arena.specs.Inside.LabelOrder.{orderingOf}
+use Rattle.removal_arena.proofs.FirstAddend.{headed}
+use Rattle.removal_arena.proofs.Runs.{Head, head, same-kinds}
 use Rattle.removal.proofs.OnBytes.RemovalLoop.{start, turn-less, turn-more, turn-same, part-done, whole-done, lacks-before, lacks-now}
 use Rattle.removal.proofs.pass.remove_run.Reads as remove-run
 use Rattle.removal.proofs.pass.+remove_addend+remove_run+remove_union.Lts-remove_run as remove-run-lts

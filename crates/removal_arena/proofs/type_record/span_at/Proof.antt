@@ -1,0 +1,13 @@
+-- `span_at` meets its contract.
+use borrow.Author.Needs.{needs}
+use Rattle.byte_records.specs.Format.{fieldAt}
+use Rattle.removal_theory.specs.Encoding.{typeSpan}
+use Rattle.removal_arena.proofs.type_record.span_at.Statement.{statement}
+use Rattle.removal_arena.proofs.type_record.span_at.Tie as tie
+
+returns : tie.Need-returns
+unfolding typeSpan fieldAt
+returns c = search needs
+
+pub span-at-spec : {M : Type 1} → statement M
+span-at-spec = tie.close (tie.spec (λ c. search needs) (λ c. search needs) (λ c κs. search needs) returns)

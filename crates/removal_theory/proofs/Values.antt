@@ -1,0 +1,2 @@
+-- The laws of counts in removal's types.
+pub mod Totals

@@ -1,0 +1,3 @@
+-- What only proofs and contracts inside the crates above cite.
+pub mod TypeBytes
+pub mod RecordsHold
