@@ -9,7 +9,7 @@ use value_table::Answer;
 
 // Why a call is refused: a length, an unknown equivalence, a fault of a record of the table, a malformed first (or only) or second type, a total
 // above the limit, a part that is not in the whole, or no room in the arena.
-#[derive(Drop)]
+#[derive(Clone, Copy)]
 pub enum Refusal {
     Length,
     Equivalence,
@@ -22,7 +22,7 @@ pub enum Refusal {
 }
 
 // The answer of a call: a number of type records, or a refusal with its place.
-#[derive(Drop)]
+#[derive(Clone, Copy)]
 pub enum Answered {
     Accepted(usize),
     Refused(Refusal, usize),

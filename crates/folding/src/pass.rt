@@ -17,7 +17,7 @@ use type_arena::type_record::{key_at, kind_at, span_at};
 use value_table::record;
 
 // How many records siblings have now, and a sibling at or before all that were added to; or that there is no room.
-#[derive(Drop)]
+#[derive(Clone, Copy)]
 pub enum Folded {
     Records(usize, usize),
     Full,
@@ -25,7 +25,7 @@ pub enum Folded {
 
 // The record of an addend or field, the number of records of its siblings, and where a search inside it may begin; or that there is no
 // room.
-#[derive(Drop)]
+#[derive(Clone, Copy)]
 enum Placed {
     At(usize, usize, usize),
     NoRoom,

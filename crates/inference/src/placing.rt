@@ -16,7 +16,7 @@ use type_arena::record_store::{insert_record, join_payload};
 use type_arena::type_record;
 
 // The record where a label stands, and the number of records of its siblings; or that there is no room.
-#[derive(Drop)]
+#[derive(Clone, Copy)]
 pub enum Put {
     At(usize, usize),
     NoRoom,

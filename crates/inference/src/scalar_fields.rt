@@ -15,14 +15,14 @@ use type_arena::type_record::{key_at, kind_at, span_at};
 use value_table::record;
 
 // Where a field stands; or a field from which a search for it may begin.
-#[derive(Drop)]
+#[derive(Clone, Copy)]
 pub enum Sought {
     Field(usize),
     Behind(usize),
 }
 
 // The next record of a run, and the field from which a search may begin.
-#[derive(Drop)]
+#[derive(Clone, Copy)]
 pub struct Progress {
     pub next: usize,
     pub from: usize,

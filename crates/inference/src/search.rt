@@ -13,21 +13,21 @@ use type_arena::type_record::{key_at, kind_at, span_at};
 use value_table::record;
 
 // Where a label stands among siblings, or would.
-#[derive(Drop)]
+#[derive(Clone, Copy)]
 pub enum Found {
     Here(usize),
     Missing(usize),
 }
 
 // How siblings were passed: to where the label stands or would, or up to a sibling that is still to be looked at, or their end.
-#[derive(Drop)]
+#[derive(Clone, Copy)]
 pub enum Passed {
     Ended(Found),
     Upto(usize),
 }
 
 // What kind and key tell of the order of two labels: the order, or that key lists settle it, and where the second one's ends.
-#[derive(Drop)]
+#[derive(Clone, Copy)]
 pub enum Head {
     Settled(Order),
     Lists(usize),

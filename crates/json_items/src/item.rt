@@ -13,7 +13,7 @@ use key_book::guesses::HINTS;
 use key_book::search::find_key;
 
 // A key's number and the place of its closing quote; or where it turns out to be unlisted or faulty.
-#[derive(Drop)]
+#[derive(Clone, Copy)]
 pub enum Named {
     Found(usize, usize),
     Unlisted(usize),

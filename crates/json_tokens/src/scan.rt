@@ -7,14 +7,14 @@ ghost use Rattle.json_tokens.specs.Inside.Tokens.{after_int, after_frac, after_s
 ghost use Rattle.json_tokens.specs.Inside.Tokens.{is_sign, DigitsIs, next_letter, ScanIs};
 
 // Where a token ends, or the byte with which it cannot go on.
-#[derive(Drop)]
+#[derive(Clone, Copy)]
 pub enum Scan {
     To(usize),
     Bad(usize),
 }
 
 // Where the closing quote of a string is, and whether an escape came before it; or the byte with which it cannot go on.
-#[derive(Drop)]
+#[derive(Clone, Copy)]
 pub enum Quoted {
     Plain(usize),
     Escaped(usize),

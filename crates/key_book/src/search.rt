@@ -9,7 +9,7 @@ use crate::guesses::{HINTS, TRIES, slot_in};
 use crate::same_key::is_key;
 use crate::validity::{SIZE, key_byte};
 
-#[derive(Drop)]
+#[derive(Clone, Copy)]
 pub enum Order {
     Less,
     Same,

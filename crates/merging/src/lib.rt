@@ -17,7 +17,7 @@ use type_arena::type_record::{key_at, kind_at};
 use value_table::record;
 
 // How many bytes a merge has, and whether a union in it totals above the limit.
-#[derive(Drop)]
+#[derive(Clone, Copy)]
 pub struct Merged {
     pub bytes: usize,
     pub over: bool,

@@ -20,7 +20,7 @@ use removal_arena::type_record;
 use removal_arena::type_record::{count_at, key_at, kind_at};
 
 // What is left of a run: so many bytes, or the part is not in it.
-#[derive(Drop)]
+#[derive(Clone, Copy)]
 pub enum Remainder {
     Bytes(usize),
     NotPart,

@@ -10,7 +10,7 @@ use crate::type_record::{key_at, kind_at, span_at};
 use value_table::record;
 
 // How one label, or one key list, stands to another.
-#[derive(Drop)]
+#[derive(Clone, Copy)]
 pub enum Order {
     Less,
     Same,

@@ -5,7 +5,7 @@ ghost use Rattle.removal_arena.specs.Inside.Runs.{inside_of};
 use value_table::record;
 
 // What a run of records is: the levels of addends left, whether it is a run of fields, and whether labels list keys.
-#[derive(Drop)]
+#[derive(Clone, Copy)]
 pub struct Level {
     pub left: usize,
     pub field: bool,

@@ -7,7 +7,7 @@ ghost use Rattle.removal_arena.specs.Inside.Payload.{payload_of, payload_offset,
 use crate::type_record::PAYLOAD_OFFSET;
 use byte_records::store::store64;
 
-#[derive(Drop)]
+#[derive(Clone, Copy)]
 pub struct Payload {
     pub count: usize,
 }

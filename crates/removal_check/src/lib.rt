@@ -18,7 +18,7 @@ use removal_arena::type_record::{count_at, key_at, kind_at, span_at, zero_at};
 use value_table::record;
 
 // The total of a union, or that something in it is wrong.
-#[derive(Drop)]
+#[derive(Clone, Copy)]
 pub enum Checked {
     Total(usize),
     Faulty,

@@ -17,7 +17,7 @@ pub const ENTRY_SIZE: usize = 16;
 const NUMBER_OFFSET: usize = 8;
 
 // The bytes of the entries that were written, or that there was no room for them.
-#[derive(Drop)]
+#[derive(Clone, Copy)]
 pub enum Entries {
     Written(usize),
     Full,

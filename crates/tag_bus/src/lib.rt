@@ -23,7 +23,7 @@ use key_word::WORD_BITS;
 use value_table::{Judged, judge_up_to, record};
 
 // An answer, and the bytes of the entries that were written.
-#[derive(Drop)]
+#[derive(Clone, Copy)]
 struct Filled {
     answered: Answered,
     used: usize,

@@ -12,7 +12,7 @@ use crate::Level;
 use json_tokens::scan::{byte_at, space_end};
 
 // What stands between two items: the end of the text, an item, or a byte with which the text cannot go on.
-#[derive(Drop)]
+#[derive(Clone, Copy)]
 pub enum Next {
     End,
     Item(usize),

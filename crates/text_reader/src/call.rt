@@ -17,7 +17,7 @@ use key_book::validity::good_book;
 use value_table::{Answer, record};
 
 // Why a text is refused: a length, the book, or a fault of the text.
-#[derive(Drop)]
+#[derive(Clone, Copy)]
 pub enum TextRefusal {
     Length,
     Book,
@@ -25,7 +25,7 @@ pub enum TextRefusal {
 }
 
 // The answer of the call: the number of value records, or a refusal with its place.
-#[derive(Drop)]
+#[derive(Clone, Copy)]
 pub enum TextAnswer {
     Read(usize),
     Refused(TextRefusal, usize),

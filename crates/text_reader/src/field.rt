@@ -19,7 +19,7 @@ use key_book::validity;
 use value_table::record;
 
 // A key's number and the byte from which the text goes on, or a fault and its byte.
-#[derive(Drop)]
+#[derive(Clone, Copy)]
 pub enum Key {
     Found(usize, usize),
     Wrong(TextFault, usize),

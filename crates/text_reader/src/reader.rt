@@ -16,7 +16,7 @@ use value_table::record;
 use value_table::record_store::store_span;
 
 // The open values: the record of each, whether it is an object, how many items stand before it, and how many there are.
-#[derive(Drop)]
+#[derive(Clone, Copy)]
 struct Open {
     records: [usize; record::MAX_DEPTH],
     objects: [bool; record::MAX_DEPTH],
@@ -25,7 +25,7 @@ struct Open {
 }
 
 // How a text was read: the number of its value records, or a fault and its byte.
-#[derive(Drop)]
+#[derive(Clone, Copy)]
 pub enum ReadText {
     Accepted(usize),
     Faulty(TextFault, usize),

@@ -18,7 +18,7 @@ use value_table::record_store::store_value;
 
 // What a value is: a scalar that ends at a byte; an array or object whose content begins there, and whether it is an object; or a fault
 // and its byte.
-#[derive(Drop)]
+#[derive(Clone, Copy)]
 pub enum Value {
     Scalar(usize),
     Opened(usize, bool),

@@ -7,7 +7,7 @@ use type_arena::type_record;
 use value_table::record;
 
 // Records of tables, of types, and of plain types, which are without the lengths of arrays.
-#[derive(Drop)]
+#[derive(Clone, Copy)]
 pub enum Layout {
     Value,
     Type,
@@ -18,7 +18,7 @@ pub enum Layout {
 pub const PLAIN_SIZE: usize = removal_arena::type_record::SIZE;
 
 // Where a number begins in its record, and how many bytes it has.
-#[derive(Drop)]
+#[derive(Clone, Copy)]
 struct Extent {
     start: usize,
     width: usize,
@@ -43,7 +43,7 @@ pub const ARRAY: u64 = record::ARRAY as u64;
 
 // What a run repeats: null; a field with null in it; a record with such a field; or an array around the next, which ends before a
 // place.
-#[derive(Drop)]
+#[derive(Clone, Copy)]
 pub enum Item {
     Null,
     Field,
@@ -52,7 +52,7 @@ pub enum Item {
 }
 
 // How many items a run has, the key of the first, and the step to the next.
-#[derive(Drop)]
+#[derive(Clone, Copy)]
 pub struct Run {
     pub count: usize,
     pub key: u64,

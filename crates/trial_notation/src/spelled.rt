@@ -33,7 +33,7 @@ fn width(c: u8) -> usize {
 }
 
 // Where the next byte or key is spelled, and where it is stored.
-#[derive(Drop)]
+#[derive(Clone, Copy)]
 struct Spelling {
     from: usize,
     to: usize,

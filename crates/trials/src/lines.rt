@@ -4,7 +4,7 @@ use crate::trial::try_call;
 use trial_notation::text::{byte_at, find, part};
 
 // Where the line begins that is being read; the call and the equivalences, by their first characters.
-#[derive(Drop)]
+#[derive(Clone, Copy)]
 struct Section {
     start: usize,
     call: u8,

@@ -11,7 +11,7 @@ use byte_records::little_endian::{number32, number64};
 use byte_records::store::{store32, store64};
 use value_table::record;
 
-#[derive(Drop)]
+#[derive(Clone, Copy)]
 pub struct Payload {
     pub count: usize,
     pub shortest: usize,

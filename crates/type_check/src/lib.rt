@@ -22,7 +22,7 @@ use value_table::record;
 const MAX_ELEMENTS: usize = 8192;
 
 // The total of a union, or that something in it is wrong.
-#[derive(Drop)]
+#[derive(Clone, Copy)]
 pub enum Checked {
     Total(usize),
     Faulty,

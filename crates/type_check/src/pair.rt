@@ -10,7 +10,7 @@ use type_arena::type_record::bad_length;
 
 // How two types and an arena's length stand before a call on them does its work: both well formed, and whether the equivalence is
 // label; or a refusal.
-#[derive(Drop)]
+#[derive(Clone, Copy)]
 pub enum Pair {
     Formed(bool),
     Refused(Refusal),

@@ -13,7 +13,7 @@ use crate::{Fault, record};
 pub const KEY_BUCKETS: usize = 64;
 
 // What a look at one record finds.
-#[derive(Drop)]
+#[derive(Clone, Copy)]
 pub enum Finding {
     Nothing,
     Found(Fault),

@@ -9,7 +9,7 @@ ghost use Rattle.value_table.specs.Outcome.{number_of_fault, outcome_of, outcome
 ghost use Rattle.value_table.specs.Judged.{judged, judged_up_to};
 
 // What is wrong with a record of a table.
-#[derive(Drop)]
+#[derive(Clone, Copy)]
 pub enum Fault {
     Kind,
     Span,
@@ -21,7 +21,7 @@ pub enum Fault {
 }
 
 // The answer of call 1: the number of messages, that the length is wrong, or a fault and the record that has it.
-#[derive(Drop)]
+#[derive(Clone, Copy)]
 pub enum Judged {
     Accepted(usize),
     Length,
@@ -30,7 +30,7 @@ pub enum Judged {
 
 // An answer as three numbers: refusal number, place, count.
 #[repr(C)]
-#[derive(Drop)]
+#[derive(Clone, Copy)]
 pub struct Answer {
     pub number: u64,
     pub place: u64,

@@ -14,7 +14,7 @@ const LEVELS: usize = record::MAX_DEPTH + 1;
 
 // The open values around the next record: the end of each, the first field of each that is a record (else 0), and how many
 // there are; and how many values each level has had.
-#[derive(Drop)]
+#[derive(Clone, Copy)]
 struct Walk {
     ends: [usize; record::MAX_DEPTH],
     fields: [usize; record::MAX_DEPTH],
