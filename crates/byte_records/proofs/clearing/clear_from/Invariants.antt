@@ -1,0 +1,14 @@
+-- `clear_from` meets its contract.
+use mathlib.Core.Path.{◌≡◌, refl, ◌∙◌}
+use Prim.Native.Nat.{◌-◌, ◌≤◌}
+use native.Mathlib.Omega.{arith}
+use lib.ListN.{length, length-set}
+use borrow.Author.Rules.{rules}
+use Rattle.byte_records.proofs.Clear.{cleared_from, clear-more, clear-done}
+use Rattle.byte_records.proofs.clearing.clear_from.Given as goal
+
+abbrev pub invariant-loop-i : goal.invariant-loop-i
+invariant-loop-i l = (l.i ≤ length l.buffer) × (length l.buffer ≡ length l.initial.buffer) × (cleared_from l.buffer l.i ≡ cleared_from l.initial.buffer l.from)
+
+abbrev pub decreases-loop-i : goal.decreases-loop-i
+decreases-loop-i l = length l.buffer - l.i

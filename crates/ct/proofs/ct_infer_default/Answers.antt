@@ -1,0 +1,9 @@
+-- `ct_infer_default` meets its contract: the three numbers are those of the inference, which leaves the same buffers.
+use mathlib.Core.Path.{◌∙◌}
+use borrow.Author.Rules.{rules}
+use Rattle.ct.proofs.ct_infer_default.Goals as goal
+
+pub returns : goal.returns
+returns c =
+    let k = c.infer_default in
+    (λ i. record { outcome = c.answer_of.ensures i; arena = k.new.arena; work = k.new.work }) ∙ k.ensures

@@ -1,0 +1,18 @@
+-- `count_values` meets its contract.
+use mathlib.Core.Path.{◌≡◌, refl}
+use mathlib.Core.Bool.{false}
+use mathlib.Core.List.{List}
+use Prim.Native.Nat.{ℕ, ◌+◌, ◌*◌, ◌-◌, ◌/◌, ◌≤◌, ◌<◌}
+use native.Mathlib.Omega.{arith}
+use lib.ListN.{length}
+use Rattle.value_table.specs.Value.{record_size, max_length, Values}
+use Rattle.inference.specs.Inside.Inferring.{TableRun, step_at}
+use Rattle.inference.proofs.InPlace.Runs.{whole-records}
+use Rattle.inference.proofs.InPlace.Elements.{Passed, none_passed, passed-step, passed-next, all-passed}
+use Rattle.inference.proofs.elements.count_values.Given as goal
+
+abbrev pub invariant-loop-i : goal.invariant-loop-i
+invariant-loop-i l = (l.end ≡ length l.t / record_size) × (l.n ≤ l.i) × ((vs : Values) → TableRun false l.t vs → Passed l.t vs l.i l.n)
+
+abbrev pub decreases-loop-i : goal.decreases-loop-i
+decreases-loop-i l = l.end - l.i

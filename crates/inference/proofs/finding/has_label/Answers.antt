@@ -1,0 +1,34 @@
+-- `has_label` meets its contract. The loop's invariant: the keys before are the same.
+use mathlib.Core.Path.{sym, ◌∙◌}
+use mathlib.Core.Bool.{true, true≢false}
+use Prim.Native.Nat.Ordering.{eq}
+use Prim.Native.Nat.{◌-◌}
+use native.Mathlib.Omega.{arith}
+use borrow.Author.Rules.{rules}
+use borrow.Author.Tests.{eqb-true}
+use Rattle.counting_theory.proofs.KeyOrder.{both_end}
+use Rattle.inference.proofs.InPlace.Compare.{KeysLeft, left-start, left-same}
+use Rattle.inference.proofs.finding.has_label.Goals as goal
+
+pub loop-i-init : goal.loop-i-init
+loop-i-init c =
+    let head = rw c.in-Lists.is at c.compare_head.ensures in
+    rw head.0 (left-start (c.requires.0.fields head.1))
+
+pub loop-i-preserved : goal.loop-i-preserved
+loop-i-preserved c =
+    rw c.span_at-j.ensures.0 (left-same c.loop-i.invariant (omega arith) c.if-j-end.false (omega arith))
+
+pub returns : goal.returns
+returns c z =
+    let l = c.loop-i.invariant in
+    sym (both_end l.comparing (omega (arith, l.most)) (eqb-true _ _ z) ∙ (rw c.in-Lists.is at c.compare_head.ensures).2 _)
+
+pub returns-in_default : goal.returns-in_default
+returns-in_default c z = absurd (true≢false (sym z))
+
+pub returns-then-j-end : goal.returns-then-j-end
+returns-then-j-end c z = absurd (true≢false (sym z))
+
+pub returns-then-number16-key_at : goal.returns-then-number16-key_at
+returns-then-number16-key_at c z = absurd (true≢false (sym z))

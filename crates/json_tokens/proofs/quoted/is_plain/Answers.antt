@@ -1,0 +1,24 @@
+-- `is_plain` meets its contract.
+use mathlib.Core.Path.{refl}
+use native.Mathlib.Omega.{arith}
+use borrow.Author.Tests.{ne_eqb, lt-leb, le-leb}
+use Rattle.json_tokens.proofs.quoted.is_plain.Goals as goal
+
+pub returns-in-34 : goal.returns-in-34
+returns-in-34 c = rw c.in-34.is refl
+
+pub returns-in-92 : goal.returns-in-92
+returns-in-92 c = rw c.in-92.is refl
+
+pub returns-in-32-to-127 : goal.returns-in-32-to-127
+returns-in-32-to-127 c =
+    let m = c.in_default-1.rest in
+    simp (ne_eqb _ _ m.0.1, ne_eqb _ _ m.1, le-leb _ _ c.if-c-lt32.false, le-leb c.args.c 0x7F (omega arith))
+
+pub returns-in_default : goal.returns-in_default
+returns-in_default c = simp (ne_eqb _ _ c.in_default-1.rest.0.1, ne_eqb _ _ c.in_default-1.rest.1, lt-leb _ _ c.in_default.if-c-lt32-own.true)
+
+pub returns-in_default-2 : goal.returns-in_default-2
+returns-in_default-2 c =
+    let m = c.in_default-1.rest in
+    simp (ne_eqb _ _ m.0.1, ne_eqb _ _ m.1, le-leb _ _ c.if-c-lt32.false, lt-leb _ _ c.in_default.if-c-lt128-own.false)

@@ -1,0 +1,11 @@
+-- `free_slot` meets its contract.
+use Prim.Native.Nat.{◌-◌, ◌<◌}
+use borrow.Author.Rules.{rules}
+use Rattle.key_book.specs.Inside.Records.{places}
+use Rattle.key_book.proofs.guesses.free_slot.Given as goal
+
+abbrev pub invariant-loop-tries : goal.invariant-loop-tries
+invariant-loop-tries l = l.at < places
+
+abbrev pub decreases-loop-tries : goal.decreases-loop-tries
+decreases-loop-tries l = 8 - l.tries

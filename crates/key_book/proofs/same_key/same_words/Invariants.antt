@@ -1,0 +1,15 @@
+-- `same_words` meets its contract.
+use mathlib.Core.Path.{◌≡◌}
+use Prim.Native.Nat.{◌+◌, ◌-◌, ◌≤◌}
+use native.Mathlib.Omega.{arith}
+use borrow.Author.Rules.{rules}
+use borrow.Author.Tests.{not-false}
+use Rattle.json_theory.proofs.Rx.{false-true}
+use Rattle.key_book.proofs.Matching.{Comparing, comparing-start, comparing-word, comparing-done}
+use Rattle.key_book.proofs.same_key.same_words.Given as goal
+
+abbrev pub invariant-loop-k : goal.invariant-loop-k
+invariant-loop-k l = (l.from + l.k ≤ l.to) × Comparing l.book l.i l.text l.from l.to l.k
+
+abbrev pub decreases-loop-k : goal.decreases-loop-k
+decreases-loop-k l = l.to - (l.from + l.k)

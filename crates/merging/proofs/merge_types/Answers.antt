@@ -1,0 +1,14 @@
+-- `merge_types` meets its contract.
+use Rattle.type_arena.proofs.Runs.{type-run, type-short}
+use borrow.Author.Rules.{rules}
+use native.Mathlib.Omega.{arith}
+use Rattle.merging.proofs.merge_types.Goals as goal
+
+pub merge_union-requires : goal.merge_union-requires
+merge_union-requires c =
+    let p = c.requires.0 in
+    let q = c.requires.1 in
+    ((type-run c.args.label _ p, type-run c.args.label _ q), omega (arith, type-short p, type-short q))
+
+pub returns : goal.returns
+returns c = c.merge_union.ensures

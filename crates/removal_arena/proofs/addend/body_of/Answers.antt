@@ -1,0 +1,10 @@
+-- `body_of` meets its contract.
+use mathlib.Core.Path.{ap}
+use Prim.Native.Nat.{◌*◌}
+use Rattle.removal_theory.specs.Encoding.{type_size}
+use Rattle.removal_arena.proofs.FirstAddend.{body_is}
+use borrow.Author.Rules.{rules}
+use Rattle.removal_arena.proofs.addend.body_of.Goals as goal
+
+pub returns : goal.returns
+returns c = body_is c.args.x.now _ (ap (λ n. type_size * n) c.span_at-n.ensures.0)

@@ -1,0 +1,17 @@
+-- `put_spaces` meets its contract: as many of the spaces as are asked for.
+use mathlib.Core.Path.{sym}
+use lib.ListN.{length-replicate}
+use Rattle.report.specs.Inside.Room.{max_digits}
+use Rattle.report.proofs.Storing.{take-replicate}
+use borrow.Author.Rules.{rules}
+use native.Mathlib.Omega.{arith}
+use Rattle.report.proofs.decimal.put_spaces.Goals as goal
+
+pub slice_bounds-put_text-end : goal.slice_bounds-put_text-end
+slice_bounds-put_text-end c = rw (take-replicate c.args.count max_digits 32 (omega arith)) (sym (length-replicate _ _))
+
+pub put_text-requires : goal.put_text-requires
+put_text-requires c = omega (arith, slice-aggregate-put-text c)
+
+pub returns : goal.returns
+returns c = rw (take-replicate c.args.count max_digits 32 (omega arith)) at c.put_text.ensures

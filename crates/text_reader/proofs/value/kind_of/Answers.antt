@@ -1,0 +1,54 @@
+-- `kind_of` meets its contract.
+use mathlib.Core.Path.{◌≡◌, refl, sym}
+use Prim.Native.Nat.{ℕ, ◌≤◌, ◌<◌}
+use native.Mathlib.Omega.{arith}
+use Rattle.json_theory.specs.Parts.{start}
+use Rattle.text_reader.proofs.Starts.{digit-kind, other-kind}
+use Rattle.text_reader.proofs.value.kind_of.Goals as goal
+
+below : (c : ℕ) → c < 0x30 → 0x30 ≤ c → ⊥
+below c a b = omega arith
+
+above : (c : ℕ) → 0x3A ≤ c → c ≤ 0x39 → ⊥
+above c a b = omega arith
+
+pub returns-in-34 : goal.returns-in-34
+unfolding start
+returns-in-34 c = let e : c.args.c ≡ 0x22 = omega arith in rw e refl
+
+pub returns-in-45 : goal.returns-in-45
+unfolding start
+returns-in-45 c = let e : c.args.c ≡ 0x2D = omega arith in rw e refl
+
+pub returns-in-91 : goal.returns-in-91
+unfolding start
+returns-in-91 c = let e : c.args.c ≡ 0x5B = omega arith in rw e refl
+
+pub returns-in-102 : goal.returns-in-102
+unfolding start
+returns-in-102 c = let e : c.args.c ≡ 0x66 = omega arith in rw e refl
+
+pub returns-in-110 : goal.returns-in-110
+unfolding start
+returns-in-110 c = let e : c.args.c ≡ 0x6E = omega arith in rw e refl
+
+pub returns-in-116 : goal.returns-in-116
+unfolding start
+returns-in-116 c = let e : c.args.c ≡ 0x74 = omega arith in rw e refl
+
+pub returns-in-123 : goal.returns-in-123
+unfolding start
+returns-in-123 c = let e : c.args.c ≡ 0x7B = omega arith in rw e refl
+
+pub returns-in-48-to-57 : goal.returns-in-48-to-57
+returns-in-48-to-57 c = sym (digit-kind c.args.c (omega arith) (omega arith))
+
+pub returns-in_default : goal.returns-in_default
+returns-in_default c =
+    let m = c.in_default-1.rest in
+    sym (other-kind c.args.c m.0.0.0.0.0.0.1 m.0.0.0.0.0.1 m.0.0.0.0.1 m.0.0.0.1 m.0.0.1 m.0.1 m.1 (λ l h. let t = c.in_default.if-c-lt48-own.true in below _ t l))
+
+pub returns-in_default-2 : goal.returns-in_default-2
+returns-in_default-2 c =
+    let m = c.in_default-1.rest in
+    sym (other-kind c.args.c m.0.0.0.0.0.0.1 m.0.0.0.0.0.1 m.0.0.0.0.1 m.0.0.0.1 m.0.0.1 m.0.1 m.1 (λ l h. let t = c.in_default.if-c-lt58-own.false in above _ t h))

@@ -1,0 +1,9 @@
+-- `word` is safe and ends: the loop takes so many turns.
+use Rattle.std.proofs.Common.{◌-◌, ◌≤◌, rules}
+use Rattle.trial_notation.proofs.text.word.Given as goal
+
+abbrev pub invariant-loop : goal.invariant-loop
+invariant-loop l = l.counter ≤ l.k
+
+abbrev pub decreases-loop : goal.decreases-loop
+decreases-loop l = l.k - l.counter

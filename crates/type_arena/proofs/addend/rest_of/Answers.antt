@@ -1,0 +1,8 @@
+-- `rest_of` meets its contract.
+use Rattle.std.proofs.Common.{◌*◌, ap, rules}
+use Rattle.counting_theory.specs.Encoding.{type_size}
+use Rattle.type_arena.proofs.FirstAddend.{rest-is}
+use Rattle.type_arena.proofs.addend.rest_of.Goals as goal
+
+pub returns : goal.returns
+returns c = rest-is c.args.x.now _ (ap (λ n. type_size * n) c.span_at-n.ensures.0)

@@ -1,0 +1,11 @@
+-- `payload_at` meets its contract.
+use Rattle.byte_records.specs.Format.{field_at, fields_from}
+use Rattle.counting_theory.specs.Payload.{of_numbers}
+use Rattle.counting_theory.specs.Encoding.{type_payload}
+use Rattle.type_arena.specs.Inside.Payload.{payload_of}
+use Rattle.std.proofs.Common.{rules}
+use Rattle.type_arena.proofs.payload.payload_at.Goals as goal
+
+pub returns : goal.returns
+unfolding payload_of type_payload of_numbers fields_from field_at
+returns c = λ i. record { count = c.number64.ensures i; shortest = c.number32.ensures.0 i; longest = c.number32-2.ensures.0 i }

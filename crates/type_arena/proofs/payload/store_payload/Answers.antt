@@ -1,0 +1,11 @@
+-- `store_payload` meets its contract.
+use Rattle.type_arena.proofs.RecordBytes.{sets-payload}
+use Rattle.type_arena.specs.Inside.Payload.{payload_of}
+use Rattle.std.proofs.Common.{rules}
+use Rattle.type_arena.proofs.payload.store_payload.Goals as goal
+
+pub returns : goal.returns
+unfolding payload_of
+returns c =
+    let a = c.args in
+    cc (sets-payload (payload_of a.a) a.out.now a.at)
