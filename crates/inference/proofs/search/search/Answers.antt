@@ -52,7 +52,7 @@ compare_at-requires c = ((one c).here, (start c).requires.1)
 
 pub returns-then-not-resumed : goal.returns-then-not-resumed
 returns-then-not-resumed c field rest f q free h s =
-    (all (goal.at.returns-then-not-resumed c).In-loop-at field rest f q free h s).less (sym c.compare_at.ensures ∙ ap ordering_of c.in-Less.is) (not-true _ c.if-not-resumed.true)
+    (all (goal.at.returns-then-not-resumed c).In-loop-at field rest f q free h s).less (sym c.compare_at.ensures ∙ ap ordering_of c.in-Less.is) c.if-not-resumed.true
 
 pub returns-in-Same : goal.returns-in-Same
 returns-in-Same c field rest f q free h s =
@@ -97,7 +97,7 @@ pub returns-in-Ended : goal.returns-in-Ended
 returns-in-Ended c field rest f q free h s = rw c.in-Ended.is at (passes (goal.at.returns-in-Ended c).After-pass_alike field rest f q free h s)
 
 pub loop-at-smaller-else-not-resumed : goal.loop-at-smaller-else-not-resumed
-loop-at-smaller-else-not-resumed c = rw (not-false c.loop-at.resumed c.if-not-resumed.false) (omega arith)
+loop-at-smaller-else-not-resumed c = rw c.if-not-resumed.false (omega arith)
 
 pub loop-at-preserved-else-not-resumed : goal.loop-at-preserved-else-not-resumed
 loop-at-preserved-else-not-resumed c field rest f q free h s = seen_start h _
