@@ -31,7 +31,7 @@ module _ (c : goal.In-loop-next) where
   reach : (1 ≤ type_span start.args.b.now c.loop-next.next) × (c.loop-next.next + type_span start.args.b.now c.loop-next.next ≤ start.args.n)
   reach = reach-at start.requires.0.holds behind c.loop-next-test.true
 
-  module _ (below : type_key start.args.b.now c.before.loop.next < start.args.key) (label : Bool) (rest : ℕ) (f : CountingType) (q free : List ℕ)
+  module _ (below : type_key start.args.b.now c.loop-next.next < start.args.key) (label : Bool) (rest : ℕ) (f : CountingType) (q free : List ℕ)
 
       (h : ArenaHolds (by_flag label) true start.args.b.now start.args.n rest f q free) (s : Starts start.args.from f) where
 
