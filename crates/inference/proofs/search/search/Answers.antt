@@ -17,7 +17,6 @@ use Rattle.inference.proofs.search.search.Goals.{After-pass_alike, In-More, In-l
 
 -- the sibling that the search has come to
 module _ (c : goal.In-loop-at) where
-
   abbrev start : goal.Start
   start = c.before.before.before.before.before.before
 
@@ -34,7 +33,6 @@ module _ (c : goal.In-loop-at) where
   StopIn f = Stop e start.args.b.now start.args.n sought f c.loop-at.resumed at
 
   module _ (field : Bool) (rest : ℕ) (f : CountingType) (q free : List ℕ) (h : ArenaHolds e field start.args.b.now start.args.n rest f q free) (s : Starts start.args.from f) where
-
     seen : Seen e start.args.b.now start.args.n sought f c.loop-at.resumed at
     seen = c.loop-at.invariant field rest f q free h s
 
@@ -60,7 +58,6 @@ returns-in-Same c field rest f q free h s =
 
 -- one that the label comes after
 module _ (c : goal.In-More) where
-
   abbrev here : goal.In-loop-at
   here = (record { before = c.before.before.before; type_inv = record { work = c.type_inv.work; b = c.type_inv.b } })
 
@@ -83,7 +80,6 @@ pass_alike-requires c =
     )
 
 module _ (c : goal.After-pass_alike) where
-
   abbrev Passes : CountingType → Type 0
   Passes f = PassedTo (sought (here (record { before = c.before.before; type_inv = record { work = c.type_inv.work; b = c.type_inv.b } }))) f (next (record { before = c.before.before; type_inv = record { work = c.type_inv.work; b = c.type_inv.b } })) c.pass_alike.result
 
