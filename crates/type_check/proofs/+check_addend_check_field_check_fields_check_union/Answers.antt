@@ -24,7 +24,6 @@ use Rattle.type_check.proofs.+check_addend_check_field_check_fields_check_union.
 module _ {t : ℕ} where
   -- what is known of an addend once its payload is at hand
   module _ (c : goal.check_addend-After-payload_at-a t) where
-
     abbrev start : goal.check_addend-Start t
     start = c.before.before.before.before.before.before.before
 
@@ -99,7 +98,6 @@ check_addend-returns-in-Faulty t c =
 module _ {t : ℕ} where
   -- no array
   module _ (c : goal.check_addend-After-no_lengths t) where
-
     abbrev held : goal.check_addend-After-payload_at-a t
     held = (record { before = c.before.before.before; type_inv = record { b = c.type_inv.b } })
 
@@ -250,7 +248,6 @@ check_union-span_at-p-requires t c = (in_table (run-from c.requires.0 c.loop-p.i
 module _ {t : ℕ} where
   -- the addend at p has been accepted
   module _ (c : goal.check_union-After-span_at-p t) where
-
     spans : let l = c.loop-p in (1 ≤ type_span c.args.b.now l.p) × (l.p + type_span c.args.b.now l.p ≤ c.args.end)
     spans = addend-span c.loop-p.invariant c.loop-p-test.true (sym c.count_fits.ensures ∙ c.if-not-count_fits.false) (sym c.check_addend.ensures ∙ c.if-not-check_addend.false)
 
