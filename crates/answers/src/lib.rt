@@ -1,4 +1,6 @@
 // What a call that writes or judges a type answers: its refusals, and the answer as three numbers.
+#![tactic(auto)]
+
 ghost use Rattle.std.specs.Prelude.{◌≡◌, ◌*◌, ◌^◌, ◌<◌};
 ghost use Rattle.value_table.specs.Outcome.{outcome_of_answer};
 ghost use Rattle.counting_theory.specs.Encoding.{type_size};

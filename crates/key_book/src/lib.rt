@@ -1,4 +1,6 @@
 // The key book: whether it is good, and the number of a key.
+#![tactic(auto)]
+
 pub mod guesses;
 pub mod same_key;
 pub mod search;

@@ -7,10 +7,10 @@ use native.Mathlib.Omega.{arith}
 use lib.ListN.{length}
 use lib.Seq.{sets}
 use borrow.Author.Tests.{le-leb, lt-leb}
-use Rattle.value_table.specs.Value.{record_size, max_depth, none, value, header}
+use Rattle.value_table.specs.Value.{record_size, max_depth, header}
 use Rattle.json_theory.specs.Grammar.{is_space, head_of}
 use Rattle.json_theory.specs.Parts.{Start, letters, number, string, open', nothing, start}
-use Rattle.json_theory.specs.Steps.{Stack, State, first, begin, item, step}
+use Rattle.json_theory.specs.Steps.{Stack, State, begin, item, step}
 use Rattle.json_theory.specs.Book.{key_number}
 use Rattle.json_theory.specs.Reader.{depth, written, value_fault, limit_fault, is_wrong, byte_fault, fault_at, finish}
 use Rattle.json_theory.specs.Inside.Scanning.{byte_at}

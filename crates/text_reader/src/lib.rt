@@ -1,4 +1,6 @@
 // The reader from JSON text to a value table.
+#![tactic(auto)]
+
 pub mod between;
 pub mod call;
 pub mod field;

@@ -1,5 +1,7 @@
 // Type records: their fields, their payload, the order of their labels, their stores, the parts and the level of a run; and the numbers of
 // the equivalences.
+#![tactic(auto)]
+
 pub mod addend;
 pub mod equivalence;
 pub mod label_order;

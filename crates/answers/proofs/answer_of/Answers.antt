@@ -1,6 +1,5 @@
 -- `answer_of` meets its contract.
 use mathlib.Core.Path.{sym, ap}
-use borrow.Author.Rules.{rules}
 use Rattle.answers.specs.Outcomes.{outcome_of}
 use Rattle.answers.proofs.answer_of.Goals as goal
 

@@ -2,10 +2,8 @@
 use mathlib.Core.Path.{◌≡◌, refl, sym, ap, ◌∙◌}
 use mathlib.Core.Bool.{true, false}
 use mathlib.Core.List.{List}
-use Prim.Native.Nat.{ℕ, ◌+◌, ◌*◌, ◌-◌, ◌≤◌, ◌<◌}
+use Prim.Native.Nat.{ℕ, ◌+◌, ◌-◌, ◌≤◌}
 use native.Mathlib.Omega.{arith}
-use borrow.Author.Rules.{rules}
-use borrow.Author.Tests.{not-true, not-false}
 use Rattle.value_table.specs.Value.{max_depth, array_kind}
 use Rattle.counting_theory.specs.Payload.{Payload, no_lengths}
 use Rattle.counting_theory.specs.Encoding.{type_kind, type_span, type_payload}
@@ -17,7 +15,7 @@ use Rattle.type_arena.specs.Inside.Arena.{by_flag}
 use Rattle.type_arena.specs.Inside.Payload.{payload_of}
 use Rattle.type_check.specs.Inside.Checker.{RunOf, checked_of, has_total, proper_within, addends, check_run, addend_right}
 use Rattle.type_check.proofs.OnePass.CheckLoop.{addend-inside, wrong-record, record-span, with-found, wrong-lengths, with-fields, with_nothing}
-use Rattle.type_check.proofs.OnePass.Loops.{run-from, run-within, in_table, Addends, addends-start, addends-done, last-inside, wrong-count, count-bounds, wrong-addend, wrong-order, addend-span, addends-next, Fields, fields-start, fields-done, wrong-field, field-span, wrong-total, fields-next}
+use Rattle.type_check.proofs.OnePass.Loops.{run-from, run-within, in_table, addends-start, addends-done, last-inside, wrong-count, count-bounds, wrong-addend, wrong-order, addend-span, addends-next, fields-start, fields-done, wrong-field, field-span, wrong-total, fields-next}
 use Rattle.type_check.proofs.+check_addend_check_field_check_fields_check_union.Goals as goal
 use Rattle.type_check.proofs.+check_addend_check_field_check_fields_check_union.Goals.{check_addend-After-check_union, check_addend-After-no_lengths, check_addend-After-payload_at-a, check_addend-Start, check_fields-After-check_field, check_union-After-span_at-p}
 

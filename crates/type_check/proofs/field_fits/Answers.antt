@@ -1,7 +1,6 @@
 -- `field_fits` meets its contract.
 use mathlib.Core.Path.{◌≡◌, sym, ◌∙◌}
 use borrow.Author.Tests.{le-ltb, lt-ltb}
-use borrow.Author.Rules.{rules}
 use Rattle.type_check.specs.Inside.Checker.{fits}
 use Rattle.counting_theory.specs.Payload.{no_lengths}
 use Rattle.counting_theory.specs.Encoding.{type_payload}

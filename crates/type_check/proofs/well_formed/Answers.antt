@@ -2,7 +2,6 @@
 use mathlib.Core.Path.{sym, ap, ◌∙◌}
 use native.Mathlib.Omega.{arith}
 use lib.ListN.{length}
-use borrow.Author.Rules.{rules}
 use Rattle.type_check.specs.Inside.Checker.{checked_of, is_some}
 use Rattle.type_check.proofs.OnePass.AcceptsExactly.{check-well-formed}
 use Rattle.counting_theory.proofs.WellFormed.AcceptsExactly.{type-length}

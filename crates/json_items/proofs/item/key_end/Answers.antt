@@ -2,7 +2,6 @@
 use mathlib.Core.Path.{subst}
 use mathlib.Core.Bool.{true, false}
 use native.Mathlib.Omega.{arith}
-use borrow.Author.Rules.{rules}
 use Rattle.json_tokens.specs.Inside.Tokens.{StringTo, QuotedIs}
 use Rattle.json_items.proofs.Items.{named-found, named-unlisted, named-escaped, named-faulty}
 use Rattle.json_items.proofs.Keys.{goes-filled}

@@ -1,6 +1,5 @@
 -- `byte_within` meets its contract.
 use borrow.Author.Tests.{lt-leb, le-leb}
-use borrow.Author.Rules.{rules}
 use Rattle.json_tokens.proofs.quoted.byte_within.Goals as goal
 
 pub returns-then-c-low : goal.returns-then-c-low

@@ -1,7 +1,6 @@
 -- `lead_end` meets its contract.
 use mathlib.Core.Path.{refl, sym, ◌∙◌, ap}
 use native.Mathlib.Omega.{arith}
-use borrow.Author.Rules.{rules}
 use borrow.Author.Tests.{le-leb, lt-leb}
 use Rattle.json_theory.specs.Parts.{tails1, tails2, next_in_string, plain}
 use Rattle.json_theory.proofs.Scanning.{place-on}

@@ -1,12 +1,8 @@
 -- `plain_end` meets its contract.
-use mathlib.Core.Path.{refl, sym, ◌∙◌}
 use Prim.Native.Nat.{◌-◌}
 use lib.ListN.{length}
-use borrow.Author.Tests.{not-true, not-false}
-use borrow.Author.Rules.{rules}
 use Rattle.json_theory.specs.Inside.Scanning.{Running}
 use Rattle.json_tokens.specs.Inside.Tokens.{is_plain}
-use Rattle.json_theory.proofs.Scanning.{running-start, running-on, run_out}
 use Rattle.json_tokens.proofs.quoted.plain_end.Given as goal
 
 abbrev pub invariant-loop-at : goal.invariant-loop-at

@@ -1,6 +1,5 @@
 -- `string_end` meets its contract.
 use mathlib.Core.Path.{sym, ◌∙◌}
-use borrow.Author.Rules.{rules}
 use Rattle.json_tokens.proofs.Strings.{chars-plain, quoted-on}
 use Rattle.json_tokens.proofs.quoted.string_end.Goals as goal
 

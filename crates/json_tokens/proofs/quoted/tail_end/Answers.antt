@@ -1,6 +1,5 @@
 -- `tail_end` meets its contract.
 use mathlib.Core.Path.{sym, ◌∙◌}
-use borrow.Author.Rules.{rules}
 use Rattle.json_tokens.proofs.Strings.{tail-last, tail-stop}
 use Rattle.json_tokens.proofs.quoted.tail_end.Goals as goal
 

@@ -1,6 +1,5 @@
 -- `behind_int` meets its contract.
 use mathlib.Core.Path.{subst}
-use borrow.Author.Rules.{rules}
 use Rattle.json_tokens.specs.Inside.Tokens.{after_frac, no_more, PartIs}
 use Rattle.json_tokens.proofs.Numbers.{part_then}
 use Rattle.json_tokens.proofs.scan.behind_int.Goals as goal

@@ -1,6 +1,5 @@
 -- `byte_at` meets its contract.
 use mathlib.Core.Path.{sym}
-use borrow.Author.Rules.{rules}
 use Rattle.json_theory.proofs.Scanning.{byte-none}
 use Rattle.json_tokens.proofs.scan.byte_at.Goals as goal
 

@@ -1,6 +1,5 @@
 -- `number_end` meets its contract.
 use mathlib.Core.Path.{subst}
-use borrow.Author.Rules.{rules}
 use Rattle.json_tokens.specs.Inside.Tokens.{after_int, no_more, PartIs}
 use Rattle.json_tokens.proofs.Numbers.{part_then}
 use Rattle.json_tokens.proofs.scan.number_end.Goals as goal

@@ -1,7 +1,6 @@
 -- `signed_end` meets its contract.
 use mathlib.Core.Path.{refl, sym, ◌∙◌}
 use native.Mathlib.Omega.{arith}
-use borrow.Author.Rules.{rules}
 use Rattle.json_theory.specs.Parts.{minus, nought, start}
 use Rattle.json_tokens.proofs.Numbers.{start-inside, start-at, start-whole, after-nought, after-whole}
 use Rattle.json_tokens.proofs.scan.signed_end.Goals as goal

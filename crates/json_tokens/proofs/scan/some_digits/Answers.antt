@@ -1,7 +1,6 @@
 -- `some_digits` meets its contract.
 use mathlib.Core.Path.{refl, sym, ap, ◌∙◌}
 use native.Mathlib.Omega.{arith}
-use borrow.Author.Rules.{rules}
 use Rattle.json_theory.specs.Parts.{is_digit}
 use Rattle.json_theory.specs.Inside.Scanning.{byte_at}
 use Rattle.json_tokens.proofs.scan.some_digits.Goals as goal

@@ -1,11 +1,6 @@
 -- `space_end` meets its contract.
 use mathlib.Core.Path.{refl, sym, ◌∙◌}
-use Prim.Native.Nat.{◌-◌}
-use lib.ListN.{length}
-use borrow.Author.Tests.{not-true, not-false}
 use borrow.Author.Rules.{rules}
-use Rattle.json_theory.specs.Grammar.{is_space}
-use Rattle.json_theory.specs.Inside.Scanning.{Running}
 use Rattle.json_theory.proofs.Scanning.{running-start, running-on, run_out}
 use Rattle.json_tokens.proofs.scan.space_end.Goals as goal
 

@@ -1,11 +1,8 @@
 -- `word_end` meets its contract.
-use mathlib.Core.Path.{sym, ◌∙◌}
 use Prim.Native.Nat.{◌+◌, ◌-◌, ◌≤◌}
 use lib.ListN.{length, drop}
-use borrow.Author.Rules.{rules}
 use Rattle.json_theory.specs.Inside.Scanning.{Goes}
 use Rattle.json_tokens.specs.Inside.Tokens.{next_letter}
-use Rattle.json_tokens.proofs.Numbers.{word-start, word_on, word-stop, word-done}
 use Rattle.json_tokens.proofs.scan.word_end.Given as goal
 
 abbrev pub invariant-loop-k : goal.invariant-loop-k

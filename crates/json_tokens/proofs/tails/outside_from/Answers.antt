@@ -1,6 +1,5 @@
 -- `outside_from` meets its contract.
 use native.Mathlib.Omega.{arith}
-use borrow.Author.Rules.{rules}
 use Rattle.json_tokens.proofs.tails.outside_from.Goals as goal
 
 pub returns-then-c-first : goal.returns-then-c-first

@@ -1,7 +1,6 @@
 -- `filled` meets its contract.
 use native.Mathlib.Omega.{arith}
 use lib.Count.{leading_le}
-use borrow.Author.Rules.{rules}
 use Rattle.key_book.proofs.guesses.filled.Goals as goal
 
 pub overflow_cast-result : goal.overflow_cast-result

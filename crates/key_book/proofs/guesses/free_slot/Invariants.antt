@@ -1,6 +1,5 @@
 -- `free_slot` meets its contract.
 use Prim.Native.Nat.{◌-◌, ◌<◌}
-use borrow.Author.Rules.{rules}
 use Rattle.key_book.specs.Inside.Records.{places}
 use Rattle.key_book.proofs.guesses.free_slot.Given as goal
 

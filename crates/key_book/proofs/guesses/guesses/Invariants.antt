@@ -1,6 +1,5 @@
 -- `guesses` meets its contract.
 use Prim.Native.Nat.{◌-◌, ◌≤◌}
-use borrow.Author.Rules.{rules}
 use Rattle.key_book.proofs.guesses.guesses.Given as goal
 
 abbrev pub invariant-loop-i : goal.invariant-loop-i

@@ -1,6 +1,5 @@
 -- `ends_at` meets its contract.
 use mathlib.Core.Path.{sym, ◌∙◌}
-use borrow.Author.Rules.{rules}
 use borrow.Author.Tests.{eqb-true}
 use Rattle.key_book.proofs.same_key.ends_at.Goals as goal
 

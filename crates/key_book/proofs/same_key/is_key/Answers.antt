@@ -1,7 +1,6 @@
 -- `is_key` meets its contract.
 use mathlib.Core.Path.{sym, ◌∙◌}
 use native.Mathlib.Omega.{arith}
-use borrow.Author.Rules.{rules}
 use borrow.Author.Tests.{eqb-true}
 use Rattle.key_book.proofs.Matching.{comparing-short}
 use Rattle.key_book.proofs.same_key.is_key.Goals as goal

@@ -1,6 +1,5 @@
 -- `same_word` meets its contract.
 use mathlib.Core.Path.{sym, ◌∙◌}
-use borrow.Author.Rules.{rules}
 use borrow.Author.Tests.{eqb-true}
 use Rattle.key_book.proofs.same_key.same_word.Goals as goal
 

@@ -1,11 +1,10 @@
 -- `same_words` meets its contract.
 use mathlib.Core.Path.{◌≡◌}
-use Prim.Native.Nat.{◌+◌, ◌-◌, ◌≤◌}
+use Prim.Native.Nat.{◌+◌, ◌-◌}
 use native.Mathlib.Omega.{arith}
 use borrow.Author.Rules.{rules}
-use borrow.Author.Tests.{not-false}
 use Rattle.json_theory.proofs.Rx.{false-true}
-use Rattle.key_book.proofs.Matching.{Comparing, comparing-start, comparing-word, comparing-done}
+use Rattle.key_book.proofs.Matching.{comparing-start, comparing-word, comparing-done}
 use Rattle.key_book.proofs.same_key.same_words.Goals as goal
 
 pub loop-k-init : goal.loop-k-init

@@ -1,6 +1,5 @@
 -- `short_word` meets its contract.
 use native.Mathlib.Omega.{arith}
-use borrow.Author.Rules.{rules}
 use Rattle.key_book.proofs.Words.{last-bytes}
 use Rattle.key_book.proofs.same_key.short_word.Goals as goal
 

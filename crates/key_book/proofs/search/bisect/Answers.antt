@@ -1,12 +1,10 @@
 -- `bisect` meets its contract.
 use mathlib.Core.Path.{sym, subst}
-use Prim.Native.Nat.{◌-◌, ◌≤◌}
 use native.Mathlib.Omega.{arith}
 use borrow.Author.Rules.{rules}
-use Rattle.json_theory.specs.Book.{book_records, book_keys}
 use Rattle.key_book.specs.Inside.Records.{OrderIs}
 use Rattle.json_theory.specs.Inside.Scanning.{between}
-use Rattle.key_book.proofs.Halving.{Among, among_none}
+use Rattle.key_book.proofs.Halving.{among_none}
 use Rattle.key_book.proofs.Matching.{among-all, key-found, halve-left, halve-right}
 use Rattle.key_book.proofs.search.bisect.Goals as goal
 

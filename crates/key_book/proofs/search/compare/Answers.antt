@@ -1,9 +1,8 @@
 -- `compare` meets its contract.
 use mathlib.Core.Path.{sym, ◌∙◌}
-use Prim.Native.Nat.{◌+◌, ◌-◌, ◌≤◌}
 use native.Mathlib.Omega.{arith}
 use borrow.Author.Rules.{rules}
-use Rattle.key_book.proofs.Matching.{Comparing, comparing-start, comparing-on, comparing-less, comparing-more, comparing-whole, comparing-end, comparing-longer}
+use Rattle.key_book.proofs.Matching.{comparing-start, comparing-on, comparing-less, comparing-more, comparing-whole, comparing-end, comparing-longer}
 use Rattle.key_book.proofs.search.compare.Goals as goal
 
 pub loop-k-init : goal.loop-k-init

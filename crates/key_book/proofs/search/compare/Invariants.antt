@@ -1,9 +1,6 @@
 -- `compare` meets its contract.
-use mathlib.Core.Path.{sym, ◌∙◌}
 use Prim.Native.Nat.{◌+◌, ◌-◌, ◌≤◌}
-use native.Mathlib.Omega.{arith}
-use borrow.Author.Rules.{rules}
-use Rattle.key_book.proofs.Matching.{Comparing, comparing-start, comparing-on, comparing-less, comparing-more, comparing-whole, comparing-end, comparing-longer}
+use Rattle.key_book.proofs.Matching.{Comparing}
 use Rattle.key_book.proofs.search.compare.Given as goal
 
 abbrev pub invariant-loop-k : goal.invariant-loop-k

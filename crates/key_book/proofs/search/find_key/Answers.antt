@@ -1,7 +1,6 @@
 -- `find_key` meets its contract.
 use mathlib.Core.Path.{sym}
 use native.Mathlib.Omega.{arith}
-use borrow.Author.Rules.{rules}
 use Rattle.key_book.proofs.Halving.{long-unlisted}
 use Rattle.json_theory.proofs.Scanning.{between-length}
 use Rattle.key_book.proofs.search.find_key.Goals as goal

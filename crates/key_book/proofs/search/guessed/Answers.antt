@@ -1,9 +1,7 @@
 -- `guessed` meets its contract.
 use mathlib.Core.Path.{◌≡◌, refl, ◌∙◌}
-use Prim.Native.Nat.{◌+◌, ◌-◌, ◌<◌}
+use Prim.Native.Nat.{◌+◌, ◌-◌}
 use native.Mathlib.Omega.{arith}
-use borrow.Author.Rules.{rules}
-use Rattle.key_book.specs.Inside.Records.{places}
 use Rattle.key_book.proofs.Matching.{key-found}
 use Rattle.key_book.proofs.search.guessed.Goals as goal
 

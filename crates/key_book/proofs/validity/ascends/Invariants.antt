@@ -1,9 +1,7 @@
 -- `ascends` meets its contract.
 use Prim.Native.Nat.{◌-◌, ◌≤◌}
-use native.Mathlib.Omega.{arith}
-use borrow.Author.Rules.{rules}
 use Rattle.json_theory.specs.Book.{book_size}
-use Rattle.key_book.proofs.GoodBook.{Alike, alike-start, alike-on, alike-less, alike-more, alike_end}
+use Rattle.key_book.proofs.GoodBook.{Alike}
 use Rattle.key_book.proofs.validity.ascends.Given as goal
 
 abbrev pub invariant-loop-k : goal.invariant-loop-k

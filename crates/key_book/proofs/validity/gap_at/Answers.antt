@@ -1,6 +1,5 @@
 -- `gap_at` meets its contract.
 use mathlib.Core.Path.{sym, ◌∙◌}
-use borrow.Author.Rules.{rules}
 use Rattle.key_book.specs.Inside.Records.{book_record}
 use Rattle.key_book.proofs.GoodBook.{gap_is}
 use Rattle.key_book.proofs.validity.gap_at.Goals as goal

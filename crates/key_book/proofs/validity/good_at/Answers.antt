@@ -1,8 +1,6 @@
 -- `good_at` meets its contract.
 use mathlib.Core.Path.{sym, ◌∙◌}
 use native.Mathlib.Omega.{arith}
-use borrow.Author.Tests.{not-true, not-false}
-use borrow.Author.Rules.{rules}
 use Rattle.key_book.proofs.GoodBook.{bad-record, good-last}
 use Rattle.key_book.proofs.validity.good_at.Goals as goal
 

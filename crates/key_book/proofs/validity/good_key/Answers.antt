@@ -1,10 +1,7 @@
 -- `good_key` meets its contract.
-use mathlib.Core.Path.{◌≡◌, sym, ◌∙◌, subst}
-use Prim.Native.Nat.{◌+◌, ◌-◌, ◌≤◌}
+use mathlib.Core.Path.{sym, ◌∙◌, subst}
 use native.Mathlib.Omega.{arith}
-use lib.ListN.{drop}
 use borrow.Author.Rules.{rules}
-use Rattle.json_theory.specs.Book.{book_size, padded, good_record}
 use Rattle.key_book.specs.Inside.Records.{book_record, GapIs}
 use Rattle.key_book.proofs.GoodBook.{record-length, unfilled, good_start, good-on, good-not, good-end}
 use Rattle.key_book.proofs.validity.good_key.Goals as goal

@@ -1,12 +1,9 @@
 -- `good_key` meets its contract.
-use mathlib.Core.Path.{◌≡◌, sym, ◌∙◌, subst}
+use mathlib.Core.Path.{◌≡◌}
 use Prim.Native.Nat.{◌+◌, ◌-◌, ◌≤◌}
-use native.Mathlib.Omega.{arith}
 use lib.ListN.{drop}
-use borrow.Author.Rules.{rules}
 use Rattle.json_theory.specs.Book.{book_size, padded, good_record}
-use Rattle.key_book.specs.Inside.Records.{book_record, GapIs}
-use Rattle.key_book.proofs.GoodBook.{record-length, unfilled, good_start, good-on, good-not, good-end}
+use Rattle.key_book.specs.Inside.Records.{book_record}
 use Rattle.key_book.proofs.validity.good_key.Given as goal
 
 abbrev pub invariant-loop-k : goal.invariant-loop-k

@@ -1,6 +1,5 @@
 -- `key_byte` meets its contract.
 use mathlib.Core.Path.{sym}
-use borrow.Author.Rules.{rules}
 use Rattle.key_book.proofs.GoodBook.{record-byte}
 use Rattle.key_book.proofs.validity.key_byte.Goals as goal
 

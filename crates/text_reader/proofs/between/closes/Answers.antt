@@ -1,7 +1,6 @@
 -- `closes` meets its contract.
 use mathlib.Core.Path.{refl}
 use borrow.Author.Tests.{eq-eqb, ne_eqb}
-use borrow.Author.Rules.{rules}
 use Rattle.text_reader.proofs.between.closes.Goals as goal
 
 pub returns-then-level-eq0 : goal.returns-then-level-eq0

@@ -3,7 +3,6 @@ use mathlib.Core.Path.{sym, ◌∙◌}
 use native.Mathlib.Omega.{arith}
 use Rattle.json_theory.proofs.Scanning.{byte_inside}
 use Rattle.text_reader.proofs.NextItem.{next-first, next-comma, next-wrong}
-use borrow.Author.Rules.{rules}
 use Rattle.text_reader.proofs.between.next_item.Goals as goal
 
 pub returns-then-depth-eq0 : goal.returns-then-depth-eq0

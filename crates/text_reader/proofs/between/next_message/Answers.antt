@@ -1,6 +1,5 @@
 -- `next_message` meets its contract.
 use Rattle.text_reader.proofs.NextItem.{next_start, next-bad, next-message}
-use borrow.Author.Rules.{rules}
 use Rattle.text_reader.proofs.between.next_message.Goals as goal
 
 pub returns-then-fresh : goal.returns-then-fresh

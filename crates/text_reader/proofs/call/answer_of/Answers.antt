@@ -1,6 +1,5 @@
 -- `answer_of` meets its contract.
 use mathlib.Core.Path.{sym, ap}
-use borrow.Author.Rules.{rules}
 use Rattle.text_reader.specs.Answer.{outcome_of_text}
 use Rattle.text_reader.proofs.call.answer_of.Goals as goal
 

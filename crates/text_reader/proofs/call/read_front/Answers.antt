@@ -1,7 +1,6 @@
 -- `read_front` meets its contract.
 use mathlib.Core.Bool.{not}
 use mathlib.Core.Path.{refl, sym, ◌∙◌, ap, subst}
-use borrow.Author.Rules.{rules}
 use Rattle.text_reader.specs.Inside.Items.{ReadIs}
 use Rattle.text_reader.proofs.InFront.{refused-front, taken-front, read-lengths, read-book, read_whole, lengths-low}
 use Rattle.text_reader.proofs.call.read_front.Goals as goal

@@ -1,6 +1,5 @@
 -- `read_marked` meets its contract.
 use native.Mathlib.Omega.{arith}
-use borrow.Author.Rules.{rules}
 use Rattle.text_reader.proofs.MarksHold.{marks-start}
 use Rattle.text_reader.proofs.call.read_marked.Goals as goal
 

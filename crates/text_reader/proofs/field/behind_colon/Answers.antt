@@ -1,6 +1,5 @@
 -- `behind_colon` meets its contract.
 use mathlib.Core.Path.{refl, subst}
-use borrow.Author.Rules.{rules}
 use Rattle.json_items.specs.Inside.Items.{ColonIs}
 use Rattle.text_reader.proofs.field.behind_colon.Goals as goal
 

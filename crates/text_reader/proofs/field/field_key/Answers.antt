@@ -2,7 +2,6 @@
 use mathlib.Core.Path.{subst, sym, ◌∙◌}
 use Prim.Native.Nat.{◌+◌}
 use native.Mathlib.Omega.{arith}
-use borrow.Author.Rules.{rules}
 use Rattle.json_theory.proofs.Scanning.{byte_inside}
 use Rattle.text_reader.specs.Inside.Items.{KeyPlace, NewKeyIs}
 use Rattle.text_reader.proofs.FieldKey.{quote-opens, no-quote, key-colon, colon-place}

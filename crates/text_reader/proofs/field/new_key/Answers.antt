@@ -1,8 +1,7 @@
 -- `new_key` meets its contract.
-use mathlib.Core.Path.{subst, sym, ◌∙◌}
+use mathlib.Core.Path.{sym, ◌∙◌}
 use native.Mathlib.Omega.{arith}
-use borrow.Author.Rules.{rules}
-use Rattle.json_items.specs.Inside.Items.{KeyTo, NamedIs}
+use Rattle.json_items.specs.Inside.Items.{KeyTo}
 use Rattle.text_reader.proofs.FieldKey.{key-slot, key-repeated, key-many, key-new}
 use Rattle.text_reader.proofs.field.new_key.Goals as goal
 

@@ -2,7 +2,6 @@
 use mathlib.Core.Path.{subst}
 use Prim.Native.Nat.{◌/◌}
 use lib.ListN.{length}
-use borrow.Author.Rules.{rules}
 use Rattle.value_table.specs.Value.{record_size}
 use Rattle.text_reader.specs.Inside.Items.{KeyPlace, ItemKeyIs}
 use Rattle.text_reader.proofs.ItemRead.{keyed-item, value-place}

@@ -3,7 +3,6 @@ use mathlib.Core.Path.{ap, sym, ◌∙◌}
 use Prim.Native.Nat.{◌*◌}
 use native.Mathlib.Omega.{arith}
 use lib.Dec.{eqb}
-use borrow.Author.Rules.{rules}
 use Rattle.byte_records.proofs.Numbers.{numbers-at}
 use Rattle.value_table.specs.Value.{max_depth}
 use Rattle.text_reader.specs.Inside.Marks.{slot_of}

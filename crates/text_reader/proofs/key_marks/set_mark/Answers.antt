@@ -2,7 +2,6 @@
 use mathlib.Core.Path.{◌∙◌, ap}
 use Prim.Native.Nat.{◌*◌}
 use native.Mathlib.Omega.{arith}
-use borrow.Author.Rules.{rules}
 use Rattle.byte_records.proofs.Numbers.{numbers-set}
 use Rattle.value_table.specs.Value.{max_depth}
 use Rattle.text_reader.specs.Inside.Marks.{marks_of, slot_of}

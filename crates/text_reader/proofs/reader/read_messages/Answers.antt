@@ -1,16 +1,16 @@
 -- `read_messages` meets its contract.
-use mathlib.Core.Path.{◌≡◌, refl, sym, ◌∙◌, subst}
+use mathlib.Core.Path.{◌≡◌, refl, sym, ◌∙◌}
 use mathlib.Core.Bool.{true}
-use Prim.Native.Nat.{◌+◌, ◌-◌, ◌/◌, ◌≤◌, ◌<◌}
+use Prim.Native.Nat.{◌/◌, ◌<◌}
 use native.Mathlib.Omega.{arith}
 use lib.ListN.{length, length-set}
 use borrow.Author.Rules.{rules}
-use Rattle.value_table.specs.Value.{record_size, max_length, max_depth}
+use Rattle.value_table.specs.Value.{record_size, max_depth}
 use Rattle.json_theory.specs.Inside.Scanning.{byte_at}
 use Rattle.text_reader.specs.Inside.Progress.{in_object, shuts, ItemAt, StaysOpen}
-use Rattle.text_reader.specs.Inside.Items.{LevelIs, ScalarItem, OpenItem, RefusedBy}
+use Rattle.text_reader.specs.Inside.Items.{LevelIs, ScalarItem, OpenItem}
 use Rattle.text_reader.proofs.ReadUpTo.{upto-start, upto-shut, upto-scalar, upto-open, all_read}
-use Rattle.text_reader.proofs.LoopFacts.{level-is, level-shuts, level-fits, own-low, items-low, before-low, holds-room, own-inside, stays_open, shut-deep, shut-inside}
+use Rattle.text_reader.proofs.LoopFacts.{level-is, level-shuts, level-fits, own-low, items-low, before-low, holds-room, own-inside, stays_open}
 use Rattle.text_reader.proofs.reader.read_messages.Goals as goal
 use Rattle.text_reader.proofs.reader.read_messages.Goals.{After-innermost-level, After-next_item, Then-closes, In-Item, In-Opened, In-Scalar}
 

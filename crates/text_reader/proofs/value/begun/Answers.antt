@@ -3,7 +3,6 @@ use mathlib.Core.Path.{refl, sym, ◌∙◌, subst}
 use Prim.Native.Nat.{ℕ, ◌+◌, ◌≤◌}
 use lib.ListN.{length}
 use native.Mathlib.Omega.{arith}
-use borrow.Author.Rules.{rules}
 use Rattle.value_table.specs.Value.{none}
 use Rattle.json_theory.specs.Grammar.{array, object}
 use Rattle.json_theory.specs.Parts.{start}

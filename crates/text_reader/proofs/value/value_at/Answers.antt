@@ -1,7 +1,6 @@
 -- `value_at` meets its contract.
 use mathlib.Core.Path.{◌≡◌, sym, ◌∙◌, ap}
 use native.Mathlib.Omega.{arith}
-use borrow.Author.Rules.{rules}
 use Rattle.json_theory.specs.Parts.{start}
 use Rattle.json_theory.specs.Inside.Scanning.{byte_at}
 use Rattle.text_reader.specs.Inside.Progress.{kind_started}

@@ -1,5 +1,5 @@
 -- `body_of` meets its contract.
-use Rattle.std.proofs.Common.{◌*◌, ap, rules}
+use Rattle.std.proofs.Common.{◌*◌, ap}
 use Rattle.counting_theory.specs.Encoding.{type_size}
 use Rattle.type_arena.proofs.FirstAddend.{body_is}
 use Rattle.type_arena.proofs.addend.body_of.Goals as goal

@@ -1,5 +1,5 @@
 -- `front_of` meets its contract.
-use Rattle.std.proofs.Common.{◌*◌, sym, ap, arith, length-take-le, rules}
+use Rattle.std.proofs.Common.{◌*◌, sym, ap, arith, length-take-le}
 use Rattle.counting_theory.specs.Encoding.{type_size}
 use Rattle.type_arena.proofs.FirstAddend.{front-is}
 use Rattle.type_arena.proofs.addend.front_of.Goals as goal

@@ -1,5 +1,5 @@
 -- `keep` meets its contract.
-use Rattle.std.proofs.Common.{◌+◌, length, ap, ◌∙◌, arith, rules}
+use Rattle.std.proofs.Common.{◌+◌, length, ap, ◌∙◌, arith}
 use lib.Seq.{sets}
 use Rattle.type_arena.proofs.FirstAddend.{front-le}
 use Rattle.type_arena.proofs.addend.keep.Goals as goal

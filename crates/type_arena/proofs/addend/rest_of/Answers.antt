@@ -1,5 +1,5 @@
 -- `rest_of` meets its contract.
-use Rattle.std.proofs.Common.{◌*◌, ap, rules}
+use Rattle.std.proofs.Common.{◌*◌, ap}
 use Rattle.counting_theory.specs.Encoding.{type_size}
 use Rattle.type_arena.proofs.FirstAddend.{rest-is}
 use Rattle.type_arena.proofs.addend.rest_of.Goals as goal

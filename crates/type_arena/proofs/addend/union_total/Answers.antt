@@ -1,9 +1,7 @@
 -- `union_total` meets its contract. The loop's invariant: the sum so far and what is left give the total.
-use Rattle.std.proofs.Common.{false, length, refl, ap, arith}
-use Rattle.counting_theory.specs.Label.{Equivalence}
-use Rattle.type_arena.specs.Inside.Addend.{Coded}
+use Rattle.std.proofs.Common.{length, refl, ap, arith}
 use Rattle.type_arena.proofs.FirstAddend.{headed}
-use Rattle.type_arena.proofs.UnionTotal.{Adding, adding-start, adding-first, adding-next, adding-done}
+use Rattle.type_arena.proofs.UnionTotal.{adding-start, adding-first, adding-next, adding-done}
 use Rattle.type_arena.proofs.addend.union_total.Goals as goal
 
 pub loop-x-init : goal.loop-x-init

@@ -1,12 +1,9 @@
 -- `compare_keys` meets its contract. The loop's invariant: the key lists compare as the keys before and what is left of them.
-use Rattle.std.proofs.Common.{◌-◌, inl, inr, ⊎_elim, arith, rules, eqb-true}
-use borrow.Author.Tests.{eqb-false}
-use Rattle.byte_records.proofs.Chain.{chain-le}
+use Rattle.std.proofs.Common.{◌-◌}
 use Rattle.counting_theory.specs.Encoding.{type_key, type_span}
-use Rattle.counting_theory.proofs.KeyOrder.{Comparing, comparing-start, one-ends, left-sibling, right-sibling, next_keys}
+use Rattle.counting_theory.proofs.KeyOrder.{Comparing}
 use Rattle.type_arena.specs.Inside.Arena.{keys_in}
 use Rattle.type_arena.specs.Inside.LabelOrder.{ordering_of}
-use Rattle.type_arena.proofs.Fields.{inside-chain}
 use Rattle.type_arena.proofs.label_order.compare_keys.Given as goal
 
 abbrev pub invariant-loop-i : goal.invariant-loop-i

@@ -1,5 +1,5 @@
 -- `compare_labels` meets its contract.
-use Rattle.std.proofs.Common.{ap, ◌∙◌, arith, rules}
+use Rattle.std.proofs.Common.{ap, ◌∙◌, arith}
 use Rattle.counting_theory.specs.Label.{Label}
 use Rattle.counting_theory.proofs.LabelOrder.{kind-less, kind-more, key-less, key_more, under-kind, no_record, by-lists}
 use Rattle.type_arena.specs.Inside.Arena.{by_flag, label_at}

@@ -1,5 +1,5 @@
 -- `then_order` meets its contract.
-use Rattle.std.proofs.Common.{refl, rules}
+use Rattle.std.proofs.Common.{refl}
 use Rattle.counting_theory.specs.Order.{then}
 use Rattle.type_arena.proofs.label_order.then_order.Goals as goal
 

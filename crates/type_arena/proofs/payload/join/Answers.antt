@@ -1,7 +1,6 @@
 -- `join` meets its contract.
 use Rattle.type_arena.specs.Inside.Payload.{payload_of}
 use Rattle.type_arena.proofs.PayloadBytes.{wrapped-join}
-use Rattle.std.proofs.Common.{rules}
 use Rattle.type_arena.proofs.payload.join.Goals as goal
 
 pub returns : goal.returns

@@ -3,7 +3,6 @@ use Rattle.byte_records.specs.Format.{field_at, fields_from}
 use Rattle.counting_theory.specs.Payload.{of_numbers}
 use Rattle.counting_theory.specs.Encoding.{type_payload}
 use Rattle.type_arena.specs.Inside.Payload.{payload_of}
-use Rattle.std.proofs.Common.{rules}
 use Rattle.type_arena.proofs.payload.payload_at.Goals as goal
 
 pub returns : goal.returns

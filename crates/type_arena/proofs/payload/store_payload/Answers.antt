@@ -1,7 +1,6 @@
 -- `store_payload` meets its contract.
 use Rattle.type_arena.proofs.RecordBytes.{sets-payload}
 use Rattle.type_arena.specs.Inside.Payload.{payload_of}
-use Rattle.std.proofs.Common.{rules}
 use Rattle.type_arena.proofs.payload.store_payload.Goals as goal
 
 pub returns : goal.returns

@@ -1,5 +1,5 @@
 -- `insert_record` meets its contract.
-use Rattle.std.proofs.Common.{arith, rules}
+use Rattle.std.proofs.Common.{arith}
 use Rattle.type_arena.proofs.RecordBytes.{sets_first}
 use Rattle.type_arena.proofs.record_store.insert_record.Goals as goal
 

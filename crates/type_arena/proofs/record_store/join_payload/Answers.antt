@@ -1,5 +1,5 @@
 -- `join_payload` meets its contract.
-use Rattle.std.proofs.Common.{refl, ◌∙◌, rules}
+use Rattle.std.proofs.Common.{refl, ◌∙◌}
 use Rattle.type_arena.proofs.record_store.join_payload.Goals as goal
 
 pub returns : goal.returns

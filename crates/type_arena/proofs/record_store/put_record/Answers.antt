@@ -1,5 +1,5 @@
 -- `put_record` meets its contract.
-use Rattle.std.proofs.Common.{ℕ, List, [], replicate, sym, rules}
+use Rattle.std.proofs.Common.{ℕ, List, [], replicate, sym}
 use Rattle.counting_theory.specs.Encoding.{type_size}
 use Rattle.type_arena.specs.Inside.Arena.{header_of}
 use Rattle.type_arena.specs.Inside.Payload.{payload_of}

@@ -1,5 +1,5 @@
 -- `store_record` meets its contract.
-use Rattle.std.proofs.Common.{arith, rules}
+use Rattle.std.proofs.Common.{arith}
 use Rattle.type_arena.proofs.RecordBytes.{sets-record}
 use Rattle.type_arena.specs.Inside.Payload.{payload_of}
 use Rattle.type_arena.proofs.record_store.store_record.Goals as goal
