@@ -32,7 +32,7 @@ module _ (whole part : List ℕ) (equivalence n : ℕ) where
 pub remove_checked-requires : goal.remove_checked-requires
 remove_checked-requires c =
     let judged = rw c.in-Formed.is at c.judge_pair.ensures in
-    (judged.0, judged.1)
+    record { fact = judged.0; fact_2 = judged.1 }
 
 pub returns-in-Refused : goal.returns-in-Refused
 returns-in-Refused c =
