@@ -32,7 +32,7 @@ module _ (c : goal.After-clear_slots) where
   roomy a w x y = record { some = omega (arith, c.if-slots-eq0.false); few = omega (arith, c.slots_for-slots.ensures); enough = omega (arith, start.requires.2) }
 
 pub gather-requires : goal.gather-requires
-gather-requires c = let k = (goal.at.gather-requires c).After-clear_slots in let s = (start k).requires in (s.0, s.1, roomy k _ _ refl k.clear_slots.auto.0, k.clear_slots.ensures _, s.3)
+gather-requires c = let k = (goal.at.gather-requires c).After-clear_slots in let s = (start k).requires in (s.0, s.1, roomy k _ _ refl k.clear_slots.auto.work, k.clear_slots.ensures _, s.3)
 
 pub returns-in_default : goal.returns-in_default
 returns-in_default c = omega (arith, rw c.in_default.is at c.gather.ensures)

@@ -4,7 +4,7 @@ use Prim.Native.Nat.{◌-◌}
 use native.Mathlib.Omega.{arith}
 use Rattle.tag_bus.proofs.Pass.{Passed, pass-first, pass-entry, pass-full, pass-other, pass-end}
 use Rattle.tag_bus.proofs.entries.put_entries.Goals as goal
-use Rattle.tag_bus.proofs.entries.put_entries.Goals.{then-kind_at-eq-RECORD, else-kind_at-eq-RECORD}
+use Rattle.tag_bus.proofs.entries.put_entries.Goals.{then-kind_at-eq-RECORD+else-entries-at-lt-ENTRY_SIZE, else-kind_at-eq-RECORD}
 
 pub loop-i-init : goal.loop-i-init
 loop-i-init c = pass-first _ _ _
@@ -23,8 +23,9 @@ loop-i-preserved c =
     let l = c.loop-i in
     let k = c.kind_at.ensures in
     elim c.if-kind_at-eq-RECORD.branch [
-      then-kind_at-eq-RECORD w ↦ ?
-    | else-kind_at-eq-RECORD w ↦ ?
+      then-kind_at-eq-RECORD+else-entries-at-lt-ENTRY_SIZE w ↦
+        rw (w.at-is, w.entries-is, w.put_entry.ensures, w.word_at.ensures) (pass-entry _ _ _ l.invariant (omega arith) (sym k ∙ w.if-kind_at-eq-RECORD.true) (omega arith))
+    | else-kind_at-eq-RECORD w ↦ rw (w.at-is, w.entries-is) (pass-other _ _ _ l.invariant (omega arith) (λ e. w.if-kind_at-eq-RECORD.false (k ∙ e)))
     ]
 
 pub returns : goal.returns
