@@ -18,7 +18,7 @@ pub returns-then-limit_kept : goal.returns-then-limit_kept
 returns-then-limit_kept c =
     let k = c.fold_run in
     front-accepted c.requires.0 _ _ (whole-front c.requires.0 _ (k.ensures _ _ _ (empty_holds _ c.requires.1) (starts-zero nil)) _ _ c.in-Records.is)
-    (sym c.limit_kept.ensures ∙ c.if-limit_kept.true) _ k.auto.arena
+    (sym c.limit_kept.ensures ∙ c.if-limit_kept.true) _ k.auto.a
 
 pub returns-then-not-limit_kept_apart : goal.returns-then-not-limit_kept_apart
 returns-then-not-limit_kept_apart c = front-over c.requires.0 (sym c.limit_kept_apart.ensures ∙ c.if-not-limit_kept_apart.true) _ _
