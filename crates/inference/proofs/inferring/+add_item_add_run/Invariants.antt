@@ -31,7 +31,9 @@ abbrev pub decreases-add_run : goal.decreases-add_run
 decreases-add_run l = 2 * (2 * length l.t.now + cond l.field 1 0)
 
 abbrev pub invariant-add_run-loop-i : goal.invariant-add_run-loop-i
-invariant-add_run-loop-i l = (l.initial.work ≡ length t / record_size) × (length l.initial.from ≡ length l.initial.a) × (length l.a ≡ length l.words) × ((f : CountingType) (q free : List ℕ) (vs : Values) → ArenaHolds (by_flag l.field) l.t l.initial.a l.n l.rest f q free → TableRun l.t t vs → AddedSoFar (by_flag l.field) l.t l.weight vs f q l.initial.from t l.work l.m l.i)
+invariant-add_run-loop-i l =
+    (l.end ≡ length l.t / record_size) × (length l.a ≡ length l.initial.a) × (length l.work ≡ length l.initial.work)
+    × ((f : CountingType) (q free : List ℕ) (vs : Values) → ArenaHolds (by_flag l.label) l.field l.initial.a l.n l.rest f q free → TableRun l.field l.t vs → AddedSoFar (by_flag l.label) l.field l.weight vs f q l.a l.t l.m l.i l.from)
 
 abbrev pub decreases-add_run-loop-i : goal.decreases-add_run-loop-i
-decreases-add_run-loop-i l = l.initial.work - l.m
+decreases-add_run-loop-i l = l.end - l.i

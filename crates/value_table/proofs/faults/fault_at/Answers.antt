@@ -2,11 +2,9 @@
 use mathlib.Core.Path.{◌≡◌, sym, ap, ◌∙◌}
 use mathlib.Core.Bool.{Bool, true, false}
 use mathlib.Core.List.{List}
-use mathlib.Core.Logic.{⊎_elim}
 use Prim.Native.Nat.{ℕ}
 use lib.ListN.{length}
-use borrow.Author.Rules.{rules}
-use borrow.Author.Tests.{lt-ltb, le-ltb, not-false}
+use borrow.Author.Tests.{lt-ltb, le-ltb}
 use Rattle.value_table.specs.Judged.{fault, bad_kind, bad_span, bad_key, too_large, repeated, too_many, too_deep}
 use Rattle.value_table.specs.Inside.EarlierFields.{FieldsBefore}
 use Rattle.value_table.proofs.Faultless.{scalar-fine}

@@ -1,9 +1,8 @@
 -- `walk_table` meets its contract.
 use mathlib.Core.Path.{◌≡◌, refl, sym, ap, ◌∙◌}
-use Prim.Native.Nat.{◌+◌, ◌*◌, ◌-◌, ◌≤◌, ◌<◌}
+use Prim.Native.Nat.{◌+◌, ◌-◌, ◌≤◌, ◌<◌}
 use native.Mathlib.Omega.{arith}
 use lib.ListN.{set}
-use borrow.Author.Rules.{rules}
 use Rattle.value_table.specs.Inside.EarlierFields.{number_of_finding, innermost_of, Latest}
 use Rattle.value_table.specs.Value.{max_depth, records}
 use Rattle.byte_records.specs.Number.{Bytes}
