@@ -16,7 +16,6 @@ use Rattle.answers.proofs.Fronts.{front-refused}
 use Rattle.counting_type.proofs.merge_front.Goals as goal
 
 module _ (first second : List ℕ) (equivalence n : ℕ) where
-
   abbrev merging : Equivalence → Written
   merging e = merged_types (reduce Counting (type_of e first) (type_of e second)) n
 

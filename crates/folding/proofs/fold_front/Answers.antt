@@ -19,7 +19,6 @@ use Rattle.folding.specs.Folded.{bad_fold_lengths, folded}
 use Rattle.folding.proofs.fold_front.Goals as goal
 
 module _ (b : List ℕ) (arena work : ℕ) where
-
   lengths : bad_fold_lengths (length b) arena work ≡ false → (bad_type_length (length b) ≡ false) × (bad_type_length arena ≡ false)
   lengths h = or_parts (bad_type_length (length b)) (bad_type_length arena) (or_parts (bad_type_length (length b) || bad_type_length arena) (not (eqb work arena)) h).0
 

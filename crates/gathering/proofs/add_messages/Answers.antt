@@ -24,7 +24,6 @@ returns-then-slots-eq0 c =
 
 -- the slots, cleared
 module _ (c : goal.After-clear_slots) where
-
   abbrev start : goal.Start
   start = c.before.before.before.before.before.before.before.before
 

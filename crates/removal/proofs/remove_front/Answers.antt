@@ -16,7 +16,6 @@ use Rattle.removal.specs.Removed.{removed_type, removed_types, removed_under, re
 use Rattle.removal.proofs.remove_front.Goals as goal
 
 module _ (whole part : List ℕ) (equivalence n : ℕ) where
-
   abbrev removing : Equivalence → Written
   removing e = removed_types (removed_type e (type_of e whole) (type_of e part)) n
 

@@ -23,9 +23,9 @@ loop-i-preserved c =
     let l = c.loop-i in
     let k = c.kind_at.ensures in
     elim c.if-kind_at-eq-RECORD.branch [
-      then-kind_at-eq-RECORD+else-entries-at-lt-ENTRY_SIZE w ↦
-        rw (w.at-is, w.entries-is, w.put_entry.ensures, w.word_at.ensures) (pass-entry _ _ _ l.invariant (omega arith) (sym k ∙ w.if-kind_at-eq-RECORD.true) (omega arith))
-    | else-kind_at-eq-RECORD w ↦ rw (w.at-is, w.entries-is) (pass-other _ _ _ l.invariant (omega arith) (λ e. w.if-kind_at-eq-RECORD.false (k ∙ e)))
+      | then-kind_at-eq-RECORD+else-entries-at-lt-ENTRY_SIZE w ↦
+          rw (w.at-is, w.entries-is, w.put_entry.ensures, w.word_at.ensures) (pass-entry _ _ _ l.invariant (omega arith) (sym k ∙ w.if-kind_at-eq-RECORD.true) (omega arith))
+      | else-kind_at-eq-RECORD w ↦ rw (w.at-is, w.entries-is) (pass-other _ _ _ l.invariant (omega arith) (λ e. w.if-kind_at-eq-RECORD.false (k ∙ e)))
     ]
 
 pub returns : goal.returns
