@@ -35,8 +35,8 @@ pub returns-in-Faulty : goal.returns-in-Faulty
 unfolding inferred
 returns-in-Faulty c =
     let j = sym c.judge.ensures ∙ ap outcome_of c.in-Faulty.is in
-    let found = c.in-Faulty.given.0 in
-    front-refused (Table found.0) found.1.0 _ (rw (sym c.bad_buffers.ensures ∙ c.if-bad_buffers.false, known _ c.if-equivalence-gt-BY_LABEL.false, j) (refused-from found.0 found.1.0 _ _ _))
+    let found = c.in-Faulty in
+    front-refused (Table found.fault) found.place _ (rw (sym c.bad_buffers.ensures ∙ c.if-bad_buffers.false, known _ c.if-equivalence-gt-BY_LABEL.false, j) (refused-from found.fault found.place _ _ _))
 
 pub returns-in-Accepted : goal.returns-in-Accepted
 unfolding inferred

@@ -16,7 +16,6 @@ use Rattle.answers.proofs.Fronts.{front-refused}
 use Rattle.counting_type.proofs.merge_front.Goals as goal
 
 module _ (first second : List ℕ) (equivalence n : ℕ) where
-
   abbrev merging : Equivalence → Written
   merging e = merged_types (reduce Counting (type_of e first) (type_of e second)) n
 
@@ -32,7 +31,7 @@ module _ (first second : List ℕ) (equivalence n : ℕ) where
 pub merge_checked-requires : goal.merge_checked-requires
 merge_checked-requires c =
     let judged = rw c.in-Formed.is at c.judge_pair.ensures in
-    (judged.0, judged.1)
+    record { fact = judged.0; fact_2 = judged.1 }
 
 pub returns-in-Refused : goal.returns-in-Refused
 returns-in-Refused c =

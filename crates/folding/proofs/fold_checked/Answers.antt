@@ -1,7 +1,6 @@
 -- `fold_checked` meets its contract.
 use mathlib.Core.Path.{sym, ◌∙◌}
 use borrow.Author.Rules.{rules}
-use borrow.Author.Tests.{not-true, not-false}
 use Rattle.counting_theory.specs.Trie.{nil}
 use Rattle.inference.proofs.InPlace.Seeking.{starts-zero}
 use Rattle.folding.proofs.OnBytes.WholeType.{empty_holds, empty-held, whole_run, whole-front, whole-full, front-accepted, front-over, front-too-small}
@@ -19,10 +18,10 @@ pub returns-then-limit_kept : goal.returns-then-limit_kept
 returns-then-limit_kept c =
     let k = c.fold_run in
     front-accepted c.requires.0 _ _ (whole-front c.requires.0 _ (k.ensures _ _ _ (empty_holds _ c.requires.1) (starts-zero nil)) _ _ c.in-Records.is)
-    (sym c.limit_kept.ensures ∙ c.if-limit_kept.true) _ k.auto.0
+    (sym c.limit_kept.ensures ∙ c.if-limit_kept.true) _ k.auto.a
 
 pub returns-then-not-limit_kept_apart : goal.returns-then-not-limit_kept_apart
-returns-then-not-limit_kept_apart c = front-over c.requires.0 (sym c.limit_kept_apart.ensures ∙ not-true _ c.if-not-limit_kept_apart.true) _ _
+returns-then-not-limit_kept_apart c = front-over c.requires.0 (sym c.limit_kept_apart.ensures ∙ c.if-not-limit_kept_apart.true) _ _
 
 pub returns-else-limit_kept : goal.returns-else-limit_kept
 returns-else-limit_kept c = front-over c.requires.0 (sym c.limit_kept.ensures ∙ c.if-limit_kept.false) _ _
@@ -30,5 +29,5 @@ returns-else-limit_kept c = front-over c.requires.0 (sym c.limit_kept.ensures �
 pub returns-else-not-limit_kept_apart : goal.returns-else-not-limit_kept_apart
 returns-else-not-limit_kept_apart c =
     let k = c.fold_run in
-    front-too-small c.requires.0 (sym c.limit_kept_apart.ensures ∙ not-false _ c.if-not-limit_kept_apart.false) _ _ k.auto.a
+    front-too-small c.requires.0 (sym c.limit_kept_apart.ensures ∙ c.if-not-limit_kept_apart.false) _ _ k.auto.a
     (whole-full c.requires.0 _ (k.ensures _ _ _ (empty_holds _ c.requires.1) (starts-zero nil)) c.in-Full.is)

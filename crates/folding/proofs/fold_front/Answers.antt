@@ -6,7 +6,6 @@ use Prim.Native.Nat.{ℕ}
 use lib.Dec.{eqb}
 use lib.ListN.{length}
 use borrow.Author.Rules.{rules}
-use borrow.Author.Tests.{not-true, not-false}
 use Rattle.byte_records.proofs.Tests.{or_parts}
 use Rattle.counting_theory.specs.Label.{by_label}
 use Rattle.counting_theory.specs.Encoding.{type_of}
@@ -20,7 +19,6 @@ use Rattle.folding.specs.Folded.{bad_fold_lengths, folded}
 use Rattle.folding.proofs.fold_front.Goals as goal
 
 module _ (b : List ℕ) (arena work : ℕ) where
-
   lengths : bad_fold_lengths (length b) arena work ≡ false → (bad_type_length (length b) ≡ false) × (bad_type_length arena ≡ false)
   lengths h = or_parts (bad_type_length (length b)) (bad_type_length arena) (or_parts (bad_type_length (length b) || bad_type_length arena) (not (eqb work arena)) h).0
 
@@ -46,18 +44,18 @@ well_formed-requires c =
 
 pub returns-then-not-well_formed : goal.returns-then-not-well_formed
 returns-then-not-well_formed c =
-    front-refused First 0 _ (by-type _ _ _ (sym c.bad_lengths.ensures ∙ c.if-bad_lengths.false) (sym c.well_formed-2.ensures ∙ not-true _ c.if-not-well_formed.true))
+    front-refused First 0 _ (by-type _ _ _ (sym c.bad_lengths.ensures ∙ c.if-bad_lengths.false) (sym c.well_formed-2.ensures ∙ c.if-not-well_formed.true))
 
 pub fold_checked-requires : goal.fold_checked-requires
 fold_checked-requires c =
     let a = c.args in
     let l = lengths a.bytes.now (length a.arena.now) (length a.work.now) (sym c.bad_lengths.ensures ∙ c.if-bad_lengths.false) in
-    let formed = sym c.well_formed-2.ensures ∙ not-false _ c.if-not-well_formed.false in
+    let formed = sym c.well_formed-2.ensures ∙ c.if-not-well_formed.false in
     ((well-formed-type _ _ (λ p. (c.type_inv.bytes p).fits) l.0).0 formed, (type-length _ l.1).1)
 
 pub returns : goal.returns
 returns c =
     let a = c.args in
     let allowed = sym c.bad_lengths.ensures ∙ c.if-bad_lengths.false in
-    let formed = sym c.well_formed-2.ensures ∙ not-false _ c.if-not-well_formed.false in
+    let formed = sym c.well_formed-2.ensures ∙ c.if-not-well_formed.false in
     rw (by-fold a.bytes.now (length a.arena.now) (length a.work.now) allowed formed) c.fold_checked.ensures

@@ -24,7 +24,6 @@ returns-then-slots-eq0 c =
 
 -- the slots, cleared
 module _ (c : goal.After-clear_slots) where
-
   abbrev start : goal.Start
   start = c.before.before.before.before.before.before.before.before
 
@@ -32,7 +31,7 @@ module _ (c : goal.After-clear_slots) where
   roomy a w x y = record { some = omega (arith, c.if-slots-eq0.false); few = omega (arith, c.slots_for-slots.ensures); enough = omega (arith, start.requires.2) }
 
 pub gather-requires : goal.gather-requires
-gather-requires c = let k = (goal.at.gather-requires c).After-clear_slots in let s = (start k).requires in (s.0, s.1, roomy k _ _ refl k.clear-slots.auto.0, k.clear-slots.ensures _, s.3)
+gather-requires c = let k = (goal.at.gather-requires c).After-clear_slots in let s = (start k).requires in (s.0, s.1, roomy k _ _ refl k.clear_slots.auto.work, k.clear_slots.ensures _, s.3)
 
 pub returns-in_default : goal.returns-in_default
 returns-in_default c = omega (arith, rw c.in_default.is at c.gather.ensures)

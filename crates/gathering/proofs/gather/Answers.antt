@@ -15,7 +15,6 @@ use Rattle.gathering.proofs.gather.Goals.{In-loop-i}
 
 -- the message at hand
 module _ (c : goal.In-loop-i) where
-
   short : length c.args.t.now ≤ max_length
   short = (table-run c.requires.0.is-table).short
 

@@ -19,7 +19,6 @@ use Rattle.gathering.proofs.settle.Goals.{After-read_slot-slot}
 
 -- the slot at hand is the first of those that are left
 module _ (c : goal.After-read_slot-slot) where
-
   slot-first : Gathering (by_flag c.args.label) c.args.t.now c.loop-k.a c.loop-k.n (records c.args.t.now) (c.read_slot-slot.result ∷ drop (suc c.loop-k.k) (slots_of c.args.slots c.loop-k.work))
   slot-first =
       let v = c.loop-k in

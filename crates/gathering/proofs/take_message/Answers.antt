@@ -13,7 +13,6 @@ use Rattle.gathering.proofs.take_message.Goals.{After-read_slot-slot}
 
 -- the slot that is read
 module _ (c : goal.After-read_slot-slot) where
-
   inside : c.slot_of-k.result < length (slots_of c.args.slots c.args.work.now)
   inside = omega (arith, c.slot_of-k.ensures, length-slots c.args.slots c.args.work.now)
 

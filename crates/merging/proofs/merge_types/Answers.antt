@@ -6,9 +6,9 @@ use Rattle.merging.proofs.merge_types.Goals as goal
 
 pub merge_union-requires : goal.merge_union-requires
 merge_union-requires c =
-    let p = c.requires.0 in
-    let q = c.requires.1 in
-    ((type-run c.args.label _ p, type-run c.args.label _ q), omega (arith, type-short p, type-short q))
+    let p = c.requires.fact in
+    let q = c.requires.fact_2 in
+    record { type_run = (type-run c.args.label _ p, type-run c.args.label _ q); b_bound = omega (arith, type-short p, type-short q) }
 
 pub returns : goal.returns
 returns c = c.merge_union.ensures

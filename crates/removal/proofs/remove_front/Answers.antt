@@ -16,7 +16,6 @@ use Rattle.removal.specs.Removed.{removed_type, removed_types, removed_under, re
 use Rattle.removal.proofs.remove_front.Goals as goal
 
 module _ (whole part : List ℕ) (equivalence n : ℕ) where
-
   abbrev removing : Equivalence → Written
   removing e = removed_types (removed_type e (type_of e whole) (type_of e part)) n
 
@@ -32,7 +31,7 @@ module _ (whole part : List ℕ) (equivalence n : ℕ) where
 pub remove_checked-requires : goal.remove_checked-requires
 remove_checked-requires c =
     let judged = rw c.in-Formed.is at c.judge_pair.ensures in
-    (judged.0, judged.1)
+    record { fact = judged.0; fact_2 = judged.1 }
 
 pub returns-in-Refused : goal.returns-in-Refused
 returns-in-Refused c =

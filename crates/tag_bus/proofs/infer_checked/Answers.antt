@@ -25,13 +25,13 @@ returns-in_default c =
 pub put_entries-requires : goal.put_entries-requires
 put_entries-requires c =
     let k = c.add_messages in
-    grown-records c.args.table.now c.requires.0 c.requires.1 k.new.0 (omega (arith, c.requires.2, k.auto.0)) (added-records _ _ _ _ _ _ c.in-Records.is k.ensures)
+    grown-records c.args.table.now c.requires.0 c.requires.1 k.new.a (omega (arith, c.requires.2, k.auto.a)) (added-records _ _ _ _ _ _ c.in-Records.is k.ensures)
 
 pub returns-in-Full : goal.returns-in-Full
 returns-in-Full c =
     let k = c.add_messages in
     let g = added-records _ _ _ _ _ _ c.in-Records.is k.ensures in
-    let e = grown-entries c.args.table.now c.requires.0 c.requires.1 k.new.0 (omega (arith, c.requires.2, k.auto.0)) g in
+    let e = grown-entries c.args.table.now c.requires.0 c.requires.1 k.new.a (omega (arith, c.requires.2, k.auto.a)) g in
     let full = rw c.in-Full.is at c.put_entries.ensures in
     filled-refused Room 0 _ _ (no_room (type c.args.table.now) (length c.args.arena.now) (length c.args.entries.now) (rw e at full)) c.refused-in-Full.ensures
 
@@ -40,4 +40,4 @@ returns-in-Written c =
     let k = c.add_messages in
     let g = added-records _ _ _ _ _ _ c.in-Records.is k.ensures in
     let p = rw c.in-Written.is at c.put_entries.ensures in
-    filled-stored c.args.table.now c.requires.0 c.requires.1 k.new.0 (omega (arith, c.requires.2, k.auto.0)) g c.args.entries.now k.auto.0 p.0 p.1 p.2
+    filled-stored c.args.table.now c.requires.0 c.requires.1 k.new.a (omega (arith, c.requires.2, k.auto.a)) g c.args.entries.now k.auto.a p.0 p.1 p.2

@@ -38,9 +38,9 @@ returns-in-Length c =
 pub returns-in-Faulty : goal.returns-in-Faulty
 unfolding inferred_tag_bus
 returns-in-Faulty c =
-    let found = c.in-Faulty.given.0 in
+    let found = c.in-Faulty in
     let j = sym c.judge_up_to.ensures ∙ ap outcome_of c.in-Faulty.is in
-    filled-refused (Table found.0) found.1.0 _ _ (rw (sym c.bad_lengths.ensures ∙ c.if-bad_lengths.false, j) (fault-refused found.0 found.1.0 _ _ _)) c.refused-in-Faulty.ensures
+    filled-refused (Table found.fault) found.place _ _ (rw (sym c.bad_lengths.ensures ∙ c.if-bad_lengths.false, j) (fault-refused found.fault found.place _ _ _)) c.refused-in-Faulty.ensures
 
 pub returns-in-Accepted : goal.returns-in-Accepted
 unfolding inferred_tag_bus

@@ -2,9 +2,9 @@
 use mathlib.Core.Path.{sym, ◌∙◌}
 use Prim.Native.Nat.{◌-◌}
 use native.Mathlib.Omega.{arith}
-use mathlib.Core.Logic.{⊎_elim}
 use Rattle.tag_bus.proofs.Pass.{Passed, pass-first, pass-entry, pass-full, pass-other, pass-end}
 use Rattle.tag_bus.proofs.entries.put_entries.Goals as goal
+use Rattle.tag_bus.proofs.entries.put_entries.Goals.{then-kind_at-eq-RECORD+else-entries-at-lt-ENTRY_SIZE, else-kind_at-eq-RECORD}
 
 pub loop-i-init : goal.loop-i-init
 loop-i-init c = pass-first _ _ _
@@ -22,10 +22,11 @@ pub loop-i-preserved : goal.loop-i-preserved
 loop-i-preserved c =
     let l = c.loop-i in
     let k = c.kind_at.ensures in
-    ⊎_elim
-    (λ w. rw (w.7 ∙ w.4.ensures, w.3.ensures, w.8) (pass-entry _ _ _ l.invariant (omega arith) (sym k ∙ w.0.taken) (omega arith)))
-    (λ w. rw (w.1, w.2) (pass-other _ _ _ l.invariant (omega arith) (λ e. w.0.left (k ∙ e))))
-    c.if-kind_at-eq-RECORD.branch
+    elim c.if-kind_at-eq-RECORD.branch [
+      | then-kind_at-eq-RECORD+else-entries-at-lt-ENTRY_SIZE w ↦
+          rw (w.at-is, w.entries-is, w.put_entry.ensures, w.word_at.ensures) (pass-entry _ _ _ l.invariant (omega arith) (sym k ∙ w.if-kind_at-eq-RECORD.true) (omega arith))
+      | else-kind_at-eq-RECORD w ↦ rw (w.at-is, w.entries-is) (pass-other _ _ _ l.invariant (omega arith) (λ e. w.if-kind_at-eq-RECORD.false (k ∙ e)))
+    ]
 
 pub returns : goal.returns
 returns c = pass-end _ _ _ c.loop-i.invariant (omega arith)
