@@ -87,8 +87,8 @@ module _ (a : Payload) (m : ℕ) where
   lengths-test : Lengths a m → lengths_fit a m ≡ true
   lengths-test h = rw (le-leb _ _ h.ordered, le-leb _ _ h.small, le-leb _ _ h.enough, le-leb _ _ h.few) refl
 
-no_lengths : (a : Payload) → no_lengths a ≡ true → (a.shortest ≡ 0) × (a.longest ≡ 0)
-no_lengths a h = let p = and_parts (eqb a.shortest 0) (eqb a.longest 0) h in (eqb-true _ _ p.0, eqb-true _ _ p.1)
+no_lengths_lem : (a : Payload) → no_lengths a ≡ true → (a.shortest ≡ 0) × (a.longest ≡ 0)
+no_lengths_lem a h = let p = and_parts (eqb a.shortest 0) (eqb a.longest 0) h in (eqb-true _ _ p.0, eqb-true _ _ p.1)
 
 pub numbers_fit : (kind : ℕ) (a : Payload) (within : ℕ) → proper kind a within ≡ true → a.count < 2 ^ 64 → Fits payload_format (numbers a)
 unfolding numbers proper
@@ -96,7 +96,7 @@ numbers_fit kind a within p h = go (eqb kind array_kind) p
   where
     go : (t : Bool) → cond t (lengths_fit a within) (no_lengths a) ≡ true → Fits payload_format (numbers a)
     go true i = let f = lengths-hold a within i in (h, (omega (arith, f.ordered, f.small), (omega (arith, f.small), tt)))
-    go false i = let f = no_lengths a i in (h, (omega (arith, f), (omega (arith, f), tt)))
+    go false i = let f = no_lengths_lem a i in (h, (omega (arith, f), (omega (arith, f), tt)))
 
 -- what is asked of a payload
 lengths-join : (a b : Payload) (m n : ℕ) → 1 ≤ a.count → 1 ≤ b.count → Lengths a m → Lengths b n → Lengths (join a b) (m + n)
@@ -142,8 +142,8 @@ proper-join kind a b m n x y p q = go (eqb kind array_kind) p q
         cond t (lengths_fit (join a b) (m + n)) (no_lengths (join a b)) ≡ true
     go true i j = lengths-test (join a b) (m + n) (lengths-join a b m n x y (lengths-hold a m i) (lengths-hold b n j))
     go false i j =
-        let f = no_lengths a i in
-        let g = no_lengths b j in
+        let f = no_lengths_lem a i in
+        let g = no_lengths_lem b j in
         rw (eq-eqb (join a b).shortest 0 (omega (arith, f, g)), eq-eqb (join a b).longest 0 (omega (arith, f, g))) refl
 
 pub count-size : (vs : Values) → table.count vs ≤ table.size vs

@@ -124,7 +124,7 @@ comparing-far : {book : List ℕ} {i : ℕ} {text : List ℕ} {p q k : ℕ} (m :
 comparing-far zero h l f = rw add-zero h
 comparing-far {k = k} (suc m) h l f =
     let e : k + suc m ≡ k + 1 + m = omega arith in
-    rw e (comparing-far m (comparing-on h (omega arith) (f k (omega arith) (omega arith))) (omega arith) (λ j a b. f j (omega arith) (omega arith)))
+    rw e (comparing-far {k = k + 1} m (comparing-on h (omega arith) (f k (omega arith) (omega arith))) (omega arith) (λ j a b. f j (omega arith) (omega arith)))
 
 pub comparing-word : {book : List ℕ} {i : ℕ} {text : List ℕ} {p q k : ℕ} (w v s : ℕ) → Bytes text → Bytes book → Comparing book i text p q k →
     s ≤ k → k ≤ s + w → p + s + w ≤ q → s + (w + v) ≤ book_size → number_at w text (p + s) ≡ number_at (w + v) book (book_size * i + s) → Comparing book i text p q (s + w)

@@ -1,5 +1,5 @@
 -- The marks hold from the start on, whatever is opened, marked or finished.
-use mathlib.Core.Path.{◌≡◌, refl, ◌∙◌, ap}
+use mathlib.Core.Path.{◌≡◌, refl, sym, ◌∙◌, ap, subst}
 use mathlib.Core.Bool.{Bool, true, false}
 use mathlib.Core.List.{List, [], ◌∷◌, append-nil}
 use Prim.Native.Nat.{ℕ, suc, ◌+◌, ◌*◌, ◌≤◌}
@@ -14,7 +14,7 @@ use Rattle.value_table.specs.Value.{max_depth, Head, Values, none, value, size, 
 use Rattle.json_theory.specs.Grammar.{Container}
 use Rattle.json_theory.specs.Steps.{Stack, base, level, add}
 use Rattle.json_theory.specs.Reader.{depth, written}
-use Rattle.text_reader.specs.Inside.Marks.{mark_size, marks_of, slot_of, Slot, MarksHold}
+use Rattle.text_reader.specs.Inside.Marks.{mark_size, marks_of, slot_of, Slot, Marked, MarksHold}
 use Rattle.text_reader.proofs.Marks.{slot-below, written-add, marked-add, marked-none, marked-open, outer-marked, row-with}
 
 pub marks-start : (listed n : ℕ) → mark_size * (max_depth * listed) ≤ n → MarksHold listed (zeros n) (base none) []
@@ -72,7 +72,7 @@ module _ {listed : ℕ} {seen : List ℕ} where
       let inside : suc slot ≤ length marks = omega (arith, slot-below s, length-numbers mark_size (max_depth * listed) seen) in
       let row = row-with listed marks (depth outer) k (written outer + 1) s.some s.listed-key (keys done) inside (rw (append-nil (keys done)) at h.marked.0) in
       let others = outer-marked listed marks (depth outer) k (written outer + 1) s.some s.listed-key outer (key ∷ []) (omega arith) h.marked.1 in
-      record { room = omega (arith, h.room); low = λ i. rw e (low i (eqb i slot) refl); marked = rw e (row, others) }
+      record { room = omega (arith, h.room); low = λ i. rw e (low i (eqb i slot) refl); marked = subst (λ ms. Marked listed ms (level o key done outer) (k ∷ [])) (sym e) (row, others) }
     where
       low : (i : ℕ) (t : Bool) → eqb i (slot_of listed (depth outer) k) ≡ t →
           get_or (set (marks_of listed seen) (slot_of listed (depth outer) k) (written outer + 1)) i 0 ≤ written outer + 1 + size done

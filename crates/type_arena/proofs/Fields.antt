@@ -11,7 +11,7 @@ module _ (b : List ℕ) where
   chain-keys zero l done = refl
   chain-keys {end = end} (suc k) l done = rw (le-ltb end end (le_refl end), keys_from) refl
   chain-keys zero l (next {p = p} m s h) = absurd (omega arith)
-  chain-keys {end = end} (suc k) l (next {p = p} m s h) = rw (lt-ltb p end m, keys_from) (ap (λ xs. type_key b p ∷ xs) (chain-keys k (omega (arith, chain-le h)) h))
+  chain-keys {end = end} (suc k) l (next {p = p} m s h) = rw (lt-ltb p end m, keys_from) (ap (λ xs. type_key b p ∷ xs) (chain-keys {p = p + type_span b p} k (omega (arith, chain-le h)) h))
 
 pub inside-keys : {b : List ℕ} {p : ℕ} (w : FieldsInside b p) → keys_in b p ≡ w.keys
 inside-keys {b} w = chain-keys b _ (omega arith) w.chain

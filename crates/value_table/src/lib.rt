@@ -1,4 +1,6 @@
 // The lower library: judges value tables.
+#![tactic(auto)]
+
 mod faults;
 pub mod record;
 pub mod record_store;

@@ -78,7 +78,7 @@ module _ {T : TrieOps} (W : TrieLaws T) where
   canonical {f = nil} {g = nil} u v h = refl
   canonical {f = nil} {g = node k b d t} u v h = absurd (some-none (head-only ◌≡◌ k b d t v nil tt u (λ p. sym (h p))))
   canonical {f = node l a c s} {g = nil} u v h = absurd (some-none (head-only ◌≡◌ l a c s u nil tt v h))
-  canonical {f = node l a c s} {g = node k b d t} u v h = go (compare l k) refl (canonical u.1 v.1) (canonical u.2 v.2)
+  canonical {f = node l a c s} {g = node k b d t} u v h = go (compare l k) refl (canonical {f = c} {g = d} u.1 v.1) (canonical {f = s} {g = t} u.2 v.2)
     where
       go : (o : Ordering) → compare l k ≡ o → (SameMap T c d → c ≡ d) → (SameMap T s t → s ≡ t) → node l a c s ≡ node k b d t
       go lt e hc hs = absurd (some-none (head-only ◌≡◌ l a c s u (node k b d t) e v h))

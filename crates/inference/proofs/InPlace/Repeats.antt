@@ -6,9 +6,10 @@ use Prim.Native.Nat.{ℕ, zero, suc, ◌+◌, ◌-◌, ◌*◌, ◌/◌, ◌≤�
 use native.Mathlib.Nat.{mul-suc, mul-one, add_assoc}
 use native.Mathlib.Omega.{arith}
 use native.Mathlib.Decide.{dec_lt}
+use lib.Dec.{eqb}
 use lib.ListN.{length, take, drop, get_or, length-append, length-drop, take-append-drop}
 use lib.Seq.{take-take, take-add, drop-drop, take_at, drop_at}
-use Rattle.value_table.specs.Value.{Head, value_format, record_size, max_length, header, Values, none, value, size, encode, Proper, ValidAt}
+use Rattle.value_table.specs.Value.{Head, value_format, record_size, record_kind, max_length, header, Values, none, value, size, encode, Proper, ValidAt}
 use Rattle.value_table.specs.Inside.RecordBytes.{record_at}
 use Rattle.byte_records.proofs.Format.{length-record, record_same}
 use Rattle.value_table.proofs.TableLayout.{value-fits, length-encode}
@@ -107,9 +108,9 @@ same-values a b d d' x y none (value k' l' c' r') m v w n e = absurd (omega arit
 same-values a b d d' x y (value k l c r) none m v w n e = absurd (omega arith)
 same-values a b d d' x y (value k l c r) (value k' l' c' r') m v w n e =
     let h = same-header v.0 w.0 (omega arith) (omega arith) _ _ (simp append_assoc at e) in
-    let inner : c ≡ c' = same-values _ _ _ _ _ _ c c' (omega arith) v.1 w.1 h.2 h.3 in
+    let inner : c ≡ c' = same-values (eqb k.kind record_kind) (eqb k'.kind record_kind) (suc d) (suc d') _ _ c c' (omega arith) v.1 w.1 h.2 h.3 in
     let z = append-same (encode c) (encode c') _ _ (length-encode c ∙ ap (λ k. record_size * k) h.2 ∙ sym (length-encode c')) h.3 in
-    let outer : r ≡ r' = same-values _ _ _ _ x y r r' (omega arith) v.2 w.2 (omega (arith, h.2)) z.1 in
+    let outer : r ≡ r' = same-values a b d d' x y r r' (omega arith) v.2 w.2 (omega (arith, h.2)) z.1 in
     λ o. value (record { kind = h.0 o }) (h.1 o) (inner o) (outer o)
 
 module _ (t : List ℕ) (short : length t ≤ max_length) (as_fields : Bool) (depth : ℕ) where

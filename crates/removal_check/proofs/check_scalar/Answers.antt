@@ -2,7 +2,6 @@
 use mathlib.Core.Path.{◌≡◌, sym, ap, ◌∙◌}
 use Prim.Native.Nat.{◌+◌, ◌-◌}
 use native.Mathlib.Omega.{arith}
-use borrow.Author.Tests.{not-true, not-false}
 use Rattle.removal_theory.specs.Inside.TypeBytes.{type_count}
 use Rattle.removal_check.specs.Inside.Checker.{has_total}
 use Rattle.removal_check.proofs.OnePass.Loops.{in_table, wrong-scalar, wrong-scalar-count, scalar-total}
@@ -18,7 +17,7 @@ pub returns-then-not-addend_record : goal.returns-then-not-addend_record
 returns-then-not-addend_record c e =
     let a = c.args in
     let one : a.end ≡ a.p + 1 + 1 = omega (arith, c.requires.1) in
-    ap (has_total (type_count a.b.now a.p)) (wrong-scalar e a.b.now (a.p + 1) a.end (33 - a.left) one (omega (arith, c.requires.2)) c.requires.0 (sym c.addend_record.ensures ∙ not-true _ c.if-not-addend_record.true))
+    ap (has_total (type_count a.b.now a.p)) (wrong-scalar e a.b.now (a.p + 1) a.end (33 - a.left) one (omega (arith, c.requires.2)) c.requires.0 (sym c.addend_record.ensures ∙ c.if-not-addend_record.true))
 
 pub overflow_add-p-2 : goal.overflow_add-p-2
 overflow_add-p-2 c = omega (arith, c.requires.0.within, c.requires.0.short, c.requires.1)
@@ -30,7 +29,7 @@ pub returns-then-not-count_fits : goal.returns-then-not-count_fits
 returns-then-not-count_fits c e =
     let a = c.args in
     let one : a.end ≡ a.p + 1 + 1 = omega (arith, c.requires.1) in
-    ap (has_total (type_count a.b.now a.p)) (wrong-scalar-count e a.b.now (a.p + 1) a.end (33 - a.left) one (omega (arith, c.requires.2)) c.requires.0 (sym c.addend_record.ensures ∙ not-false _ c.if-not-addend_record.false) (sym c.count_fits.ensures ∙ not-true _ c.if-not-count_fits.true))
+    ap (has_total (type_count a.b.now a.p)) (wrong-scalar-count e a.b.now (a.p + 1) a.end (33 - a.left) one (omega (arith, c.requires.2)) c.requires.0 (sym c.addend_record.ensures ∙ c.if-not-addend_record.false) (sym c.count_fits.ensures ∙ c.if-not-count_fits.true))
 
 pub overflow_add-p-3 : goal.overflow_add-p-3
 overflow_add-p-3 c = omega (arith, c.requires.0.within, c.requires.0.short, c.requires.1)
@@ -46,4 +45,4 @@ returns c e =
     let a = c.args in
     let one : a.end ≡ a.p + 1 + 1 = omega (arith, c.requires.1) in
     rw (c.count_at.ensures, c.count_at-2.ensures)
-    (ap (has_total (type_count a.b.now a.p)) (scalar-total e a.b.now (a.p + 1) a.end (33 - a.left) one (omega (arith, c.requires.2)) c.requires.0 (sym c.addend_record.ensures ∙ not-false _ c.if-not-addend_record.false) (sym c.count_fits.ensures ∙ not-false _ c.if-not-count_fits.false)))
+    (ap (has_total (type_count a.b.now a.p)) (scalar-total e a.b.now (a.p + 1) a.end (33 - a.left) one (omega (arith, c.requires.2)) c.requires.0 (sym c.addend_record.ensures ∙ c.if-not-addend_record.false) (sym c.count_fits.ensures ∙ c.if-not-count_fits.false)))

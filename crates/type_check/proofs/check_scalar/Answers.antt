@@ -4,7 +4,6 @@ use mathlib.Core.Bool.{true, false}
 use mathlib.Core.List.{List}
 use Prim.Native.Nat.{ℕ, ◌+◌, ◌-◌, ◌^◌, ◌<◌}
 use native.Mathlib.Omega.{arith}
-use borrow.Author.Tests.{not-true, not-false}
 use Rattle.counting_theory.specs.Payload.{no_lengths}
 use Rattle.counting_theory.specs.Encoding.{type_payload}
 use Rattle.counting_theory.specs.Inside.TypeBytes.{type_count}
@@ -16,7 +15,6 @@ use Rattle.type_check.proofs.check_scalar.Goals.{After-addend_record, After-no_l
 
 -- the scalar behind the field
 module _ (s : goal.Start) where
-
   abbrev b : List ℕ
   b = s.args.b.now
 
@@ -37,7 +35,7 @@ count_fits-requires c = let s = c.requires in (in_table s.0 (omega (arith, s.1))
 
 pub returns-then-not-count_fits : goal.returns-then-not-count_fits
 returns-then-not-count_fits c e =
-    ap (has_total (type_count (b (goal.at.returns-then-not-count_fits c).Start) c.args.p)) (wrong-scalar-count e (b (goal.at.returns-then-not-count_fits c).Start) (at (goal.at.returns-then-not-count_fits c).Start) c.args.end (33 - c.args.left) (one (goal.at.returns-then-not-count_fits c).Start) (omega (arith, c.requires.2)) c.requires.0 (sym c.count_fits.ensures ∙ not-true _ c.if-not-count_fits.true))
+    ap (has_total (type_count (b (goal.at.returns-then-not-count_fits c).Start) c.args.p)) (wrong-scalar-count e (b (goal.at.returns-then-not-count_fits c).Start) (at (goal.at.returns-then-not-count_fits c).Start) c.args.end (33 - c.args.left) (one (goal.at.returns-then-not-count_fits c).Start) (omega (arith, c.requires.2)) c.requires.0 (sym c.count_fits.ensures ∙ c.if-not-count_fits.true))
 
 pub overflow_add-p-2 : goal.overflow_add-p-2
 overflow_add-p-2 c = omega (arith, fits (goal.at.overflow_add-p-2 c).Start)
@@ -47,11 +45,11 @@ addend_record-requires c = let s = c.requires in (in_table s.0 (omega (arith, s.
 
 -- the count and the record are right
 counted : (c : goal.After-addend_record) → count_fits (b c.before.before.before.before.before) (at c.before.before.before.before.before) 0 ≡ true
-counted c = sym c.count_fits.ensures ∙ not-false _ c.if-not-count_fits.false
+counted c = sym c.count_fits.ensures ∙ c.if-not-count_fits.false
 
 pub returns-then-not-addend_record : goal.returns-then-not-addend_record
 returns-then-not-addend_record c e =
-    ap (has_total (type_count (b (goal.at.returns-then-not-addend_record c).Start) c.args.p)) (wrong-scalar e (b (goal.at.returns-then-not-addend_record c).Start) (at (goal.at.returns-then-not-addend_record c).Start) c.args.end (33 - c.args.left) (one (goal.at.returns-then-not-addend_record c).Start) (omega (arith, c.requires.2)) c.requires.0 (counted (goal.at.returns-then-not-addend_record c).After-addend_record) (sym c.addend_record.ensures ∙ not-true _ c.if-not-addend_record.true))
+    ap (has_total (type_count (b (goal.at.returns-then-not-addend_record c).Start) c.args.p)) (wrong-scalar e (b (goal.at.returns-then-not-addend_record c).Start) (at (goal.at.returns-then-not-addend_record c).Start) c.args.end (33 - c.args.left) (one (goal.at.returns-then-not-addend_record c).Start) (omega (arith, c.requires.2)) c.requires.0 (counted (goal.at.returns-then-not-addend_record c).After-addend_record) (sym c.addend_record.ensures ∙ c.if-not-addend_record.true))
 
 pub overflow_add-p-3 : goal.overflow_add-p-3
 overflow_add-p-3 c = omega (arith, fits (goal.at.overflow_add-p-3 c).Start)
@@ -60,12 +58,11 @@ pub payload_at-requires : goal.payload_at-requires
 payload_at-requires c = let s = c.requires in (in_table s.0 (omega (arith, s.1))).whole
 
 module _ (c : goal.After-no_lengths) where
-
   abbrev start : goal.Start
   start = c.before.before.before.before.before.before.before.before
 
   right : type_record (b start) (at start) start.args.end false (33 - start.args.left) ≡ true
-  right = sym c.addend_record.ensures ∙ not-false _ c.if-not-addend_record.false
+  right = sym c.addend_record.ensures ∙ c.if-not-addend_record.false
 
   lengths-told : c.no_lengths.result ≡ no_lengths (type_payload (b start) (at start))
   lengths-told = rw c.payload_at.ensures at c.no_lengths.ensures
@@ -73,7 +70,7 @@ module _ (c : goal.After-no_lengths) where
 pub returns-then-not-no_lengths : goal.returns-then-not-no_lengths
 returns-then-not-no_lengths c e =
     let s = start (goal.at.returns-then-not-no_lengths c).After-no_lengths in
-    ap (has_total (type_count (b s) s.args.p)) (wrong-scalar-lengths e (b s) (at s) s.args.end (33 - s.args.left) (one s) (omega (arith, s.requires.2)) s.requires.0 (counted (goal.at.returns-then-not-no_lengths c).After-addend_record) (right (goal.at.returns-then-not-no_lengths c).After-no_lengths) (sym (lengths-told (goal.at.returns-then-not-no_lengths c).After-no_lengths) ∙ not-true _ c.if-not-no_lengths.true))
+    ap (has_total (type_count (b s) s.args.p)) (wrong-scalar-lengths e (b s) (at s) s.args.end (33 - s.args.left) (one s) (omega (arith, s.requires.2)) s.requires.0 (counted (goal.at.returns-then-not-no_lengths c).After-addend_record) (right (goal.at.returns-then-not-no_lengths c).After-no_lengths) (sym (lengths-told (goal.at.returns-then-not-no_lengths c).After-no_lengths) ∙ c.if-not-no_lengths.true))
 
 pub overflow_add-p-4 : goal.overflow_add-p-4
 overflow_add-p-4 c = omega (arith, fits (start (goal.at.overflow_add-p-4 c).After-no_lengths))
@@ -88,4 +85,4 @@ pub returns : goal.returns
 returns c e =
     let s = start (goal.at.returns c).After-no_lengths in
     rw (c.count_at.ensures, c.count_at-2.ensures)
-    (ap (has_total (type_count (b s) s.args.p)) (scalar-total e (b s) (at s) s.args.end (33 - s.args.left) (one s) (omega (arith, s.requires.2)) s.requires.0 (counted (goal.at.returns c).After-addend_record) (right (goal.at.returns c).After-no_lengths) (sym (lengths-told (goal.at.returns c).After-no_lengths) ∙ not-false _ c.if-not-no_lengths.false)))
+    (ap (has_total (type_count (b s) s.args.p)) (scalar-total e (b s) (at s) s.args.end (33 - s.args.left) (one s) (omega (arith, s.requires.2)) s.requires.0 (counted (goal.at.returns c).After-addend_record) (right (goal.at.returns c).After-no_lengths) (sym (lengths-told (goal.at.returns c).After-no_lengths) ∙ c.if-not-no_lengths.false)))

@@ -1,6 +1,5 @@
 -- `answer_of` meets its contract.
 use mathlib.Core.Path.{sym, ap}
-use borrow.Author.Rules.{rules}
 use Rattle.value_table.specs.Outcome.{outcome_of}
 use Rattle.value_table.proofs.answer_of.Goals as goal
 

@@ -1,5 +1,4 @@
 -- `judge` meets its contract.
-use borrow.Author.Rules.{rules}
 use Rattle.value_table.specs.Judged.{judged}
 use Rattle.value_table.proofs.judge.Goals as goal
 

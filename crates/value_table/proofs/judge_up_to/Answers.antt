@@ -1,6 +1,5 @@
 -- `judge_up_to` meets its contract.
 use mathlib.Core.Path.{sym, ◌∙◌}
-use borrow.Author.Rules.{rules}
 use Rattle.value_table.specs.Judged.{judged_up_to}
 use Rattle.value_table.proofs.TableLayout.{length-fits}
 use Rattle.value_table.proofs.judge_up_to.Goals as goal

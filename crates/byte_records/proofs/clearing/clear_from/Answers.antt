@@ -1,10 +1,8 @@
 -- `clear_from` meets its contract.
-use mathlib.Core.Path.{◌≡◌, refl, ◌∙◌}
-use Prim.Native.Nat.{◌-◌, ◌≤◌}
+use mathlib.Core.Path.{refl, ◌∙◌}
 use native.Mathlib.Omega.{arith}
-use lib.ListN.{length, length-set}
-use borrow.Author.Rules.{rules}
-use Rattle.byte_records.proofs.Clear.{cleared_from, clear-more, clear-done}
+use lib.ListN.{length-set}
+use Rattle.byte_records.proofs.Clear.{clear-more, clear-done}
 use Rattle.byte_records.proofs.clearing.clear_from.Goals as goal
 
 pub loop-i-init : goal.loop-i-init

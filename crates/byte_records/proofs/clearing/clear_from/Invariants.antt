@@ -1,10 +1,8 @@
 -- `clear_from` meets its contract.
-use mathlib.Core.Path.{◌≡◌, refl, ◌∙◌}
+use mathlib.Core.Path.{◌≡◌}
 use Prim.Native.Nat.{◌-◌, ◌≤◌}
-use native.Mathlib.Omega.{arith}
-use lib.ListN.{length, length-set}
-use borrow.Author.Rules.{rules}
-use Rattle.byte_records.proofs.Clear.{cleared_from, clear-more, clear-done}
+use lib.ListN.{length}
+use Rattle.byte_records.proofs.Clear.{cleared_from}
 use Rattle.byte_records.proofs.clearing.clear_from.Given as goal
 
 abbrev pub invariant-loop-i : goal.invariant-loop-i

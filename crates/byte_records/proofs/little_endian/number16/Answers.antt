@@ -1,7 +1,6 @@
 -- `number16` meets its contract.
 use Prim.Native.Nat.{◌+◌}
 use native.Mathlib.Omega.{arith}
-use borrow.Author.Rules.{rules}
 use Rattle.byte_records.proofs.Number.{number_at-suc, number_at-zero}
 use Rattle.byte_records.proofs.little_endian.number16.Goals as goal
 

@@ -1,6 +1,5 @@
 -- `number64` meets its contract.
 use native.Mathlib.Omega.{arith}
-use borrow.Author.Rules.{rules}
 use Rattle.byte_records.proofs.Number.{number_at-add}
 use Rattle.byte_records.proofs.little_endian.number64.Goals as goal
 

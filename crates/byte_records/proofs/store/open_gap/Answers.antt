@@ -1,11 +1,10 @@
 -- `open_gap` meets its contract.
-use mathlib.Core.Path.{◌≡◌, refl}
-use Prim.Native.Nat.{◌+◌, ◌-◌, ◌≤◌}
+use mathlib.Core.Path.{refl}
+use Prim.Native.Nat.{◌-◌}
 use native.Mathlib.Nat.{le_refl}
 use native.Mathlib.Omega.{arith}
-use lib.ListN.{length, length-set}
-use borrow.Author.Rules.{rules}
-use Rattle.byte_records.proofs.Gap.{Moved, moved-start, moved-next, moved-end}
+use lib.ListN.{length-set}
+use Rattle.byte_records.proofs.Gap.{moved-start, moved-next, moved-end}
 use Rattle.byte_records.proofs.store.open_gap.Goals as goal
 
 pub loop-i-init : goal.loop-i-init

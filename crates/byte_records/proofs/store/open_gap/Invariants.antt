@@ -1,11 +1,8 @@
 -- `open_gap` meets its contract.
-use mathlib.Core.Path.{◌≡◌, refl}
-use Prim.Native.Nat.{◌+◌, ◌-◌, ◌≤◌}
-use native.Mathlib.Nat.{le_refl}
-use native.Mathlib.Omega.{arith}
-use lib.ListN.{length, length-set}
-use borrow.Author.Rules.{rules}
-use Rattle.byte_records.proofs.Gap.{Moved, moved-start, moved-next, moved-end}
+use mathlib.Core.Path.{◌≡◌}
+use Prim.Native.Nat.{◌+◌, ◌≤◌}
+use lib.ListN.{length}
+use Rattle.byte_records.proofs.Gap.{Moved}
 use Rattle.byte_records.proofs.store.open_gap.Given as goal
 
 abbrev pub invariant-loop-i : goal.invariant-loop-i

@@ -1,10 +1,8 @@
 -- `put_bytes` meets its contract. The loop's invariant: what is left to copy gives what is to be stored.
-use mathlib.Core.Path.{◌≡◌, refl, ◌∙◌}
-use Prim.Native.Nat.{min, ◌+◌, ◌-◌, ◌≤◌}
+use mathlib.Core.Path.{refl, ◌∙◌}
 use native.Mathlib.Nat.{add-zero}
 use native.Mathlib.Omega.{arith}
-use lib.ListN.{length, drop, length-set}
-use lib.Seq.{sets}
+use lib.ListN.{length-set}
 use Rattle.byte_records.proofs.Sets.{copy_more, copy-end}
 use Rattle.byte_records.proofs.store.put_bytes.Goals as goal
 

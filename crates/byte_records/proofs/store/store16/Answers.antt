@@ -4,7 +4,6 @@ use native.Mathlib.Numerals.{add-one}
 use native.Mathlib.Omega.{arith}
 use lib.ListN.{length-set}
 use Rattle.byte_records.specs.Number.{bytes_of}
-use borrow.Author.Rules.{rules}
 use Rattle.byte_records.proofs.store.store16.Goals as goal
 
 pub bounds-out-at-2 : goal.bounds-out-at-2

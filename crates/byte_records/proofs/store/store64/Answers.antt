@@ -1,6 +1,5 @@
 -- `store64` meets its contract.
 use Rattle.byte_records.proofs.Sets.{sets-bytes}
-use borrow.Author.Rules.{rules}
 use Rattle.byte_records.proofs.store.store64.Goals as goal
 
 pub returns : goal.returns

@@ -17,7 +17,6 @@ loop-i-init c = (refl, omega arith, λ vs r. none_passed r)
 
 -- the value at i
 module _ (c : goal.In-loop-i) where
-
   abbrev t : List ℕ
   t = c.args.t.now
 

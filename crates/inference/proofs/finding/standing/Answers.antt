@@ -14,7 +14,6 @@ use Rattle.inference.proofs.finding.standing.Goals.{After-search_start-p, Start}
 
 -- the sibling that is looked at
 module _ (c : goal.After-search_start-p) where
-
   abbrev start : goal.Start
   start = c.before.before.before.before.before.before
 
@@ -28,7 +27,6 @@ module _ (c : goal.After-search_start-p) where
   p = c.search_start-p.result
 
   module _ (field : Bool) (rest : ℕ) (f : CountingType) (q free : List ℕ) (h : ArenaHolds e field start.args.b.now start.args.n rest f q free) (s : Starts start.args.from f) where
-
     starts : Starts p f × (p < start.args.n)
     starts = starts-again h (c.loop-passed.invariant field rest f q free h s) (omega (arith, c.loop-passed-test.true)) c.search_start-p.ensures
 

@@ -16,7 +16,6 @@ use Rattle.inference.proofs.placing.locate.Goals.{In-Keys}
 
 -- the keys that are listed
 module _ (c : goal.In-Keys) where
-
   listed-keys : (vs : Values) → TableRun (eqb c.args.kind record_kind) c.args.t.now vs → LabelListed (by_flag c.args.label) c.args.kind vs (Keys c.in-Keys.keys) c.list_label.new.work
   listed-keys vs r = rw c.in-Keys.is at (c.list_label.ensures vs (λ z. rw (eq-eqb _ record_kind z) at r))
 

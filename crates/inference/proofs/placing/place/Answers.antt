@@ -17,7 +17,6 @@ use Rattle.inference.proofs.placing.place.Goals.{In-Here, In-Missing}
 
 -- where the label stands, and its room
 module _ (c : goal.In-Here) where
-
   abbrev found-label : Label
   found-label = wanted (by_flag c.args.label) c.args.kind c.args.key c.args.keys c.args.work.now
 
@@ -34,7 +33,6 @@ module _ (c : goal.In-Here) where
 
 -- where it would stand
 module _ (c : goal.In-Missing) where
-
   abbrev missed-label : Label
   missed-label = wanted (by_flag c.args.label) c.args.kind c.args.key c.args.keys c.args.work.now
 

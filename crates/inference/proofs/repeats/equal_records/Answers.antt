@@ -15,12 +15,12 @@ loop-n-init c = let s = c.requires in (equal-none (omega (arith, s.1, s.2)), ome
 pub returns-then-not-same_record : goal.returns-then-not-same_record
 returns-then-not-same_record c =
     let v = c.loop-n.invariant in
-    record { equal = v.0; upto = v.1; differ = λ l e. true≢false (sym (c.same_record.ensures.1 e) ∙ not-true _ c.if-not-same_record.true) }
+    record { equal = v.0; upto = v.1; differ = λ l e. true≢false (sym (c.same_record.ensures.1 e) ∙ c.if-not-same_record.true) }
 
 pub loop-n-preserved : goal.loop-n-preserved
 loop-n-preserved c =
     let v = c.loop-n.invariant in (
-      equal_next _ v.0 (omega (arith, c.loop-n-test.true, c.requires.2)) (c.same_record.ensures.0 (not-false _ c.if-not-same_record.false)),
+      equal_next _ v.0 (omega (arith, c.loop-n-test.true, c.requires.2)) (c.same_record.ensures.0 c.if-not-same_record.false),
       omega (arith, c.loop-n-test.true),
     )
 

@@ -15,7 +15,6 @@ use Rattle.inference.proofs.scalar_fields.count_field.Goals.{In-Field, Start}
 
 -- the field has been found
 module _ (c : goal.In-Field) where
-
   abbrev start : goal.Start
   start = c.before.before.before
 

@@ -24,7 +24,6 @@ recounted e w n f q a b r r' x y z h = rw (x, y, z) at h
 
 -- the field at the loop's head
 module _ (c : goal.In-loop-next) where
-
   abbrev start : goal.Start
   start = c.before.before.before.before.before
 
@@ -60,7 +59,6 @@ count_field-requires c =
 
 -- what has become of the field
 module _ (c : goal.After-count_field) where
-
   abbrev head : goal.In-loop-next
   head = (record { before = c.before.before.before.before.before.before; type_inv = record { t = c.type_inv.t } })
 
@@ -77,7 +75,6 @@ module _ (c : goal.After-count_field) where
 
 -- it is counted
 module _ (c : goal.In-Field) where
-
   abbrev done : goal.After-count_field
   done = (record { before = c.before.before.before.before; type_inv = record { t = c.type_inv.t } })
 
@@ -85,18 +82,17 @@ module _ (c : goal.In-Field) where
   scalar = omega (arith, done.if-kind-gt-LAST_SCALAR.false, done.kind_at-kind.ensures)
 
   module _ (label : Bool) (vs : Values) (f : CountingType) (q : List ℕ) (rest : ℕ) (u : length q ≡ type_size * rest) (r : AddedSoFar (by_flag label) true (start (head done)).args.weight vs f q (start (head done)).args.a.now (start (head done)).args.t.now (start (head done)).args.n (start (head done)).args.i (start (head done)).args.from) where
-
-    counts : FieldCounted (by_flag label) (key_at (start (head done)).args.t.now (loop (head done)).loop-next.next) (kind_at (start (head done)).args.t.now (loop (head done)).loop-next.next) (start (head done)).args.weight (ran done label vs f q rest u r).g q (start (head done)).args.n (loop (head done)).loop-next.a (Field c.in-Field.p) done.count_field.last.0
+    counts : FieldCounted (by_flag label) (key_at (start (head done)).args.t.now (loop (head done)).loop-next.next) (kind_at (start (head done)).args.t.now (loop (head done)).loop-next.next) (start (head done)).args.weight (ran done label vs f q rest u r).g q (start (head done)).args.n (loop (head done)).loop-next.a (Field c.in-Field.p) done.count_field.new.a
     counts = counted done _ c.in-Field.is label vs f q rest u r
 
-    room : RecordIn done.count_field.last.0 c.in-Field.p
+    room : RecordIn done.count_field.new.a c.in-Field.p
     room = scalar-room (ran done label vs f q rest u r) (bounds (head done)).1 (more (head done)) scalar rest _ _ counts.0 counts.1 (short done)
 
-    turned : AddedSoFar (by_flag label) true (start (head done)).args.weight vs f q done.count_field.last.0 (start (head done)).args.t.now (start (head done)).args.n ((loop (head done)).loop-next.next + 1) (resumed true done.count_field.last.0 c.in-Field.p (start (head done)).args.n)
+    turned : AddedSoFar (by_flag label) true (start (head done)).args.weight vs f q done.count_field.new.a (start (head done)).args.t.now (start (head done)).args.n ((loop (head done)).loop-next.next + 1) (resumed true done.count_field.new.a c.in-Field.p (start (head done)).args.n)
     turned = scalar-turn (ran done label vs f q rest u r) (bounds (head done)).1 (more (head done)) scalar rest _ _ counts.0 counts.1 (short done) u
 
 pub shape_of-a-in-Behind : goal.shape_of-a-in-Behind
-shape_of-a-in-Behind c = let k = (goal.at.shape_of-a-in-Behind c).After-count_field in k.count-field.auto.0 ∙ (loop (head k)).loop-next.invariant.2
+shape_of-a-in-Behind c = c.count_field.auto.a ∙ c.loop-next.invariant.2
 
 pub returns-in-Behind : goal.returns-in-Behind
 returns-in-Behind c =

@@ -12,36 +12,35 @@ use Rattle.value_table.specs.Value.{none, value, count}
 use Rattle.type_arena.specs.Inside.Arena.{by_flag}
 use Rattle.type_arena.specs.Inside.Payload.{item_payload}
 use Rattle.inference.specs.Inside.Inferring.{grown, ArenaHolds, StandsAt, split, Counted}
-use Rattle.inference.specs.Inside.ScalarFields.{plain}
+use Rattle.inference.specs.Inside.ScalarFields.{plain, SomeField}
 use Rattle.inference.proofs.InPlace.Placing.{holds-length, here-within, here-counted}
 use Rattle.inference.proofs.InPlace.Splits.{here-at}
 use Rattle.inference.proofs.InPlace.Scalars.{begun_first, field-here, field_bound, union-holds, counted-union, scalar-counted}
 use Rattle.inference.proofs.scalar_fields.count_scalar.Goals as goal
-use Rattle.inference.proofs.scalar_fields.count_scalar.Goals.{After-find_scalar, After-slice_known-2-1, Start}
+use Rattle.inference.proofs.scalar_fields.count_scalar.Goals.{After-join_payload}
 
 -- the field at p
-module _ (c : goal.Start) where
-
-  bound : (c.args.p + type_span c.args.a.now c.args.p ≤ length c.args.a.now) × (1 ≤ type_span c.args.a.now c.args.p) × (type_size * (c.args.p + type_span c.args.a.now c.args.p) ≤ length c.args.a.now) × (length c.args.a.now ≤ 65536)
-  bound = let g = c.requires.0 in omega (arith, field_bound g.holds g.key _ g.here)
+bound : {a : List ℕ} {p : ℕ} → SomeField a p →
+    (p + type_span a p ≤ length a) × (1 ≤ type_span a p) × (type_size * (p + type_span a p) ≤ length a) × (length a ≤ 65536)
+bound g = omega (arith, field_bound g.holds g.key _ g.here)
 
 pub overflow_mul-inner : goal.overflow_mul-inner
-overflow_mul-inner c = omega (arith, bound (goal.at.overflow_mul-inner c).Start)
+overflow_mul-inner c = omega (arith, bound c.requires.0)
 
 pub overflow_add-inner : goal.overflow_add-inner
-overflow_add-inner c = omega (arith, bound (goal.at.overflow_add-inner c).Start)
+overflow_add-inner c = omega (arith, bound c.requires.0)
 
 pub span_at-held-requires : goal.span_at-held-requires
-span_at-held-requires c = omega (arith, bound (goal.at.span_at-held-requires c).Start)
+span_at-held-requires c = omega (arith, bound c.requires.0)
 
 pub overflow_sub-held : goal.overflow_sub-held
-overflow_sub-held c = omega (arith, bound (goal.at.overflow_sub-held c).Start, c.span_at-held.ensures.0)
+overflow_sub-held c = omega (arith, bound c.requires.0, c.span_at-held.ensures.0)
 
 pub slice_bounds-find_scalar-count : goal.slice_bounds-find_scalar-count
-slice_bounds-find_scalar-count c = omega (arith, bound (goal.at.slice_bounds-find_scalar-count c).Start)
+slice_bounds-find_scalar-count c = omega (arith, bound c.requires.0)
 
 pub slice_bounds-find_scalar-start : goal.slice_bounds-find_scalar-start
-slice_bounds-find_scalar-start c = omega (arith, bound (goal.at.slice_bounds-find_scalar-start c).Start)
+slice_bounds-find_scalar-start c = omega (arith, bound c.requires.0)
 
 pub find_scalar-requires : goal.find_scalar-requires
 find_scalar-requires c =
@@ -51,60 +50,52 @@ find_scalar-requires c =
     (record { label = x.label; rest = _; f = _; q = _; free = _; holds = h; starts = (begun_first h (plain (by_flag x.label) 0 0)).starts }, g.1)
 
 pub join_payload-requires : goal.join_payload-requires
-join_payload-requires c = omega (arith, bound (goal.at.join_payload-requires c).Start)
+join_payload-requires c = omega (arith, bound c.requires.0)
 
 no-elements : 0 ≡ count none
 unfolding count
 no-elements = refl
 
 -- the scalar in its union, when the field has been counted
-module _ (c : goal.After-slice_known-2-1) where
-
-  abbrev found : goal.After-find_scalar
-  found = c.before.before.before.before.before.before.before
-
-  abbrev start : goal.Start
-  start = found.before.before.before.before
-
+module _ (c : goal.After-join_payload) where
   abbrev span : ℕ
-  span = found.span_at-held.result
+  span = c.span_at-held.result
 
   abbrev arena : List ℕ
   arena = c.join_payload.new.b
 
   short : length arena ≤ 65536
-  short = omega (arith, bound start, c.join_payload.auto.b)
+  short = omega (arith, bound c.requires.0, c.join_payload.auto.b)
 
-  module _ (label : Bool) (n rest key : ℕ) (f : CountingType) (q free : List ℕ) (h : ArenaHolds (by_flag label) true start.args.a.now n rest f q free) (o : StandsAt (plain (by_flag label) field_kind key) f start.args.p) where
-
-    counted : Counted (split (plain (by_flag label) field_kind key) f) (plain (by_flag label) field_kind key) (grown (split (plain (by_flag label) field_kind key) f).payload (item_payload start.args.weight field_kind (value (record { kind = start.args.kind }) key none none))) q start.args.p n arena
+  module _ (label : Bool) (n rest key : ℕ) (f : CountingType) (q free : List ℕ) (h : ArenaHolds (by_flag label) true c.args.a.now n rest f q free) (o : StandsAt (plain (by_flag label) field_kind key) f c.args.p) where
+    counted : Counted (split (plain (by_flag label) field_kind key) f) (plain (by_flag label) field_kind key) (grown (split (plain (by_flag label) field_kind key) f).payload (item_payload c.args.weight field_kind (value (record { kind = c.args.kind }) key none none))) q c.args.p n arena
     counted = rw (c.given.ensures none (λ z. no-elements)) at (here-counted h _ _ _ (field-here h key _ o) _ _ c.join_payload.ensures)
 
     abbrev union : CountingType
     union = (split (plain (by_flag label) field_kind key) f).content
 
-    stands : StandsAt (plain (by_flag label) start.args.kind 0) union c.in-Here.q
-    stands = sym c.in-Here.is ∙ found.find_scalar.ensures label _ union _ _ (union-holds h key _ o _ found.span_at-held.ensures.0)
+    stands : StandsAt (plain (by_flag label) c.args.kind 0) union c.in-Here.q
+    stands = sym c.in-Here.is ∙ c.find_scalar.ensures label _ union _ _ (union-holds h key _ o _ c.span_at-held.ensures.0)
 
-    inner : ArenaHolds (by_flag label) false (take (length arena - (type_size * start.args.p + type_size)) (drop (type_size * start.args.p + type_size) arena)) (span - 1) (n + rest - start.args.p - span) union (encode (split (plain (by_flag label) field_kind key) f).after ++ q) counted.free
-    inner = counted-union h key _ o span found.span_at-held.ensures.0 start.args.weight start.args.kind counted short
+    inner : ArenaHolds (by_flag label) false (take (length arena - (type_size * c.args.p + type_size)) (drop (type_size * c.args.p + type_size) arena)) (span - 1) (n + rest - c.args.p - span) union (encode (split (plain (by_flag label) field_kind key) f).after ++ q) counted.free
+    inner = counted-union h key _ o span c.span_at-held.ensures.0 c.args.weight c.args.kind counted short
 
 pub slice_bounds-join_payload-count : goal.slice_bounds-join_payload-count
-slice_bounds-join_payload-count c = omega (arith, bound (start c), c.join_payload.auto.b)
+slice_bounds-join_payload-count c = omega (arith, bound c.requires.0, c.join_payload.auto.b)
 
 pub slice_bounds-join_payload-start : goal.slice_bounds-join_payload-start
-slice_bounds-join_payload-start c = omega (arith, bound (start c), c.join_payload.auto.b)
+slice_bounds-join_payload-start c = omega (arith, bound c.requires.0, c.join_payload.auto.b)
 
 pub join_payload-requires-2 : goal.join_payload-requires-2
 join_payload-requires-2 c =
-    let g = (start (goal.at.join_payload-requires-2 c).After-slice_known-2-1).requires.0 in
-    let h = inner (goal.at.join_payload-requires-2 c).After-slice_known-2-1 g.label g.n g.rest g.key g.f g.q g.free g.holds g.here in
-    omega (arith, here-within h _ _ _ (here-at _ 0 _ _ (stands (goal.at.join_payload-requires-2 c).After-slice_known-2-1 g.label g.n g.rest g.key g.f g.q g.free g.holds g.here)), holds-length h)
+    let g = c.requires.0 in
+    let h = inner (goal.at.join_payload-requires-2 c).After-join_payload g.label g.n g.rest g.key g.f g.q g.free g.holds g.here in
+    omega (arith, here-within h _ _ _ (here-at _ 0 _ _ (stands (goal.at.join_payload-requires-2 c).After-join_payload g.label g.n g.rest g.key g.f g.q g.free g.holds g.here)), holds-length h)
 
 pub returns : goal.returns
 returns c label n rest key f q free h o =
-    let j = inner (goal.at.returns c).After-slice_known-2-1 label n rest key f q free h o in
-    let k = here-counted j _ _ _ (here-at _ 0 _ _ (stands (goal.at.returns c).After-slice_known-2-1 label n rest key f q free h o)) _ _ c.join_payload-2.ensures in
-    scalar-counted h key _ o _ (found (goal.at.returns c).After-slice_known-2-1).span_at-held.ensures.0 (start (goal.at.returns c).After-slice_known-2-1).args.weight (start (goal.at.returns c).After-slice_known-2-1).args.kind (counted (goal.at.returns c).After-slice_known-2-1 label n rest key f q free h o) (short (goal.at.returns c).After-slice_known-2-1) (start (goal.at.returns c).After-slice_known-2-1).requires.1
+    let j = inner (goal.at.returns c).After-join_payload label n rest key f q free h o in
+    let k = here-counted j _ _ _ (here-at _ 0 _ _ (stands (goal.at.returns c).After-join_payload label n rest key f q free h o)) _ _ c.join_payload-2.ensures in
+    scalar-counted h key _ o _ c.span_at-held.ensures.0 c.args.weight c.args.kind (counted (goal.at.returns c).After-join_payload label n rest key f q free h o) (short (goal.at.returns c).After-join_payload) c.requires.1
     (rw (c.given-2.ensures none (λ z. no-elements)) at k)
-    (omega (arith, short (goal.at.returns c).After-slice_known-2-1, simp (length-take, length-drop) at c.join_payload-2.auto.b))
+    (omega (arith, short (goal.at.returns c).After-join_payload, simp (length-take, length-drop) at c.join_payload-2.auto.b))

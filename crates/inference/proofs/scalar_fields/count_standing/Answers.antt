@@ -9,10 +9,10 @@ pub returns-then-not-field : goal.returns-then-not-field
 returns-then-not-field c = (omega arith, λ label vs f q rest u r. r)
 
 pub count_fields-requires : goal.count_fields-requires
-count_fields-requires c = let s = (goal.at.count_fields-requires c).Start in rw (not-false s.args.field c.if-not-field.false) at s.requires
+count_fields-requires c = let s = (goal.at.count_fields-requires c).Start in rw c.if-not-field.false at s.requires
 
 pub returns : goal.returns
 returns c =
-    let z = not-false c.args.field c.if-not-field.false in
+    let z = c.if-not-field.false in
     let x = c.count_fields.ensures in
     (x.0, λ label vs f q rest u r. rw z (x.1 label vs f q rest u (rw z at r)))

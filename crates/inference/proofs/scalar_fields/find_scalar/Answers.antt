@@ -15,12 +15,10 @@ use Rattle.inference.proofs.scalar_fields.find_scalar.Goals.{In-loop-at, Start}
 
 -- the sibling at the loop's head
 module _ (c : goal.In-loop-at) where
-
   abbrev start : goal.Start
   start = c.before.before.before.before
 
   module _ (label : Bool) (rest : ℕ) (f : CountingType) (q free : List ℕ) (h : ArenaHolds (by_flag label) false start.args.b.now start.args.n rest f q free) where
-
     abbrev begun : Begun (by_flag label) start.args.b.now start.args.n (plain (by_flag label) start.args.kind 0) f c.loop-at.at
     begun = c.loop-at.invariant label rest f q free h
 

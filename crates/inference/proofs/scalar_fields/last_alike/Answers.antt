@@ -15,7 +15,6 @@ use Rattle.inference.proofs.scalar_fields.last_alike.Goals.{In-loop-next, Start}
 
 -- the field behind the one at the loop's head
 module _ (c : goal.In-loop-next) where
-
   abbrev start : goal.Start
   start = c.before.before.before.before.before
 
@@ -31,10 +30,8 @@ module _ (c : goal.In-loop-next) where
   reach : (1 ≤ type_span start.args.b.now c.loop-next.next) × (c.loop-next.next + type_span start.args.b.now c.loop-next.next ≤ start.args.n)
   reach = reach-at start.requires.0.holds behind c.loop-next-test.true
 
-  module _ (below : type_key start.args.b.now c.before.loop.next < start.args.key) (label : Bool) (rest : ℕ) (f : CountingType) (q free : List ℕ)
-
+  module _ (below : type_key start.args.b.now c.loop-next.next < start.args.key) (label : Bool) (rest : ℕ) (f : CountingType) (q free : List ℕ)
       (h : ArenaHolds (by_flag label) true start.args.b.now start.args.n rest f q free) (s : Starts start.args.from f) where
-
     passed : BelowAt start.args.b.now start.args.n start.args.key f c.loop-next.next
     passed = let v = c.loop-next.invariant in next-below label h start.args.key (v.3 label rest f q free h s) v.2 c.loop-next-test.true below
 

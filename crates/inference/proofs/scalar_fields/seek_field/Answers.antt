@@ -15,12 +15,10 @@ use Rattle.inference.proofs.scalar_fields.seek_field.Goals.{After-last_alike-bef
 
 -- the field at the loop's head
 module _ (c : goal.In-loop-at) where
-
   abbrev start : goal.Start
   start = c.before.before.before.before.before
 
   module _ (label : Bool) (rest : ℕ) (f : CountingType) (q free : List ℕ) (h : ArenaHolds (by_flag label) true start.args.b.now start.args.n rest f q free) (s : Starts start.args.from f) where
-
     abbrev begun : Begun (by_flag label) start.args.b.now start.args.n (plain (by_flag label) field_kind start.args.key) f c.loop-at.at
     begun = (c.loop-at.invariant label rest f q free h s).0
 
@@ -60,7 +58,6 @@ last_alike-before-requires c =
 
 -- the last field passed
 module _ (c : goal.After-last_alike-before) where
-
   abbrev head : goal.In-loop-at
   head = (record { before = c.before.before.before.before.before; type_inv = record { b = c.type_inv.b } })
 

@@ -20,17 +20,17 @@ loop-i-init c =
 
 pub returns-then-i-keys : goal.returns-then-i-keys
 returns-then-i-keys c =
-    one-ends c.loop-i.invariant.comparing (⊎_elim (λ v. inl v.taken) (λ v. inr (eqb-true _ _ v.1.taken)) c.then-i-keys.branch) c.compare_numbers.ensures c.then_order.ensures
+    one-ends c.loop-i.invariant.comparing (⊎_elim inl (λ v. inr v.1) c.then-i-keys.either) c.compare_numbers.ensures c.then_order.ensures
     ∙ (rw c.in-Lists.is at c.compare_head.ensures).2 _
 
 -- a field is left where neither list has ended
 pub key_at-requires : goal.key_at-requires
-key_at-requires c = left-room c.loop-i.invariant (eqb-false _ _ c.if-j-end.false)
+key_at-requires c = left-room c.loop-i.invariant c.if-j-end.false
 
 pub span_at-j-requires : goal.span_at-j-requires
-span_at-j-requires c = key-at-requires (goal.at.span_at-j-requires c).After-number16-k κs
+span_at-j-requires c = left-room c.loop-i.invariant c.if-j-end.false
 
 pub loop-i-preserved : goal.loop-i-preserved
 loop-i-preserved c =
     rw (c.span_at-j.ensures.0, c.then_order-so_far.ensures, c.compare_numbers-in-loop-i.ensures, c.number16-k.ensures.0, c.key_at.ensures)
-    (left-next c.loop-i.invariant c.if-i-keys.false (eqb-false _ _ c.if-j-end.false))
+    (left-next c.loop-i.invariant c.if-i-keys.false c.if-j-end.false)

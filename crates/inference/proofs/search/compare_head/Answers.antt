@@ -39,7 +39,7 @@ returns-then-other_key-key c keys =
 pub returns-then-not-label : goal.returns-then-not-label
 unfolding label_at
 returns-then-not-label c keys =
-    under-kind _ (omega arith) (omega arith) _ _ (ap by_flag (not-true c.args.label c.if-not-label.true))
+    under-kind _ (omega arith) (omega arith) _ _ (ap by_flag c.if-not-label.true)
 
 pub returns-then-kind-ne-RECORD : goal.returns-then-kind-ne-RECORD
 unfolding label_at
@@ -48,4 +48,4 @@ returns-then-kind-ne-RECORD c keys = no_record _ (omega arith) (omega arith) _ _
 pub returns : goal.returns
 unfolding label_at
 returns c =
-    (omega arith, omega arith, λ keys. by-lists _ (omega arith) (omega arith) _ _ (ap by_flag (not-false c.args.label c.if-not-label.false)) (omega arith))
+    (omega arith, omega arith, λ keys. by-lists _ (omega arith) (omega arith) _ _ (ap by_flag c.if-not-label.false) (omega arith))

@@ -15,7 +15,6 @@ use Rattle.inference.proofs.search.pass_alike.Goals as goal
 use Rattle.inference.proofs.search.pass_alike.Goals.{In-More, In-loop-at, Start}
 
 module _ (s : goal.Start) where
-
   abbrev e : Equivalence
   e = by_flag s.args.label
 
@@ -31,7 +30,6 @@ module _ (s : goal.Start) where
 
 -- the sibling that is looked at
 module _ (c : goal.In-loop-at) where
-
   abbrev start : goal.Start
   start = c.before.before.before.before.before.before
 
@@ -39,7 +37,6 @@ module _ (c : goal.In-loop-at) where
   at = c.loop-at.at
 
   module _ (field : Bool) (rest : ℕ) (f : CountingType) (q free : List ℕ) (h : ArenaHolds (e start) field start.args.b.now start.args.n rest f q free) where
-
     all : Ahead (sought start) f (start.args.p + type_span start.args.b.now start.args.p) → Stop (e start) start.args.b.now start.args.n (sought start) f false at
     all s = stop h.short (ahead-seen h (sought start) ((c.loop-at.invariant.1 field rest f q free h).1 s)) c.loop-at-test.true
 
@@ -80,7 +77,6 @@ returns-in-Same c field rest f q free h s =
 
 -- the label comes after it, and it has the span of the first
 module _ (c : goal.In-More) where
-
   abbrev here : goal.In-loop-at
   here = (record { before = c.before.before.before.before.before; type_inv = record { work = c.type_inv.work; b = c.type_inv.b } })
 

@@ -17,7 +17,6 @@ use Rattle.inference.proofs.search.search.Goals.{After-pass_alike, In-More, In-l
 
 -- the sibling that the search has come to
 module _ (c : goal.In-loop-at) where
-
   abbrev start : goal.Start
   start = c.before.before.before.before.before.before
 
@@ -34,7 +33,6 @@ module _ (c : goal.In-loop-at) where
   StopIn f = Stop e start.args.b.now start.args.n sought f c.loop-at.resumed at
 
   module _ (field : Bool) (rest : ℕ) (f : CountingType) (q free : List ℕ) (h : ArenaHolds e field start.args.b.now start.args.n rest f q free) (s : Starts start.args.from f) where
-
     seen : Seen e start.args.b.now start.args.n sought f c.loop-at.resumed at
     seen = c.loop-at.invariant field rest f q free h s
 
@@ -52,7 +50,7 @@ compare_at-requires c = ((one c).here, (start c).requires.1)
 
 pub returns-then-not-resumed : goal.returns-then-not-resumed
 returns-then-not-resumed c field rest f q free h s =
-    (all (goal.at.returns-then-not-resumed c).In-loop-at field rest f q free h s).less (sym c.compare_at.ensures ∙ ap ordering_of c.in-Less.is) (not-true _ c.if-not-resumed.true)
+    (all (goal.at.returns-then-not-resumed c).In-loop-at field rest f q free h s).less (sym c.compare_at.ensures ∙ ap ordering_of c.in-Less.is) c.if-not-resumed.true
 
 pub returns-in-Same : goal.returns-in-Same
 returns-in-Same c field rest f q free h s =
@@ -60,7 +58,6 @@ returns-in-Same c field rest f q free h s =
 
 -- one that the label comes after
 module _ (c : goal.In-More) where
-
   abbrev here : goal.In-loop-at
   here = (record { before = c.before.before.before; type_inv = record { work = c.type_inv.work; b = c.type_inv.b } })
 
@@ -83,7 +80,6 @@ pass_alike-requires c =
     )
 
 module _ (c : goal.After-pass_alike) where
-
   abbrev Passes : CountingType → Type 0
   Passes f = PassedTo (sought (here (record { before = c.before.before; type_inv = record { work = c.type_inv.work; b = c.type_inv.b } }))) f (next (record { before = c.before.before; type_inv = record { work = c.type_inv.work; b = c.type_inv.b } })) c.pass_alike.result
 
@@ -97,7 +93,7 @@ pub returns-in-Ended : goal.returns-in-Ended
 returns-in-Ended c field rest f q free h s = rw c.in-Ended.is at (passes (goal.at.returns-in-Ended c).After-pass_alike field rest f q free h s)
 
 pub loop-at-smaller-else-not-resumed : goal.loop-at-smaller-else-not-resumed
-loop-at-smaller-else-not-resumed c = rw (not-false c.loop-at.resumed c.if-not-resumed.false) (omega arith)
+loop-at-smaller-else-not-resumed c = rw c.if-not-resumed.false (omega arith)
 
 pub loop-at-preserved-else-not-resumed : goal.loop-at-preserved-else-not-resumed
 loop-at-preserved-else-not-resumed c field rest f q free h s = seen_start h _

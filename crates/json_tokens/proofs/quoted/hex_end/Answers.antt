@@ -14,13 +14,13 @@ loop-k-init c = (search rules, hex-start c.args.text.now c.args.from)
 pub returns-then-not-is_hex : goal.returns-then-not-is_hex
 returns-then-not-is_hex c =
     hex-stop c.loop-k.invariant.1 c.loop-k-test.true
-    (ap is_hex (sym c.byte_at.ensures) ∙ sym c.is_hex.ensures ∙ not-true _ c.if-not-is_hex.true)
+    (ap is_hex (sym c.byte_at.ensures) ∙ sym c.is_hex.ensures ∙ c.if-not-is_hex.true)
 
 pub loop-k-preserved : goal.loop-k-preserved
 loop-k-preserved c = (
   search rules,
   hex-on c.loop-k.invariant.1 c.loop-k-test.true
-      (ap is_hex (sym c.byte_at.ensures) ∙ sym c.is_hex.ensures ∙ not-false _ c.if-not-is_hex.false),
+      (ap is_hex (sym c.byte_at.ensures) ∙ sym c.is_hex.ensures ∙ c.if-not-is_hex.false),
 )
 
 pub returns : goal.returns

@@ -12,13 +12,11 @@ returns-in-92 c = rw c.in-92.is refl
 
 pub returns-in-32-to-127 : goal.returns-in-32-to-127
 returns-in-32-to-127 c =
-    let m = c.in_default-1.rest in
-    simp (ne_eqb _ _ m.0.1, ne_eqb _ _ m.1, le-leb _ _ c.if-c-lt32.false, le-leb c.args.c 0x7F (omega arith))
+    simp (ne_eqb c.args.c 0x22 (λ e. absurd (omega arith)), ne_eqb c.args.c 0x5C (λ e. absurd (omega arith)), le-leb 0x20 c.args.c (omega arith), le-leb c.args.c 0x7F (omega arith))
 
 pub returns-in_default : goal.returns-in_default
-returns-in_default c = simp (ne_eqb _ _ c.in_default-1.rest.0.1, ne_eqb _ _ c.in_default-1.rest.1, lt-leb _ _ c.in_default.if-c-lt32-own.true)
+returns-in_default c = simp (ne_eqb c.args.c 0x22 (λ e. absurd (omega arith)), ne_eqb c.args.c 0x5C (λ e. absurd (omega arith)), lt-leb 0x20 c.args.c (omega arith))
 
 pub returns-in_default-2 : goal.returns-in_default-2
 returns-in_default-2 c =
-    let m = c.in_default-1.rest in
-    simp (ne_eqb _ _ m.0.1, ne_eqb _ _ m.1, le-leb _ _ c.if-c-lt32.false, lt-leb _ _ c.in_default.if-c-lt128-own.false)
+    simp (ne_eqb c.args.c 0x22 (λ e. absurd (omega arith)), ne_eqb c.args.c 0x5C (λ e. absurd (omega arith)), le-leb 0x20 c.args.c (omega arith), lt-leb c.args.c 0x7F (omega arith))

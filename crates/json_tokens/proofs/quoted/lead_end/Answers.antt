@@ -30,17 +30,17 @@ three_end-requires c =
 
 pub returns-in-0-to-223 : goal.returns-in-0-to-223
 returns-in-0-to-223 c =
-    lead-on _ tails1 _ (ap (next_in_string plain) (sym c.requires.1) ∙ lead-two c.args.c c.requires.2 (omega (arith, c.in-0-to-223.if-c-lt224-own.true)))
+    lead-on _ tails1 _ (ap (next_in_string plain) (sym c.requires.1) ∙ lead-two c.args.c c.requires.2 (omega arith))
     (omega (arith, c.requires)) c.tail_end.result c.tail_end.ensures
 
 pub returns-in-224-to-239 : goal.returns-in-224-to-239
 returns-in-224-to-239 c =
-    lead-end _ _ c.args.c _ _ tails1 c.requires.1 c.if-c-lt224.false c.requires.3
+    lead-end _ _ c.args.c _ _ tails1 c.requires.1 (omega arith) c.requires.3
     c.lowest.ensures.0 c.highest.ensures
-    (rw (le-leb c.args.c 0xEF (omega (arith, c.in-224-to-239.if-c-lt240-own.true))) refl) c.two_end.result c.two_end.ensures
+    (rw (le-leb c.args.c 0xEF (omega arith)) refl) c.two_end.result c.two_end.ensures
 
 pub returns-in_default : goal.returns-in_default
 returns-in_default c =
-    lead-end _ _ c.args.c _ _ tails2 c.requires.1 c.if-c-lt224.false c.requires.3
+    lead-end _ _ c.args.c _ _ tails2 c.requires.1 (omega arith) c.requires.3
     c.lowest-in_default.ensures.0 c.highest-in_default.ensures
-    (rw (lt-leb c.args.c 0xEF c.in_default.if-c-lt240-own.false) refl) c.three_end.result c.three_end.ensures
+    (rw (lt-leb c.args.c 0xEF (omega arith)) refl) c.three_end.result c.three_end.ensures

@@ -13,11 +13,11 @@ pub loop-at-init : goal.loop-at-init
 loop-at-init c = running-start (search rules)
 
 pub returns-then-not-is_plain : goal.returns-then-not-is_plain
-returns-then-not-is_plain c = record { running = c.loop-at.invariant; fails = sym c.is_plain.ensures ∙ not-true _ c.if-not-is_plain.true }
+returns-then-not-is_plain c = record { running = c.loop-at.invariant; fails = sym c.is_plain.ensures ∙ c.if-not-is_plain.true }
 
 pub loop-at-preserved : goal.loop-at-preserved
 loop-at-preserved c =
-    running-on c.loop-at.invariant c.loop-at-test.true (sym c.is_plain.ensures ∙ not-false _ c.if-not-is_plain.false)
+    running-on c.loop-at.invariant c.loop-at-test.true (sym c.is_plain.ensures ∙ c.if-not-is_plain.false)
 
 pub returns : goal.returns
 returns c = run_out c.loop-at.invariant c.loop-at-test.false refl

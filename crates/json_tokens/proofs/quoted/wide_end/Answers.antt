@@ -9,15 +9,15 @@ use Rattle.json_tokens.proofs.quoted.wide_end.Goals as goal
 
 pub lead_end-requires : goal.lead_end-requires
 lead_end-requires c =
-    (c.requires.0, c.requires.1, c.if-c-lt194.false, omega (arith, c.in-194-to-244.if-c-lt245-own.true))
+    (c.requires.0, c.requires.1, omega arith, omega arith)
 
 pub returns-in-194-to-244 : goal.returns-in-194-to-244
 returns-in-194-to-244 c = c.lead_end.ensures
 
 pub returns-in_default : goal.returns-in_default
 returns-in_default c =
-    stops-here (ap (next_in_string plain) (sym c.requires.1) ∙ low-stuck _ c.in_default.if-c-lt194-own.true c.requires.2)
+    stops-here (ap (next_in_string plain) (sym c.requires.1) ∙ low-stuck _ (omega arith) c.requires.2)
 
 pub returns-in_default-2 : goal.returns-in_default-2
 returns-in_default-2 c =
-    stops-here (ap (next_in_string plain) (sym c.requires.1) ∙ high-stuck _ c.in_default.if-c-lt245-own.false (search rules))
+    stops-here (ap (next_in_string plain) (sym c.requires.1) ∙ high-stuck _ (omega arith) (search rules))

@@ -13,11 +13,11 @@ pub loop-at-init : goal.loop-at-init
 loop-at-init c = λ l. running-start l
 
 pub returns-then-not-is_digit : goal.returns-then-not-is_digit
-returns-then-not-is_digit c = λ l. record { running = c.loop-at.invariant l; fails = sym c.is_digit.ensures ∙ not-true _ c.if-not-is_digit.true }
+returns-then-not-is_digit c = λ l. record { running = c.loop-at.invariant l; fails = sym c.is_digit.ensures ∙ c.if-not-is_digit.true }
 
 pub loop-at-preserved : goal.loop-at-preserved
 loop-at-preserved c =
-    λ l. running-on (c.loop-at.invariant l) c.loop-at-test.true (sym c.is_digit.ensures ∙ not-false _ c.if-not-is_digit.false)
+    λ l. running-on (c.loop-at.invariant l) c.loop-at-test.true (sym c.is_digit.ensures ∙ c.if-not-is_digit.false)
 
 pub returns : goal.returns
 returns c = λ l. run_out (c.loop-at.invariant l) c.loop-at-test.false refl

@@ -15,7 +15,7 @@ use Rattle.json_tokens.proofs.scan.exponent_end.Goals as goal
 use Rattle.json_tokens.proofs.scan.exponent_end.Goals.{Else-not-is_e}
 
 an-e : (c : goal.Else-not-is_e) → is_e (byte_at c.args.text.now c.args.from) ≡ true
-an-e c = ap is_e (sym c.byte_at.ensures) ∙ sym c.is_e.ensures ∙ not-false _ c.if-not-is_e.false
+an-e c = ap is_e (sym c.byte_at.ensures) ∙ sym c.is_e.ensures ∙ c.if-not-is_e.false
 
 inside : (c : goal.Else-not-is_e) → c.args.from < length c.args.text.now
 inside c = let entry = c.before.before.before.before.before in test-inside is_e entry.args.text.now entry.args.from refl (an-e c)
@@ -23,7 +23,7 @@ inside c = let entry = c.before.before.before.before.before in test-inside is_e 
 pub returns-then-not-is_e : goal.returns-then-not-is_e
 returns-then-not-is_e c =
     λ a m h. part-here m
-    (h ∙ stuck-if _ e (ap is_e (sym c.byte_at.ensures) ∙ sym c.is_e.ensures ∙ not-true _ c.if-not-is_e.true))
+    (h ∙ stuck-if _ e (ap is_e (sym c.byte_at.ensures) ∙ sym c.is_e.ensures ∙ c.if-not-is_e.true))
 
 pub overflow_add-from : goal.overflow_add-from
 overflow_add-from c = let i = inside c in search rules

@@ -27,10 +27,10 @@ returns-in-49-to-57 c =
 
 pub returns-in_default : goal.returns-in_default
 returns-in_default c =
-    let b = c.byte_at-c in no-int _ _ b.result b.ensures c.in_default-1.rest.1 (rw (lt-leb 0x31 b.result (omega arith)) refl)
+    let b = c.byte_at-c in no-int _ _ b.result b.ensures (λ e. absurd (omega arith)) (rw (lt-leb 0x31 b.result (omega arith)) refl)
 
 pub returns-in_default-2 : goal.returns-in_default-2
 returns-in_default-2 c =
     let b = c.byte_at-c in
-    no-int _ _ b.result b.ensures c.in_default-1.rest.1
+    no-int _ _ b.result b.ensures (λ e. absurd (omega arith))
     (rw (le-leb 0x31 b.result (omega arith), lt-leb b.result 0x39 (omega arith)) refl)

@@ -13,11 +13,11 @@ pub loop-at-init : goal.loop-at-init
 loop-at-init c = running-start (search rules)
 
 pub returns-then-not-is_space : goal.returns-then-not-is_space
-returns-then-not-is_space c = record { running = c.loop-at.invariant; fails = sym c.is_space.ensures ∙ not-true _ c.if-not-is_space.true }
+returns-then-not-is_space c = record { running = c.loop-at.invariant; fails = sym c.is_space.ensures ∙ c.if-not-is_space.true }
 
 pub loop-at-preserved : goal.loop-at-preserved
 loop-at-preserved c =
-    running-on c.loop-at.invariant c.loop-at-test.true (sym c.is_space.ensures ∙ not-false _ c.if-not-is_space.false)
+    running-on c.loop-at.invariant c.loop-at-test.true (sym c.is_space.ensures ∙ c.if-not-is_space.false)
 
 pub returns : goal.returns
 returns c = run_out c.loop-at.invariant c.loop-at-test.false refl

@@ -5,14 +5,14 @@ use borrow.Author.Tests.{le-leb, lt-leb}
 use Rattle.json_tokens.proofs.tails.width.Goals as goal
 
 pub returns-in-0-to-223 : goal.returns-in-0-to-223
-returns-in-0-to-223 c = let x = c.args.c in (rw (le-leb x 0xDF (omega (arith, c.in-0-to-223.if-c-lt224-own.true))) refl, omega arith)
+returns-in-0-to-223 c = let x = c.args.c in (rw (le-leb x 0xDF (omega arith)) refl, omega arith)
 
 pub returns-in-224-to-239 : goal.returns-in-224-to-239
 returns-in-224-to-239 c =
     let x = c.args.c in
-    (rw (lt-leb x 0xDF (omega (arith, c.if-c-lt224.false)), le-leb x 0xEF (omega (arith, c.in-224-to-239.if-c-lt240-own.true))) refl, omega arith)
+    (rw (lt-leb x 0xDF (omega arith), le-leb x 0xEF (omega arith)) refl, omega arith)
 
 pub returns-in_default : goal.returns-in_default
 returns-in_default c =
     let x = c.args.c in
-    (rw (lt-leb x 0xDF (omega (arith, c.if-c-lt224.false)), lt-leb x 0xEF (omega (arith, c.in_default.if-c-lt240-own.false))) refl, omega arith)
+    (rw (lt-leb x 0xDF (omega arith), lt-leb x 0xEF (omega arith)) refl, omega arith)

@@ -14,18 +14,17 @@ loop-k-init c =
     (omega arith, comparing-start sought.0 sought.1 sought.2)
 
 pub loop-k-preserved : goal.loop-k-preserved
-loop-k-preserved c =
-    (
-      search rules,
-      comparing-word 8 0 c.loop-k.k (λ p. (c.type_inv.text p).fits) (λ p. (c.type_inv.book p).fits)
-          c.loop-k.invariant.1 (omega arith) (omega arith) (omega arith) (omega arith)
-          (c.same_word.ensures (not-false _ c.if-not-same_word.false)),
-    )
+loop-k-preserved c = (
+  search rules,
+  comparing-word 8 0 c.loop-k.k (λ p. (c.type_inv.text p).fits) (λ p. (c.type_inv.book p).fits)
+      c.loop-k.invariant.1 (omega arith) (omega arith) (omega arith) (omega arith)
+      (c.same_word.ensures c.if-not-same_word.false),
+)
 
 pub returns : goal.returns
 returns c = λ t.
     let args = c.args in
-    let e = c.same_word-2.ensures (not-false _ c.if-not-same_word-2.false) in
+    let e = c.same_word-2.ensures c.if-not-same_word-2.false in
     let m = comparing-word 8 0 (args.to - args.from - 8) (λ p. (c.type_inv.text p).fits)
     (λ p. (c.type_inv.book p).fits) c.loop-k.invariant.1 (omega arith) (omega arith) (omega arith) (omega arith) e in
     let z : args.to - args.from - 8 + 8 ≡ args.to - args.from = omega arith in

@@ -19,11 +19,10 @@ returns-then-b-a c =
     comparing-more c.loop-k.invariant.1 c.loop-k-test.true (omega (arith, c.key_byte-a.ensures))
 
 pub loop-k-preserved : goal.loop-k-preserved
-loop-k-preserved c =
-    (
-      search rules,
-      comparing-on c.loop-k.invariant.1 c.loop-k-test.true (omega (arith, c.key_byte-a.ensures)),
-    )
+loop-k-preserved c = (
+  search rules,
+  comparing-on c.loop-k.invariant.1 c.loop-k-test.true (omega (arith, c.key_byte-a.ensures)),
+)
 
 pub returns-then-k-eq-SIZE : goal.returns-then-k-eq-SIZE
 returns-then-k-eq-SIZE c = comparing-whole c.loop-k.invariant.1 (search rules) (search rules)

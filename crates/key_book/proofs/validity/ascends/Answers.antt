@@ -18,11 +18,10 @@ returns-then-b-a c =
     alike-more c.loop-k.invariant.1 (search rules) (omega (arith, c.key_byte-a.ensures, c.key_byte-b.ensures))
 
 pub loop-k-preserved : goal.loop-k-preserved
-loop-k-preserved c =
-    (
-      search rules,
-      alike-on c.loop-k.invariant.1 (search rules) (omega (arith, c.key_byte-a.ensures, c.key_byte-b.ensures)),
-    )
+loop-k-preserved c = (
+  search rules,
+  alike-on c.loop-k.invariant.1 (search rules) (omega (arith, c.key_byte-a.ensures, c.key_byte-b.ensures)),
+)
 
 pub returns : goal.returns
 returns c = alike_end c.loop-k.invariant.1 (search rules)

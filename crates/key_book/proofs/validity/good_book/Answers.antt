@@ -12,11 +12,11 @@ pub loop-i-init : goal.loop-i-init
 loop-i-init c = λ j l. absurd (omega arith)
 
 pub returns-then-not-good_at : goal.returns-then-not-good_at
-returns-then-not-good_at c = subst (GoodAt _ _) (not-true c.good_at.result c.if-not-good_at.true) c.good_at.ensures
+returns-then-not-good_at c = subst (GoodAt _ _) c.if-not-good_at.true c.good_at.ensures
 
 pub loop-i-preserved : goal.loop-i-preserved
 loop-i-preserved c =
-    fine_more _ _ c.loop-i.invariant (subst (GoodAt _ _) (not-false c.good_at.result c.if-not-good_at.false) c.good_at.ensures)
+    fine_more _ _ c.loop-i.invariant (subst (GoodAt _ _) c.if-not-good_at.false c.good_at.ensures)
 
 pub returns : goal.returns
 returns c = book-fine c.args.book.now (λ j l. c.loop-i.invariant j (omega arith))

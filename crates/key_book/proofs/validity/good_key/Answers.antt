@@ -22,7 +22,7 @@ pub returns-then-gap_at : goal.returns-then-gap_at
 returns-then-gap_at c =
     let book = c.args.book.now in
     let i = c.args.i in
-    let g = subst (GapIs _ _) c.if-gap_at.true c.gap_at.ensures in
+    let g = subst (GapIs (book_record book i) c.loop-k.k) c.if-gap_at.true c.gap_at.ensures in
     sym (good-not _ _ c.loop-k.invariant.1 (omega (arith, record-length book i c.requires.0)) g.0 g.1)
 
 pub loop-k-preserved : goal.loop-k-preserved
@@ -31,7 +31,7 @@ loop-k-preserved c =
     let i = c.args.i in (
       search rules,
       good-on _ _ c.loop-k.invariant.1 (omega (arith, record-length book i c.requires.0))
-          (subst (GapIs _ _) c.if-gap_at.false c.gap_at.ensures),
+          (subst (GapIs (book_record book i) c.loop-k.k) c.if-gap_at.false c.gap_at.ensures),
     )
 
 pub returns : goal.returns

@@ -2,7 +2,6 @@
 use mathlib.Core.Path.{ap, ◌∙◌}
 use native.Mathlib.Omega.{arith}
 use borrow.Author.Rules.{rules}
-use borrow.Author.Tests.{not-true, not-false}
 use Rattle.counting_theory.specs.Label.{Label}
 use Rattle.counting_theory.proofs.LabelOrder.{kind-less, kind-more, key-less, key_more, under-kind, no_record, by-lists}
 use Rattle.removal_arena.specs.Inside.Arena.{by_flag, label_at}
@@ -37,7 +36,7 @@ returns-then-key-other_key c =
 pub returns-then-not-label : goal.returns-then-not-label
 unfolding label_at
 returns-then-not-label c =
-    under-kind _ (omega arith) (omega arith) _ _ (ap by_flag (not-true c.args.label c.if-not-label.true))
+    under-kind _ (omega arith) (omega arith) _ _ (ap by_flag c.if-not-label.true)
 
 pub returns-then-kind-ne-RECORD : goal.returns-then-kind-ne-RECORD
 unfolding label_at
@@ -50,4 +49,4 @@ compare_keys-requires c =
 pub returns : goal.returns
 unfolding label_at
 returns c =
-    c.compare_keys.ensures ∙ by-lists _ (omega arith) (omega arith) _ _ (ap by_flag (not-false c.args.label c.if-not-label.false)) (omega arith)
+    c.compare_keys.ensures ∙ by-lists _ (omega arith) (omega arith) _ _ (ap by_flag c.if-not-label.false) (omega arith)

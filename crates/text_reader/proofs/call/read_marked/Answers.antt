@@ -6,8 +6,8 @@ use Rattle.text_reader.proofs.call.read_marked.Goals as goal
 
 pub read_messages-requires : goal.read_messages-requires
 read_messages-requires c =
-    ((c.requires.0, c.requires.1, c.requires.2), (c.requires.3, marks-start _ 4096 (omega (arith, c.if-book-le-FEW_KEYS.true)), omega arith))
+    record { text_len_bound = (c.requires.0, c.requires.1, c.requires.2); table_len_bound = (c.requires.3, marks-start _ 4096 (omega (arith, c.if-book-le-FEW_KEYS.true)), omega arith) }
 
 pub read_messages-requires-2 : goal.read_messages-requires-2
 read_messages-requires-2 c =
-    ((c.requires.0, c.requires.1, c.requires.2), (c.requires.3, marks-start _ 131072 (omega (arith, c.requires.1)), omega arith))
+    record { text_len_bound = (c.requires.0, c.requires.1, c.requires.2); table_len_bound = (c.requires.3, marks-start _ 131072 (omega (arith, c.requires.1)), omega arith) }

@@ -11,10 +11,10 @@ use Rattle.text_reader.proofs.call.read_text.Goals as goal
 use Rattle.text_reader.proofs.call.read_text.Goals.{After-records_of}
 
 -- the records that are counted stand in the table
-counted : (c : goal.After-records_of) → let f = (record { before = c.before.before.before.before.before; type_inv = record { book = c.type_inv.book; text = c.type_inv.text } }) in let s = f.before.before.before.before.before in c.records_of.result ≡ (read s.args.text.now s.args.book.now (length s.args.table.now)).outcome.count
+counted : (c : goal.After-records_of) → c.records_of.result ≡ (read c.args.text.now c.args.book.now (length c.args.table.now)).outcome.count
 counted c = c.records_of.ensures ∙ ap (λ o. o.count) c.read_front-answer.ensures.outcome
 
-room : (c : goal.After-records_of) → let f = (record { before = c.before.before.before.before.before; type_inv = record { book = c.type_inv.book; text = c.type_inv.text } }) in let s = f.before.before.before.before.before in record_size * c.records_of.result ≤ length s.args.table.now
+room : (c : goal.After-records_of) → record_size * c.records_of.result ≤ length c.args.table.now
 room c =
     omega (arith, counted c, c.read_front-answer.ensures.room, c.read_front-answer.auto.table)
 

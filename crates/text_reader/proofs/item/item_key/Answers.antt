@@ -6,21 +6,21 @@ use Rattle.text_reader.proofs.item.item_key.Goals as goal
 
 pub field_key-requires : goal.field_key-requires
 field_key-requires c =
-    ((c.requires.0, c.requires.1, c.requires.2), (c.requires.3, c.if-level.true))
+    record { place_in = (c.requires.0, c.requires.1, c.requires.2); level_fits = (c.requires.3, c.if-level.true) }
 
 pub returns-then-level : goal.returns-then-level
 returns-then-level c =
-    (
-      c.field_key.ensures.0,
-      λ room σ around w a r l m.
+    record {
+      key_place = c.field_key.ensures.key_place;
+      by_index = λ room σ around w a r l m.
           let b = in-object around (l.object-is ∙ c.if-level.true) in
           field-item c.args.text.now c.args.book.now c.field_key.new.seen room σ c.args.at around b c.field_key.result
-          (c.field_key.ensures.1 room b.key b.done b.outer σ (rw b.is at w) a r (rw b.is at l) (rw b.is at m)),
-    )
+          (c.field_key.ensures.by_index room b.key b.done b.outer σ (rw b.is at w) a r (rw b.is at l) (rw b.is at m));
+    }
 
 pub returns-else-level : goal.returns-else-level
 returns-else-level c =
-    (
-      search rules,
-      λ room σ around w a r l m. no_key c.args.text.now c.args.book.now c.args.seen.now room σ c.args.at around w (l.object-is ∙ c.if-level.false) a r m,
-    )
+    record {
+      key_place = search rules;
+      by_index = λ room σ around w a r l m. no_key c.args.text.now c.args.book.now c.args.seen.now room σ c.args.at around w (l.object-is ∙ c.if-level.false) a r m;
+    }

@@ -45,10 +45,8 @@ returns-in-48-to-57 c = sym (digit-kind c.args.c (omega arith) (omega arith))
 
 pub returns-in_default : goal.returns-in_default
 returns-in_default c =
-    let m = c.in_default-1.rest in
-    sym (other-kind c.args.c m.0.0.0.0.0.0.1 m.0.0.0.0.0.1 m.0.0.0.0.1 m.0.0.0.1 m.0.0.1 m.0.1 m.1 (λ l h. let t = c.in_default.if-c-lt48-own.true in below _ t l))
+    sym (other-kind c.args.c (λ e. absurd (omega arith)) (λ e. absurd (omega arith)) (λ e. absurd (omega arith)) (λ e. absurd (omega arith)) (λ e. absurd (omega arith)) (λ e. absurd (omega arith)) (λ e. absurd (omega arith)) (λ l h. below _ (omega arith) l))
 
 pub returns-in_default-2 : goal.returns-in_default-2
 returns-in_default-2 c =
-    let m = c.in_default-1.rest in
-    sym (other-kind c.args.c m.0.0.0.0.0.0.1 m.0.0.0.0.0.1 m.0.0.0.0.1 m.0.0.0.1 m.0.0.1 m.0.1 m.1 (λ l h. let t = c.in_default.if-c-lt58-own.false in above _ t h))
+    sym (other-kind c.args.c (λ e. absurd (omega arith)) (λ e. absurd (omega arith)) (λ e. absurd (omega arith)) (λ e. absurd (omega arith)) (λ e. absurd (omega arith)) (λ e. absurd (omega arith)) (λ e. absurd (omega arith)) (λ l h. above _ (omega arith) h))

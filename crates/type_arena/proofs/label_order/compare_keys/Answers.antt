@@ -1,6 +1,5 @@
 -- `compare_keys` meets its contract. The loop's invariant: the key lists compare as the keys before and what is left of them.
-use Rattle.std.proofs.Common.{◌-◌, inl, inr, ⊎_elim, arith, rules, eqb-true}
-use borrow.Author.Tests.{eqb-false}
+use Rattle.std.proofs.Common.{◌-◌, inl, inr, ⊎_elim, arith, rules}
 use Rattle.byte_records.proofs.Chain.{chain-le}
 use Rattle.counting_theory.specs.Encoding.{type_key, type_span}
 use Rattle.counting_theory.proofs.KeyOrder.{Comparing, comparing-start, one-ends, left-sibling, right-sibling, next_keys}
@@ -34,44 +33,44 @@ overflow_sub-y_end c = omega (arith, chain-le c.loop-i.invariant.right-chain)
 
 pub key_at-requires : goal.key_at-requires
 key_at-requires c =
-    let f = left-sibling c.loop-i.invariant c.if-i-x_end.false (eqb-false _ _ c.if-j-y_end.false) in
+    let f = left-sibling c.loop-i.invariant c.if-i-x_end.false c.if-j-y_end.false in
     omega arith
 
 pub key_at-requires-in-loop-i : goal.key_at-requires-in-loop-i
 key_at-requires-in-loop-i c =
-    let g = right-sibling c.loop-i.invariant c.if-i-x_end.false (eqb-false _ _ c.if-j-y_end.false) in
+    let g = right-sibling c.loop-i.invariant c.if-i-x_end.false c.if-j-y_end.false in
     omega arith
 
 pub span_at-i-requires : goal.span_at-i-requires
 span_at-i-requires c =
-    let f = left-sibling c.loop-i.invariant c.if-i-x_end.false (eqb-false _ _ c.if-j-y_end.false) in
+    let f = left-sibling c.loop-i.invariant c.if-i-x_end.false c.if-j-y_end.false in
     omega arith
 
 pub overflow_add-i-in-loop-i : goal.overflow_add-i-in-loop-i
 overflow_add-i-in-loop-i c =
-    let f = left-sibling c.loop-i.invariant c.if-i-x_end.false (eqb-false _ _ c.if-j-y_end.false) in
+    let f = left-sibling c.loop-i.invariant c.if-i-x_end.false c.if-j-y_end.false in
     omega arith
 
 pub span_at-j-requires : goal.span_at-j-requires
 span_at-j-requires c =
-    let g = right-sibling c.loop-i.invariant c.if-i-x_end.false (eqb-false _ _ c.if-j-y_end.false) in
+    let g = right-sibling c.loop-i.invariant c.if-i-x_end.false c.if-j-y_end.false in
     omega arith
 
 pub overflow_add-j-in-loop-i : goal.overflow_add-j-in-loop-i
 overflow_add-j-in-loop-i c =
-    let g = right-sibling c.loop-i.invariant c.if-i-x_end.false (eqb-false _ _ c.if-j-y_end.false) in
+    let g = right-sibling c.loop-i.invariant c.if-i-x_end.false c.if-j-y_end.false in
     omega arith
 
 pub loop-i-smaller : goal.loop-i-smaller
 loop-i-smaller c =
-    let f = left-sibling c.loop-i.invariant c.if-i-x_end.false (eqb-false _ _ c.if-j-y_end.false) in
+    let f = left-sibling c.loop-i.invariant c.if-i-x_end.false c.if-j-y_end.false in
     omega arith
 
 pub loop-i-preserved : goal.loop-i-preserved
 loop-i-preserved c =
     rw (c.span_at-i.ensures.0, c.span_at-j.ensures.0, c.then_order-so_far.ensures, c.compare_numbers-in-loop-i.ensures, c.key_at.ensures, c.key_at-in-loop-i.ensures)
-    (next_keys c.loop-i.invariant c.if-i-x_end.false (eqb-false _ _ c.if-j-y_end.false))
+    (next_keys c.loop-i.invariant c.if-i-x_end.false c.if-j-y_end.false)
 
 pub returns : goal.returns
 returns c =
-    one-ends c.loop-i.invariant (⊎_elim (λ w. inl w.taken) (λ w. inr (eqb-true _ _ w.1.taken)) c.then-i-x_end.branch) c.compare_numbers.ensures c.then_order-order.ensures
+    one-ends c.loop-i.invariant (⊎_elim inl (λ w. inr w.1) c.then-i-x_end.either) c.compare_numbers.ensures c.then_order-order.ensures

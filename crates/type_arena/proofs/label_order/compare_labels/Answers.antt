@@ -1,6 +1,5 @@
 -- `compare_labels` meets its contract.
 use Rattle.std.proofs.Common.{ap, ◌∙◌, arith, rules}
-use borrow.Author.Tests.{not-true, not-false}
 use Rattle.counting_theory.specs.Label.{Label}
 use Rattle.counting_theory.proofs.LabelOrder.{kind-less, kind-more, key-less, key_more, under-kind, no_record, by-lists}
 use Rattle.type_arena.specs.Inside.Arena.{by_flag, label_at}
@@ -35,7 +34,7 @@ returns-then-key-other_key c =
 pub returns-then-not-label : goal.returns-then-not-label
 unfolding label_at
 returns-then-not-label c =
-    under-kind _ (omega arith) (omega arith) _ _ (ap by_flag (not-true c.args.label c.if-not-label.true))
+    under-kind _ (omega arith) (omega arith) _ _ (ap by_flag c.if-not-label.true)
 
 pub returns-then-kind-ne-RECORD : goal.returns-then-kind-ne-RECORD
 unfolding label_at
@@ -48,4 +47,4 @@ compare_keys-requires c =
 pub returns : goal.returns
 unfolding label_at
 returns c =
-    c.compare_keys.ensures ∙ by-lists _ (omega arith) (omega arith) _ _ (ap by_flag (not-false c.args.label c.if-not-label.false)) (omega arith)
+    c.compare_keys.ensures ∙ by-lists _ (omega arith) (omega arith) _ _ (ap by_flag c.if-not-label.false) (omega arith)

@@ -8,4 +8,4 @@ pub returns : goal.returns
 unfolding payload_of
 returns c =
     let x = c.args in
-    wrapped-join (payload_of x.a) (payload_of x.b) _ c.wrapping_add_usize.ensures c.smaller.ensures c.larger.ensures
+    wrapped-join (payload_of x.a) (payload_of x.b) _ c.wrapping_add_usize.ensures.value c.smaller.ensures c.larger.ensures

@@ -3,7 +3,6 @@ use mathlib.Core.Path.{◌≡◌, refl, sym, ◌∙◌}
 use mathlib.Core.Bool.{false, ◌||◌}
 use Prim.Native.Nat.{ℕ}
 use lib.ListN.{length}
-use borrow.Author.Tests.{not-true, not-false}
 use borrow.Author.Rules.{rules}
 use Rattle.byte_records.proofs.Tests.{or_parts}
 use Rattle.counting_theory.specs.WellFormed.{bad_type_length}
@@ -27,7 +26,7 @@ well_formed-requires c =
 
 pub returns-then-not-well_formed : goal.returns-then-not-well_formed
 returns-then-not-well_formed c =
-    λ work. rw (sym c.bad_lengths.ensures ∙ c.if-bad_lengths.false, known _ c.if-equivalence-gt-BY_LABEL.false, sym c.well-formed.ensures ∙ not-true _ c.if-not-well_formed.true) refl
+    λ work. rw (sym c.bad_lengths.ensures ∙ c.if-bad_lengths.false, known _ c.if-equivalence-gt-BY_LABEL.false, sym c.well_formed-2.ensures ∙ c.if-not-well_formed.true) refl
 
 pub well_formed-requires-2 : goal.well_formed-requires-2
 well_formed-requires-2 c =
@@ -36,13 +35,13 @@ well_formed-requires-2 c =
 
 pub returns-then-not-well_formed-2 : goal.returns-then-not-well_formed-2
 returns-then-not-well_formed-2 c =
-    λ work. rw (sym c.bad_lengths.ensures ∙ c.if-bad_lengths.false, known _ c.if-equivalence-gt-BY_LABEL.false, sym c.well-formed.ensures ∙ not-false _ c.if-not-well_formed.false, sym c.well_formed-2.ensures ∙ not-true _ c.if-not-well_formed-2.true) refl
+    λ work. rw (sym c.bad_lengths.ensures ∙ c.if-bad_lengths.false, known _ c.if-equivalence-gt-BY_LABEL.false, sym c.well_formed-2.ensures ∙ c.if-not-well_formed.false, sym c.well_formed-3.ensures ∙ c.if-not-well_formed-2.true) refl
 
 pub returns : goal.returns
 returns c =
     let a = c.args in
     let allowed = sym c.bad_lengths.ensures ∙ c.if-bad_lengths.false in
     let l = lengths (length a.first.now) (length a.second.now) a.arena allowed in
-    let first = sym c.well-formed.ensures ∙ not-false _ c.if-not-well_formed.false in
-    let second = sym c.well_formed-2.ensures ∙ not-false _ c.if-not-well_formed-2.false in
+    let first = sym c.well_formed-2.ensures ∙ c.if-not-well_formed.false in
+    let second = sym c.well_formed-3.ensures ∙ c.if-not-well_formed-2.false in
     ((well-formed-type _ _ (λ p. (c.type_inv.first p).fits) l.0).0 first, (well-formed-type _ _ (λ p. (c.type_inv.second p).fits) l.1).0 second, λ work. rw (allowed, known _ c.if-equivalence-gt-BY_LABEL.false, first, second) refl)

@@ -1,5 +1,4 @@
 -- `bad_key` meets its contract.
-use borrow.Author.Rules.{rules}
 use Rattle.value_table.specs.Judged.{bad_key}
 use Rattle.value_table.proofs.faults.bad_key.Goals as goal
 

@@ -1,6 +1,5 @@
 -- `bad_kind` meets its contract.
 use borrow.Author.Tests.{lt-leb, le-leb}
-use borrow.Author.Rules.{rules}
 use Rattle.value_table.specs.Judged.{bad_kind}
 use Rattle.value_table.proofs.faults.bad_kind.Goals as goal
 

@@ -1,6 +1,5 @@
 -- `bad_span` meets its contract.
 use borrow.Author.Tests.{eq-eqb, ne_eqb, lt-ltb, le-ltb, lt-leb, le-leb}
-use borrow.Author.Rules.{rules}
 use Rattle.value_table.specs.Judged.{bad_span}
 use Rattle.value_table.proofs.faults.bad_span.Goals as goal
 

@@ -2,25 +2,23 @@
 use mathlib.Core.Path.{◌≡◌, sym, ap, ◌∙◌}
 use mathlib.Core.Bool.{Bool, true, false}
 use mathlib.Core.List.{List}
-use mathlib.Core.Logic.{⊎_elim}
 use Prim.Native.Nat.{ℕ}
 use lib.ListN.{length}
-use borrow.Author.Rules.{rules}
-use borrow.Author.Tests.{lt-ltb, le-ltb, not-false}
+use borrow.Author.Tests.{lt-ltb, le-ltb}
 use Rattle.value_table.specs.Judged.{fault, bad_kind, bad_span, bad_key, too_large, repeated, too_many, too_deep}
 use Rattle.value_table.specs.Inside.EarlierFields.{FieldsBefore}
 use Rattle.value_table.proofs.Faultless.{scalar-fine}
 use Rattle.value_table.proofs.EarlierFields.{first_field, many-same}
 use Rattle.value_table.proofs.faults.fault_at.Goals as goal
-use Rattle.value_table.proofs.faults.fault_at.Goals.{Else-bad_key, Else-repeats, Else-too_large, Else-too_many, Joined-not-plain_scalar}
+use Rattle.value_table.proofs.faults.fault_at.Goals.{then-not-plain_scalar+else-bad_kind+else-bad_span, else-not-plain_scalar, Else-bad_key, Else-repeats, Else-too_large, Else-too_many, Joined-not-plain_scalar}
 
 -- a plain scalar, or neither test found a fault
 head-fine : (c : goal.Joined-not-plain_scalar) → let a = c.args in (bad_kind a.table.now a.i ≡ false) × (bad_span a.table.now a.i a.end ≡ false)
 head-fine c =
-    ⊎_elim
-    (λ w. (sym w.1.ensures ∙ w.2.left, sym w.3.ensures ∙ w.4.left))
-    (λ w. scalar-fine _ _ _ (c.plain_scalar.ensures.0 (not-false _ w.left)) c.requires.2)
-    c.if-not-plain_scalar.branch
+    elim c.if-not-plain_scalar.branch [
+      | then-not-plain_scalar+else-bad_kind+else-bad_span w ↦ (sym w.bad_kind.ensures ∙ w.if-bad_kind.false, sym w.bad_span.ensures ∙ w.if-bad_span.false)
+      | else-not-plain_scalar w ↦ scalar-fine _ _ _ (c.plain_scalar.ensures.0 w.if-not-plain_scalar.false) c.requires.2
+    ]
 
 key-fine : (c : goal.Else-bad_key) → let a = c.args in (f : Bool) (ks : List ℕ) → FieldsBefore a.table.now a.i a.first f ks → bad_key a.table.now a.i f ≡ false
 key-fine c f ks h = sym (c.bad_key.ensures ∙ ap (bad_key _ _) (first_field h)) ∙ c.if-bad_key.false

@@ -1,12 +1,7 @@
 -- `key_before` meets its contract.
 use mathlib.Core.Path.{refl, sym, ◌∙◌}
-use mathlib.Core.List.{List}
-use Prim.Native.Nat.{ℕ, ◌-◌}
 use native.Mathlib.Omega.{arith}
-use borrow.Author.Rules.{rules}
-use Rattle.value_table.specs.Value.{key_at, span_at}
-use Rattle.byte_records.specs.Inside.Chain.{Chain}
-use Rattle.value_table.proofs.EarlierFields.{Left, left_step, left-found, left-next, left-none}
+use Rattle.value_table.proofs.EarlierFields.{left_step, left-found, left-next, left-none}
 use Rattle.value_table.proofs.faults.key_before.Goals as goal
 
 pub loop-p-init : goal.loop-p-init

@@ -1,5 +1,4 @@
 -- `too_large` meets its contract.
-use borrow.Author.Rules.{rules}
 use Rattle.value_table.specs.Judged.{too_large}
 use Rattle.value_table.proofs.faults.too_large.Goals as goal
 

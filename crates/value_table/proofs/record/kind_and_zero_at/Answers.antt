@@ -2,7 +2,6 @@
 use Prim.Native.Nat.{◌*◌}
 use native.Mathlib.Nat.{add-zero}
 use native.Mathlib.Omega.{arith}
-use borrow.Author.Rules.{rules}
 use Rattle.byte_records.specs.Format.{field_at}
 use Rattle.value_table.specs.Value.{record_size, kind_at, zero_at}
 use Rattle.byte_records.proofs.Number.{number_at-add}

@@ -1,7 +1,6 @@
 -- `store_value` meets its contract.
 use native.Mathlib.Omega.{arith}
 use Prim.Native.Nat.{◌*◌}
-use borrow.Author.Rules.{rules}
 use Rattle.value_table.specs.Value.{record_size}
 use Rattle.value_table.proofs.Stores.{sets-value}
 use Rattle.value_table.proofs.record_store.store_value.Goals as goal

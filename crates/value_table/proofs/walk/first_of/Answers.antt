@@ -1,6 +1,5 @@
 -- `first_of` meets its contract.
 use borrow.Author.Tests.{eq-eqb, ne_eqb}
-use borrow.Author.Rules.{rules}
 use Rattle.value_table.proofs.walk.first_of.Goals as goal
 
 pub returns-then-kind_at-eq-RECORD : goal.returns-then-kind_at-eq-RECORD

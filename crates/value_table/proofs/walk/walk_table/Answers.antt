@@ -1,9 +1,8 @@
 -- `walk_table` meets its contract.
 use mathlib.Core.Path.{◌≡◌, refl, sym, ap, ◌∙◌}
-use Prim.Native.Nat.{◌+◌, ◌*◌, ◌-◌, ◌≤◌, ◌<◌}
+use Prim.Native.Nat.{◌+◌, ◌-◌, ◌≤◌, ◌<◌}
 use native.Mathlib.Omega.{arith}
 use lib.ListN.{set}
-use borrow.Author.Rules.{rules}
 use Rattle.value_table.specs.Inside.EarlierFields.{number_of_finding, innermost_of, Latest}
 use Rattle.value_table.specs.Value.{max_depth, records}
 use Rattle.byte_records.specs.Number.{Bytes}
@@ -38,8 +37,8 @@ room c =
     let p = looked c in
     walking-room (turn p).loop-i.invariant.0 (turn p).loop-i-test.true (inner p) (bytes p) (fine c)
 
-latest-after : (c : goal.After-bucket_of) → let p = (turn (looked (record { before = c.before.before; type_inv = record { table = c.type_inv.table } }))).before in Latest p.before.before.args.table.now (p.loop.i + 1) (set p.loop.latest c.bucket_of.result p.loop.i)
-latest-after c = rw c.bucket_of.ensures.0 (latest-next (turn (looked (record { before = c.before.before; type_inv = record { table = c.type_inv.table } }))).loop-i.invariant.1)
+latest-after : (c : goal.After-bucket_of) → Latest c.args.table.now (c.loop-i.i + 1) (set c.loop-i.latest c.bucket_of.result c.loop-i.i)
+latest-after c = rw c.bucket_of.ensures.0 (latest-next c.loop-i.invariant.1)
 
 pub loop-i-init : goal.loop-i-init
 loop-i-init c = (walking_start _ _ _ _ refl refl, latest-start _ _ refl)
