@@ -11,7 +11,7 @@ use Rattle.counting_theory.specs.Inside.TypeBytes.{type_count}
 use Rattle.counting_theory.specs.WellFormed.{max_total}
 use Rattle.counting_theory.specs.Inside.RecordsHold.{RecordsHold}
 use Rattle.counting_theory.proofs.WellFormed.RecordsHold.{holds-first}
-use Rattle.report.specs.Report.{largest_count}
+use Rattle.report.specs.Report.{largest_count, whole_inside}
 use Rattle.report.specs.Inside.Walk.{largest_from, Shares}
 
 module _ (b : List ℕ) (n i largest : ℕ) where
@@ -48,4 +48,4 @@ largest-held {e} {b} {end} {field} {depth} {f} h =
 pub largest-below : (whole : ℕ) (f : CountingType) → Shares whole f → whole ≤ max_total → largest_count f ≤ max_total
 unfolding largest_count
 largest-below whole nil s h = omega arith
-largest-below whole (node l a c s) sh h = omega (arith, sh.1, largest-below _ c sh.3 sh.2, largest-below whole s sh.4 h)
+largest-below whole (node l a c s) sh h = omega (arith, sh.1, largest-below (whole_inside l a.count c) c sh.3 sh.2, largest-below whole s sh.4 h)

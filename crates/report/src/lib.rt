@@ -1,4 +1,6 @@
 // The text of the profile program: the report of a type, one line per type record, or the line of a refusal.
+#![tactic(auto)]
+
 mod decimal;
 mod line;
 mod walk;

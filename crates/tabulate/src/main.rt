@@ -1,57 +1,79 @@
 // The tabulate program: reads a JSON text from standard input, with the key book in the file that its argument names, and writes the text's
 // value table; a refusal is a line on standard error.
-use libc::{STDERR_FILENO, STDIN_FILENO, STDOUT_FILENO};
+#![tactic(auto)]
+
+use std::alloc::Global;
+use std::env::{Env, FillError};
+use std::fs::File;
+use std::io;
+use std::io::Read;
 use text_reader::call;
 use value_table::record;
 
 // One byte more than a text or a book may have, so that longer input is seen to be too long.
 const INPUT_LENGTH: usize = record::MAX_LENGTH + 1;
 
-fn print_refusal(number: u64, place: u64) {
-    io::write_all(STDERR_FILENO, b"refused ");
-    io::print_decimal(STDERR_FILENO, number);
-    io::write_all(STDERR_FILENO, b" ");
-    io::print_decimal(STDERR_FILENO, place);
-    io::write_all(STDERR_FILENO, b"\n");
+fn print_refusal(rt: &HostRuntime, number: u64, place: u64) -> io::Result<()> {
+    eprintln!(rt; "refused {number} {place}")
 }
 
-fn write_table(text: &[u8], book: &[u8]) {
+fn write_table(rt: &HostRuntime, text: &[u8], book: &[u8]) -> io::Result<()> {
     let mut table = [0u8; record::MAX_LENGTH];
     let answer = call::answer_of(call::read_text(text, book, &mut table));
     if answer.number != 0 {
-        print_refusal(answer.number, answer.place);
-        return;
+        return print_refusal(rt, answer.number, answer.place);
     }
     let n = record::SIZE * (answer.count as usize);
-    io::write_all(STDOUT_FILENO, &table[..n]);
+    rt.write_all(&table[..n])
+}
+
+// All that a text or a book may have, and a byte more.
+fn read_all<R: Read + Drop>(alloc: Global, from: R) -> io::Result<Vec<u8>> {
+    let mut bytes = Vec::new(alloc);
+    from.take(INPUT_LENGTH as u64).read_to_end(&mut bytes)?;
+    Ok(bytes)
 }
 
 // Whether nothing can be read, as from a folder; at the end of a file this is false.
-fn is_unreadable(file: i32) -> bool {
+fn is_unreadable(mut file: &File) -> bool {
     let mut byte = [0u8; 1];
-    libc::read(file, &mut byte) < 0
+    file.read(&mut byte).is_err()
 }
 
-fn main() {
-    let mut path = io::buffer();
-    let length = os::arg(1, &mut path);
-    if os::errno() != 0 {
-        os::fail(b"key book");
-        return;
+// What failed, and the system's words for it, without the number that may stand behind them.
+fn print_failure(rt: &HostRuntime, what: &str, error: io::Error) -> io::Result<()> {
+    let text = format!(in rt.alloc(); "{error}")?;
+    let words = match text.split_once(" (os error ") {
+        Some((words, _)) => words,
+        None => text.as_str(),
+    };
+    eprintln!(rt; "{what}: {words}")
+}
+
+fn tabulate(rt: &HostRuntime, path: &str) -> io::Result<()> {
+    let file = match File::open(rt, path) {
+        Ok(file) => file,
+        Err(error) => return print_failure(rt, path, error),
+    };
+    match read_all(rt.alloc(), &file) {
+        Ok(book) => {
+            let text = read_all(rt.alloc(), rt.stdin())?;
+            write_table(rt, &text, &book)
+        }
+        Err(error) if is_unreadable(&file) => print_failure(rt, path, error),
+        Err(error) => Err(error),
     }
-    let file = os::open_read(&path[..length]);
-    if file < 0 {
-        os::fail(&path[..length]);
-        return;
+}
+
+fn main(rt: HostRuntime) -> io::Result<()> {
+    let mut path = [0u8; 4096];
+    let length = match rt.arg(1, &mut path) {
+        Ok(length) => length,
+        Err(FillError::NotPresent) => return eprintln!(rt; "key book: Invalid argument"),
+        Err(FillError::TooLong) => return eprintln!(rt; "key book: File name too long"),
+    };
+    match std::str::from_utf8(&path[..length]) {
+        Ok(path) => tabulate(&rt, path),
+        Err(_) => eprintln!(rt; "key book: The path is not UTF-8"),
     }
-    let mut book = [0u8; INPUT_LENGTH];
-    let b = io::read_full(file, &mut book);
-    if b == 0 && is_unreadable(file) {
-        os::fail(&path[..length]);
-        return;
-    }
-    libc::close(file);
-    let mut text = [0u8; INPUT_LENGTH];
-    let t = io::read_full(STDIN_FILENO, &mut text);
-    write_table(&text[..t], &book[..b]);
 }

@@ -1,6 +1,9 @@
 // What a line of the output says: the numbers of an answer, and what a call has left in the buffers lent to it.
+#![tactic(auto)]
+
 ghost use Rattle.std.specs.Prelude.{◌≡◌, ◌<◌};
 
+use std::io;
 use trial_notation::records::{
     COUNT, KEY, KIND, LONGEST, Layout, SHORTEST, SPAN, count_in, number_at, start_of,
 };
@@ -9,15 +12,14 @@ use trial_notation::text::part;
 // A longer run of records is printed as its checksum.
 pub const MOST_PRINTED: usize = 64;
 
-pub fn print(number: u64) {
-    io::write_all(1, b" ");
-    io::print_decimal(1, number);
+pub fn print(rt: &impl Print, number: u64) -> io::Result<()> {
+    print!(rt; " {number}")
 }
 
-pub fn print_answer(answer: value_table::Answer) {
-    print(answer.number);
-    print(answer.place);
-    print(answer.count);
+pub fn print_answer(rt: &impl Print, answer: value_table::Answer) -> io::Result<()> {
+    print(rt, answer.number)?;
+    print(rt, answer.place)?;
+    print(rt, answer.count)
 }
 
 fn wide(x: u8) -> u64
@@ -50,53 +52,55 @@ fn checksum(bytes: &[u8]) -> u64 {
     high * 65536 + low
 }
 
-pub fn print_checksum(bytes: &[u8]) {
-    io::write_all(1, b" adler32");
-    print(checksum(bytes));
+pub fn print_checksum(rt: &impl Print, bytes: &[u8]) -> io::Result<()> {
+    rt.write_all(b" adler32")?;
+    print(rt, checksum(bytes))
 }
 
 // The shortest and the longest length of the arrays of record i, where they are not both zero.
-fn print_lengths(bytes: &[u8], i: usize) {
+fn print_lengths(rt: &impl Print, bytes: &[u8], i: usize) -> io::Result<()> {
     let shortest = number_at(bytes, Layout::Type, i, SHORTEST);
     let longest = number_at(bytes, Layout::Type, i, LONGEST);
     if shortest != 0 || longest != 0 {
-        print(shortest);
-        print(longest);
+        print(rt, shortest)?;
+        print(rt, longest)?;
     }
+    Ok(())
 }
 
 // The numbers of record i, written as in the trials.
-fn print_record(bytes: &[u8], layout: Layout, i: usize) {
-    print(number_at(bytes, layout, i, KIND));
-    print(number_at(bytes, layout, i, KEY));
-    print(number_at(bytes, layout, i, SPAN));
-    print(number_at(bytes, layout, i, COUNT));
+fn print_record(rt: &impl Print, bytes: &[u8], layout: Layout, i: usize) -> io::Result<()> {
+    print(rt, number_at(bytes, layout, i, KIND))?;
+    print(rt, number_at(bytes, layout, i, KEY))?;
+    print(rt, number_at(bytes, layout, i, SPAN))?;
+    print(rt, number_at(bytes, layout, i, COUNT))?;
     match layout {
-        Layout::Type => print_lengths(bytes, i),
-        _ => (),
+        Layout::Type => print_lengths(rt, bytes, i),
+        _ => Ok(()),
     }
 }
 
-fn print_records(bytes: &[u8], layout: Layout) {
+fn print_records(rt: &impl Print, bytes: &[u8], layout: Layout) -> io::Result<()> {
     let n = count_in(layout, bytes.len());
     for i in 0..n {
         if 0 < i {
-            io::write_all(1, b";");
+            rt.write_all(b";")?;
         }
-        print_record(bytes, layout, i);
+        print_record(rt, bytes, layout, i)?;
     }
+    Ok(())
 }
 
 // The type that a call has written.
-pub fn print_type(bytes: &[u8], layout: Layout) {
+pub fn print_type(rt: &impl Print, bytes: &[u8], layout: Layout) -> io::Result<()> {
     if bytes.len() == 0 {
-        return;
+        return Ok(());
     }
-    io::write_all(1, b":");
+    rt.write_all(b":")?;
     if count_in(layout, bytes.len()) <= MOST_PRINTED {
-        print_records(bytes, layout);
+        print_records(rt, bytes, layout)
     } else {
-        print_checksum(bytes);
+        print_checksum(rt, bytes)
     }
 }
 

@@ -3,6 +3,7 @@
 ghost use Rattle.std.specs.Prelude.{◌+◌, ◌*◌, ◌≤◌, length};
 
 use byte_records::little_endian::number64;
+use std::io;
 use trial_notation::buffers::{DIRT, ROOM, largest};
 use trial_notation::notation::build;
 use trial_notation::records::{KIND, Layout, RECORD, count_in, number_at};
@@ -18,32 +19,33 @@ const ENTRY: usize = 16;
 // The most bytes of all entries. They are lent where a line names no length.
 const MOST_ENTRIES: usize = record::MAX_LENGTH / ENTRY * ENTRY;
 
-fn print_entry(entries: &[u8], i: usize)
+fn print_entry(rt: &impl Print, entries: &[u8], i: usize) -> io::Result<()>
     requires { 16 * i + 16 ≤ length entries.now }
 {
-    print(number64(entries, ENTRY * i) as u64);
-    print(number64(entries, ENTRY * i + ENTRY / 2) as u64);
+    print(rt, number64(entries, ENTRY * i) as u64)?;
+    print(rt, number64(entries, ENTRY * i + ENTRY / 2) as u64)
 }
 
-fn print_each(entries: &[u8]) {
+fn print_each(rt: &impl Print, entries: &[u8]) -> io::Result<()> {
     let n = entries.len() / ENTRY;
     for i in 0..n {
         if 0 < i {
-            io::write_all(1, b";");
+            rt.write_all(b";")?;
         }
-        print_entry(entries, i);
+        print_entry(rt, entries, i)?;
     }
+    Ok(())
 }
 
-fn print_entries(entries: &[u8]) {
+fn print_entries(rt: &impl Print, entries: &[u8]) -> io::Result<()> {
     if entries.len() == 0 {
-        return;
+        return Ok(());
     }
-    io::write_all(1, b" |");
+    rt.write_all(b" |")?;
     if entries.len() / ENTRY <= MOST_PRINTED {
-        print_each(entries);
+        print_each(rt, entries)
     } else {
-        print_checksum(entries);
+        print_checksum(rt, entries)
     }
 }
 
@@ -60,24 +62,36 @@ fn entry_bytes(bytes: &[u8]) -> usize {
 }
 
 // The answer, and what the call has left.
-fn print_left(answer: Answer, arena: &[u8], work: &[u8], entries: &[u8]) {
+fn print_left(
+    rt: &impl Print,
+    answer: Answer,
+    arena: &[u8],
+    work: &[u8],
+    entries: &[u8],
+) -> io::Result<()> {
     let written = type_in(arena, Layout::Type, answer.count);
     let end = entry_bytes(written);
-    print_answer(answer);
-    print(nonzero(behind_type(arena, Layout::Type, answer.count)));
-    print(nonzero(work));
-    print(nonzero(part(entries, end, entries.len())));
-    print_type(written, Layout::Type);
-    print_entries(part(entries, 0, end));
+    print_answer(rt, answer)?;
+    print(rt, nonzero(behind_type(arena, Layout::Type, answer.count)))?;
+    print(rt, nonzero(work))?;
+    print(rt, nonzero(part(entries, end, entries.len())))?;
+    print_type(rt, written, Layout::Type)?;
+    print_entries(rt, part(entries, 0, end))
 }
 
-fn infer_into(table: &[u8], arena: &mut [u8], work: &mut [u8], entries: &mut [u8]) {
+fn infer_into(
+    rt: &impl Print,
+    table: &[u8],
+    arena: &mut [u8],
+    work: &mut [u8],
+    entries: &mut [u8],
+) -> io::Result<()> {
     let answer = answers::answer_of(tag_bus::infer_tag_bus(table, arena, work, entries));
-    print_left(answer, arena, work, entries);
+    print_left(rt, answer, arena, work, entries)
 }
 
 // Call 8. The line may name the lengths of the entries, of the arena, of the working buffer and of the table.
-pub fn try_tag_bus(head: &[u8], records: &[u8]) {
+pub fn try_tag_bus(rt: &impl Print, head: &[u8], records: &[u8]) -> io::Result<()> {
     let mut bytes = [0u8; ROOM];
     let mut arena = [DIRT; ROOM];
     let mut work = [DIRT; ROOM];
@@ -91,12 +105,14 @@ pub fn try_tag_bus(head: &[u8], records: &[u8]) {
         if work_length <= ROOM {
             if entries_length <= ROOM {
                 infer_into(
+                    rt,
                     table,
                     &mut arena[0..length],
                     &mut work[0..work_length],
                     &mut entries[0..entries_length],
-                );
+                )?;
             }
         }
     }
+    Ok(())
 }

@@ -1,5 +1,6 @@
 // Trials of the calls that write a type for two others, without a working buffer.
 use answers::Answered;
+use std::io;
 use trial_notation::buffers::{DIRT, ROOM, largest};
 use trial_notation::notation::build;
 use trial_notation::records::Layout;
@@ -22,24 +23,45 @@ fn combine(call: u8, equivalence: u64, first: &[u8], second: &[u8], arena: &mut 
     counting_type::merge(first, second, equivalence, arena)
 }
 
-fn combine_into(call: u8, equivalence: u64, first: &[u8], second: &[u8], arena: &mut [u8]) {
+fn combine_into(
+    rt: &impl Print,
+    call: u8,
+    equivalence: u64,
+    first: &[u8],
+    second: &[u8],
+    arena: &mut [u8],
+) -> io::Result<()> {
     let answer = answers::answer_of(combine(call, equivalence, first, second, arena));
     let layout = layout_of(call);
-    print_answer(answer);
-    print(nonzero(behind_type(arena, layout, answer.count)));
-    print_type(type_in(arena, layout, answer.count), layout);
+    print_answer(rt, answer)?;
+    print(rt, nonzero(behind_type(arena, layout, answer.count)))?;
+    print_type(rt, type_in(arena, layout, answer.count), layout)
 }
 
-fn combine_under(call: u8, equivalence: u64, head: &[u8], first: &[u8], second: &[u8]) {
+fn combine_under(
+    rt: &impl Print,
+    call: u8,
+    equivalence: u64,
+    head: &[u8],
+    first: &[u8],
+    second: &[u8],
+) -> io::Result<()> {
     let mut arena = [DIRT; ROOM];
     let length = number_or(head, 1, largest(layout_of(call)));
     if length <= ROOM {
-        combine_into(call, equivalence, first, second, &mut arena[0..length]);
+        combine_into(rt, call, equivalence, first, second, &mut arena[0..length])?;
     }
+    Ok(())
 }
 
 // Calls 5 and 7. The line may name the lengths of the arena, of the first and of the second type. The second may be the same as the first.
-pub fn try_two_types(call: u8, equivalence: u64, head: &[u8], records: &[u8]) {
+pub fn try_two_types(
+    rt: &impl Print,
+    call: u8,
+    equivalence: u64,
+    head: &[u8],
+    records: &[u8],
+) -> io::Result<()> {
     let mut one = [0u8; ROOM];
     let mut other = [0u8; ROOM];
     let bar = find(records, 0, b'|');
@@ -50,15 +72,15 @@ pub fn try_two_types(call: u8, equivalence: u64, head: &[u8], records: &[u8]) {
     let built = build(&mut one, layout, before);
     let first = part(&one, 0, number_or(head, 2, built));
     if byte_at(after, 0) == b's' {
-        combine_under(call, equivalence, head, first, first);
-        return;
+        return combine_under(rt, call, equivalence, head, first, first);
     }
     let built = build(&mut other, layout, after);
     combine_under(
+        rt,
         call,
         equivalence,
         head,
         first,
         part(&other, 0, number_or(head, 3, built)),
-    );
+    )
 }

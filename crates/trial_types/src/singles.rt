@@ -1,5 +1,6 @@
 // Trials of the calls that write a type for one table or type, with a working buffer.
 use answers::Answered;
+use std::io;
 use trial_notation::buffers::{DIRT, ROOM, largest};
 use trial_notation::notation::build;
 use trial_notation::records::Layout;
@@ -22,16 +23,29 @@ fn write(call: u8, equivalence: u64, given: &[u8], arena: &mut [u8], work: &mut 
     }
 }
 
-fn write_into(call: u8, equivalence: u64, given: &[u8], arena: &mut [u8], work: &mut [u8]) {
+fn write_into(
+    rt: &impl Print,
+    call: u8,
+    equivalence: u64,
+    given: &[u8],
+    arena: &mut [u8],
+    work: &mut [u8],
+) -> io::Result<()> {
     let answer = answers::answer_of(write(call, equivalence, given, arena, work));
-    print_answer(answer);
-    print(nonzero(behind_type(arena, Layout::Type, answer.count)));
-    print(nonzero(work));
-    print_type(type_in(arena, Layout::Type, answer.count), Layout::Type);
+    print_answer(rt, answer)?;
+    print(rt, nonzero(behind_type(arena, Layout::Type, answer.count)))?;
+    print(rt, nonzero(work))?;
+    print_type(rt, type_in(arena, Layout::Type, answer.count), Layout::Type)
 }
 
 // Calls 2, 3 and 9. The line may name the lengths of the arena, of the working buffer, and of the table or type.
-pub fn try_single(call: u8, equivalence: u64, head: &[u8], records: &[u8]) {
+pub fn try_single(
+    rt: &impl Print,
+    call: u8,
+    equivalence: u64,
+    head: &[u8],
+    records: &[u8],
+) -> io::Result<()> {
     let mut bytes = [0u8; ROOM];
     let mut arena = [DIRT; ROOM];
     let mut work = [DIRT; ROOM];
@@ -43,12 +57,14 @@ pub fn try_single(call: u8, equivalence: u64, head: &[u8], records: &[u8]) {
     if length <= ROOM {
         if work_length <= ROOM {
             write_into(
+                rt,
                 call,
                 equivalence,
                 given,
                 &mut arena[0..length],
                 &mut work[0..work_length],
-            );
+            )?;
         }
     }
+    Ok(())
 }

@@ -1,6 +1,7 @@
 // The text of the trials. A line "[call]" or "[call equivalences]" says how the lines after it are tried: "name lengths: records".
 // Lines without a colon are passed over.
 use crate::trial::try_call;
+use std::io;
 use trial_notation::text::{byte_at, find, part};
 
 // Where the line begins that is being read; the call and the equivalences, by their first characters.
@@ -11,39 +12,39 @@ struct Section {
     equivalences: u8,
 }
 
-fn try_line(line: &[u8], call: u8, equivalences: u8) {
+fn try_line(rt: &impl Print, line: &[u8], call: u8, equivalences: u8) -> io::Result<()> {
     let colon = find(line, 0, b':');
     if line.len() <= colon {
-        return;
+        return Ok(());
     }
     // a space follows the colon
     let records = part(line, std::num::wrapping_add_usize(colon, 2), line.len());
-    try_call(call, equivalences, part(line, 0, colon), records);
+    try_call(rt, call, equivalences, part(line, 0, colon), records)
 }
 
 // After character i of the text, which is c.
-fn next(text: &[u8], section: Section, i: usize, c: u8) -> Section {
+fn next(rt: &impl Print, text: &[u8], section: Section, i: usize, c: u8) -> io::Result<Section> {
     if c != b'\n' {
-        return section;
+        return Ok(section);
     }
     let line = part(text, section.start, i);
     let start = std::num::wrapping_add_usize(i, 1);
     if byte_at(line, 0) == b'[' {
-        return Section {
+        return Ok(Section {
             start,
             call: byte_at(line, 1),
             equivalences: byte_at(line, 3),
-        };
+        });
     }
-    try_line(line, section.call, section.equivalences);
-    Section {
+    try_line(rt, line, section.call, section.equivalences)?;
+    Ok(Section {
         start,
         call: section.call,
         equivalences: section.equivalences,
-    }
+    })
 }
 
-pub fn each_line(text: &[u8]) {
+pub fn each_line(rt: &impl Print, text: &[u8]) -> io::Result<()> {
     let mut section = Section {
         start: 0,
         call: 0,
@@ -51,6 +52,7 @@ pub fn each_line(text: &[u8]) {
     };
     let n = text.len();
     for i in 0..n {
-        section = next(text, section, i, text[i]);
+        section = next(rt, text, section, i, text[i])?;
     }
+    Ok(())
 }

@@ -1,10 +1,18 @@
 // Trials of the calls by documents 01 and 02, and every refusal of them: reads the trials, and prints the answer to each as a line.
+#![tactic(auto)]
+
 mod lines;
 mod texts;
 mod trial;
 
-fn main() {
-    let mut text = [0u8; 393216];
-    let n = io::read_full(0, &mut text);
-    lines::each_line(&text[..n]);
+use std::io;
+use std::io::Read;
+
+// The most bytes of the trials that are read.
+const INPUT_LENGTH: usize = 393216;
+
+fn main(rt: HostRuntime) -> io::Result<()> {
+    let mut text = Vec::new(rt.alloc());
+    rt.stdin().take(INPUT_LENGTH as u64).read_to_end(&mut text)?;
+    lines::each_line(&rt, &text)
 }

@@ -3,6 +3,7 @@
 ghost use Rattle.std.specs.Prelude.{◌+◌, ◌*◌, ◌≤◌, length};
 ghost use Rattle.value_table.specs.Value.{record_size};
 
+use std::io;
 use text_reader::call;
 use trial_notation::buffers::{DIRT, ROOM, largest};
 use trial_notation::records::{Layout, start_of};
@@ -12,37 +13,38 @@ use trial_output::{nonzero, print, print_answer};
 use value_table::record;
 use value_table::record::{key_at, kind_at, span_at};
 
-fn print_value(table: &[u8], i: usize)
+fn print_value(rt: &impl Print, table: &[u8], i: usize) -> io::Result<()>
     requires { record_size * i + record_size ≤ length table.now }
 {
-    print(kind_at(table, i) as u64);
-    print(key_at(table, i) as u64);
-    print(span_at(table, i) as u64);
+    print(rt, kind_at(table, i) as u64)?;
+    print(rt, key_at(table, i) as u64)?;
+    print(rt, span_at(table, i) as u64)
 }
 
-fn print_values(table: &[u8]) {
+fn print_values(rt: &impl Print, table: &[u8]) -> io::Result<()> {
     let n = table.len() / record::SIZE;
     for i in 0..n {
         if 0 < i {
-            io::write_all(1, b";");
+            rt.write_all(b";")?;
         }
-        print_value(table, i);
+        print_value(rt, table, i)?;
     }
+    Ok(())
 }
 
-fn read_into(text: &[u8], book: &[u8], table: &mut [u8]) {
+fn read_into(rt: &impl Print, text: &[u8], book: &[u8], table: &mut [u8]) -> io::Result<()> {
     let answer = call::answer_of(call::read_text(text, book, table));
-    print_answer(answer);
+    print_answer(rt, answer)?;
     let end = start_of(Layout::Value, answer.count as usize);
-    print(nonzero(part(table, end, table.len())));
+    print(rt, nonzero(part(table, end, table.len())))?;
     if 0 < end {
-        io::write_all(1, b":");
+        rt.write_all(b":")?;
     }
-    print_values(part(table, 0, end));
+    print_values(rt, part(table, 0, end))
 }
 
 // Call 6. The line may name the lengths of the table, of the book and of the text.
-pub fn try_text(head: &[u8], spelled: &[u8]) {
+pub fn try_text(rt: &impl Print, head: &[u8], spelled: &[u8]) -> io::Result<()> {
     let mut keys = [0u8; ROOM];
     let mut bytes = [0u8; ROOM];
     let mut table = [DIRT; ROOM];
@@ -55,6 +57,7 @@ pub fn try_text(head: &[u8], spelled: &[u8]) {
     let text = part(&bytes, 0, number_or(head, 3, written));
     let length = number_or(head, 1, largest(Layout::Value));
     if length <= ROOM {
-        read_into(text, book, &mut table[0..length]);
+        read_into(rt, text, book, &mut table[0..length])?;
     }
+    Ok(())
 }

@@ -1,5 +1,5 @@
 -- `put_profile` meets its contract.
-use mathlib.Core.Path.{ap, ◌∙◌}
+use mathlib.Core.Path.{refl, ap, ◌∙◌}
 use native.Mathlib.Omega.{arith}
 use borrow.Author.Rules.{rules}
 use Rattle.report.proofs.Program.{Told, told, told-type, told-place, told-length, told-report, told-refusal, small-number}
@@ -10,7 +10,7 @@ use Rattle.report.proofs.put_profile.Goals.{After-answer_of-answer}
 answered : (c : goal.After-answer_of-answer) → Told c.args.input.now c.infer_input.new.arena c.answer_of-answer.result
 answered c =
     let left = c.infer_input.ensures in
-    told _ _ _ _ _ (slice-aggregate-infer-input (record { before = c.before.before.before.before.before.before; type_inv = record { input = c.type_inv.input } })) (slice-aggregate-infer-input-2 (record { before = c.before.before.before.before.before; type_inv = record { input = c.type_inv.input } })) c.infer_input.auto.arena (c.answer_of-answer.ensures ∙ ap (λ x. x.outcome) left) (ap (λ x. x.arena) left)
+    told _ _ _ _ _ refl refl c.infer_input.auto.arena (c.answer_of-answer.ensures ∙ ap (λ x. x.outcome) left) (ap (λ x. x.arena) left)
 
 pub overflow_mul-n : goal.overflow_mul-n
 overflow_mul-n c = omega (arith, (answered (goal.at.overflow_mul-n c).After-answer_of-answer).room, (answered (goal.at.overflow_mul-n c).After-answer_of-answer).whole)

@@ -11,7 +11,7 @@ pub slice_bounds-put_text-end : goal.slice_bounds-put_text-end
 slice_bounds-put_text-end c = rw (take-replicate c.args.count max_digits 32 (omega arith)) (sym (length-replicate _ _))
 
 pub put_text-requires : goal.put_text-requires
-put_text-requires c = omega (arith, slice-aggregate-put-text c)
+put_text-requires c = rw (take-replicate c.args.count max_digits 32 (omega arith), length-replicate _ _) (omega arith)
 
 pub returns : goal.returns
 returns c = rw (take-replicate c.args.count max_digits 32 (omega arith)) at c.put_text.ensures

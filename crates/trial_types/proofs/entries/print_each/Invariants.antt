@@ -1,9 +1,0 @@
--- `print_each` is safe and ends: the loop stays within the entries.
-use Rattle.std.proofs.Common.{◌-◌, ◌≤◌, rules}
-use Rattle.trial_types.proofs.entries.print_each.Given as goal
-
-abbrev pub invariant-loop-i : goal.invariant-loop-i
-invariant-loop-i l = i ≤ l.n
-
-abbrev pub decreases-loop-i : goal.decreases-loop-i
-decreases-loop-i l = l.n - i
