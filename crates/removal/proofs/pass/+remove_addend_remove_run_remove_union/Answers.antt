@@ -31,10 +31,10 @@ module _ {t : ℕ} where
   -- The needs of `remove_addend`.
   -- what is known of the two first addends
   x-head : (s : goal.remove_addend-Start t) → Head s.args.level s.args.x.now
-  x-head s = head s.requires.0.0.run s.requires.0.1
+  x-head s = head s.requires.whole_run.0.run s.requires.whole_run.1
 
   y-head : (s : goal.remove_addend-Start t) → Head s.args.level s.args.y.now
-  y-head s = head s.requires.1.0.0 s.requires.1.0.1
+  y-head s = head s.requires.type_run.0 s.requires.type_run.1
 
   -- what is known once the run inside is done
   inside : (u : goal.remove_addend-After-remove_union t) → LeftInside u.args.limit u.args.y.now (x-head u.before.before.before.before.before.before.before.before.before.before.before.before.before.before.before.before.before) (u.count_at-count.result - u.count_at-taken.result) u.limit_inside-most.result u.inside-inner.result u.body_of-2.result.now u.body_of-3.result.now
@@ -92,7 +92,7 @@ remove_addend-inside-inner-requires t c = (x-head (goal.at.remove_addend-inside-
 pub remove_addend-overflow_add-from : goal.remove_addend-overflow_add-from
 remove_addend-overflow_add-from t c =
     let h = (x-head (goal.at.remove_addend-overflow_add-from t c).Start).first in
-    omega (arith, c.requires.1.1)
+    omega (arith, c.requires.x_bound)
 
 pub remove_addend-body_of-requires-2 : goal.remove_addend-body_of-requires-2
 remove_addend-body_of-requires-2 t c = headed (x-head (goal.at.remove_addend-body_of-requires-2 t c).Start).first
@@ -109,9 +109,9 @@ remove_addend-remove_union-requires t c =
     let v = c.body_of-3.ensures in (
       rw l (omega (arith, rank-inside h, c.decreases)),
       (
-        rw (c.limit_inside-most.ensures, l, u) (whole-inside h c.requires.0.0 _),
-        rw (l, v, c.requires.1.0.2) g.in_body,
-        omega (arith, ap length u, body-rest h.first, c.requires.1.1),
+        rw (c.limit_inside-most.ensures, l, u) (whole-inside h c.requires.whole_run.0 _),
+        rw (l, v, c.requires.type_run.2) g.in_body,
+        omega (arith, ap length u, body-rest h.first, c.requires.x_bound),
       ),
     )
 
@@ -123,16 +123,16 @@ remove_addend-key_at-requires t c =
 pub remove_addend-put_record-requires : goal.remove_addend-put_record-requires
 remove_addend-put_record-requires t c =
     let h = (x-head (goal.at.remove_addend-put_record-requires t c).Start).first in
-    omega (arith, c.requires.1.1)
+    omega (arith, c.requires.x_bound)
 
 pub remove_addend-overflow_add-at : goal.remove_addend-overflow_add-at
 remove_addend-overflow_add-at t c =
     let h = (x-head (goal.at.remove_addend-overflow_add-at t c).Start).first in
-    omega (arith, c.requires.1.1)
+    omega (arith, c.requires.x_bound)
 
 pub remove_addend-overflow_add-at-in-Bytes : goal.remove_addend-overflow_add-at-in-Bytes
 remove_addend-overflow_add-at-in-Bytes t c =
-    omega (arith, c.requires.1.1, body-rest (x-head (goal.at.remove_addend-overflow_add-at-in-Bytes t c).Start).first, inside-fits _ _ (x-head (goal.at.remove_addend-overflow_add-at-in-Bytes t c).Start) (inside (goal.at.remove_addend-overflow_add-at-in-Bytes t c).After-remove_union) _ _ _ _ (rw c.in-Bytes.is at c.remove_union.ensures))
+    omega (arith, c.requires.x_bound, body-rest (x-head (goal.at.remove_addend-overflow_add-at-in-Bytes t c).Start).first, inside-fits _ _ (x-head (goal.at.remove_addend-overflow_add-at-in-Bytes t c).Start) (inside (goal.at.remove_addend-overflow_add-at-in-Bytes t c).After-remove_union) _ _ _ _ (rw c.in-Bytes.is at c.remove_union.ensures))
 
 pub remove_addend-shape_of-out-in-NotPart : goal.remove_addend-shape_of-out-in-NotPart
 remove_addend-shape_of-out-in-NotPart t c = c.remove_union.auto.out
