@@ -25,7 +25,7 @@ use mathlib.Core.Path.{sym, ◌∙◌}
 use borrow.Author.Tests.{not-false}
 use Rattle.removal.proofs.OnBytes.Stored.{run-lost, run-passes, run-stored, tail-limit}
 use Rattle.removal.proofs.pass.+remove_addend_remove_run_remove_union.Goals as goal
-use Rattle.removal.proofs.pass.+remove_addend_remove_run_remove_union.Goals.{remove_addend-After-remove_union, remove_addend-Start, remove_run-Else-x-eq0}
+use Rattle.removal.proofs.pass.+remove_addend_remove_run_remove_union.Goals.{remove_addend-After-remove_union, remove_addend-Start, remove_run-Else-x-eq0, remove_run-then-lacks, remove_run-else-lacks, remove_run-then-lacks-2, remove_run-else-lacks-2, remove_union-else-level-via-then-level+else-passes, remove_union-else-level-via-else-level}
 
 module _ {t : ℕ} where
   -- The needs of `remove_addend`.
@@ -185,7 +185,7 @@ remove_run-loop-y-smaller-in-Less t c =
 pub remove_run-loop-y-preserved-in-Less : goal.remove_run-loop-y-preserved-in-Less
 remove_run-loop-y-preserved-in-Less t c =
     turn-less c.loop-y.invariant (whole-head (goal.at.remove_run-loop-y-preserved-in-Less t c).Else-x-eq0) (part-head (goal.at.remove_run-loop-y-preserved-in-Less t c).Else-x-eq0) (ap ordering_of (sym c.in-Less.is) ∙ c.compare_labels.ensures) c.keep-r.ensures
-    (⊎_elim (λ w. lacks-before _ w.0.taken w.1) (λ w. lacks-now w.0.left (w.2 ∙ ap (ltb c.args.limit) w.1.ensures)) c.if-lacks.branch)
+    (elim c.if-lacks.branch [ remove_run-then-lacks w ↦ lacks-before _ w.if-lacks.true w.lacks-is | remove_run-else-lacks w ↦ lacks-now w.if-lacks.false (w.lacks-is ∙ ap (ltb c.args.limit) w.count_at.ensures) ])
 
 pub remove_run-rest_of-r-requires : goal.remove_run-rest_of-r-requires
 remove_run-rest_of-r-requires t c = headed (part-head (goal.at.remove_run-rest_of-r-requires t c).Else-x-eq0).first
@@ -225,7 +225,7 @@ remove_run-loop-y-preserved t c =
     let i = ap ordering_of (sym c.in-Same.is) ∙ c.compare_labels.ensures in
     let r = c.remove_addend-lack in
     turn-same c.loop-y.invariant (whole-head (goal.at.remove_run-loop-y-preserved t c).Else-x-eq0) (part-head (goal.at.remove_run-loop-y-preserved t c).Else-x-eq0) i r.ensures r.auto.out c.rest_of-u.ensures c.rest_of-v.ensures
-    (⊎_elim (λ w. lacks-before _ w.0.taken w.1) (λ w. lacks-now w.0.left w.1) c.if-lacks-2.branch)
+    (elim c.if-lacks-2.branch [ remove_run-then-lacks-2 w ↦ lacks-before _ w.if-lacks-2.true w.lacks-is | remove_run-else-lacks-2 w ↦ lacks-now w.if-lacks-2.false w.lacks-is ])
 
 pub remove_run-shape_of-out : goal.remove_run-shape_of-out
 remove_run-shape_of-out t c = c.loop-y.invariant.long
@@ -262,4 +262,4 @@ remove_union-overflow_sub-result t c = omega (arith, c.remove_run-tail.ensures.f
 pub remove_union-returns : goal.remove_union-returns
 remove_union-returns t c =
     let r = rw c.if-lacks.false at c.remove_run-tail.ensures in
-    run-stored r _ (⊎_elim (λ w. not-false _ (sym (w.1.ensures _ _ r.tail.run.coded) ∙ w.2.left)) (λ w. tail-limit r w.left) c.else-level.branch) c.put_bytes.ensures
+    run-stored r _ (elim c.else-level.branch [ remove_union-else-level-via-then-level+else-passes w ↦ not-false _ (sym (w.passes.ensures _ _ r.tail.run.coded) ∙ w.if-passes.false) | remove_union-else-level-via-else-level w ↦ tail-limit r w.if-level.false ]) c.put_bytes.ensures
