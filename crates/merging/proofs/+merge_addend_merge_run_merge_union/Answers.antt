@@ -27,10 +27,10 @@ module _ {t : ℕ} where
   -- The needs of `merge_addend`.
   -- what is known of the two first addends
   x-head : (s : goal.merge_addend-Start t) → Head s.args.level s.args.x.now
-  x-head s = head s.requires.0.0 s.requires.0.1
+  x-head s = head s.requires.type_run.0 s.requires.type_run.1
 
   y-head : (s : goal.merge_addend-Start t) → Head s.args.level s.args.y.now
-  y-head s = head s.requires.1.0.0 s.requires.1.0.1
+  y-head s = head s.requires.type_run_2.0 s.requires.type_run_2.1
 
 pub merge_addend-kind_at-kind-requires : goal.merge_addend-kind_at-kind-requires
 merge_addend-kind_at-kind-requires t c =
@@ -60,8 +60,8 @@ merge_addend-merge_union-s-requires t c =
     let v = c.body_of-2.ensures in (
       rw l (omega (arith, rank-inside h, c.decreases)),
       (
-        (rw (l, u) h.in_body, rw (l, v, c.requires.1.0.2) g.in_body),
-        omega (arith, ap length u, ap length v, body-rest h.first, body-rest g.first, c.requires.1.1),
+        (rw (l, u) h.in_body, rw (l, v, c.requires.type_run_2.2) g.in_body),
+        omega (arith, ap length u, ap length v, body-rest h.first, body-rest g.first, c.requires.y_bound),
       ),
     )
 
@@ -83,19 +83,19 @@ merge_addend-key_at-requires t c =
 pub merge_addend-put_record-requires : goal.merge_addend-put_record-requires
 merge_addend-put_record-requires t c =
     let h = (x-head (goal.at.merge_addend-put_record-requires t c).Start).first in
-    omega (arith, c.requires.1.1)
+    omega (arith, c.requires.y_bound)
 
 pub merge_addend-overflow_add-at-2 : goal.merge_addend-overflow_add-at-2
 merge_addend-overflow_add-at-2 t c =
     let h = (x-head (goal.at.merge_addend-overflow_add-at-2 t c).Start).first in
-    omega (arith, c.requires.1.1)
+    omega (arith, c.requires.y_bound)
 
 pub merge_addend-overflow_add-at-3 : goal.merge_addend-overflow_add-at-3
 merge_addend-overflow_add-at-3 t c =
     let w = stored-inside c.args.level c.kind_at-kind.result c.inside-inner.ensures c.merge_union-s.ensures in
     let u = c.body_of.ensures in
     let v = c.body_of-2.ensures in
-    omega (arith, inside-fits (x-head (goal.at.merge_addend-overflow_add-at-3 t c).Start) (y-head (goal.at.merge_addend-overflow_add-at-3 t c).Start) u v w, c.requires.1.1)
+    omega (arith, inside-fits (x-head (goal.at.merge_addend-overflow_add-at-3 t c).Start) (y-head (goal.at.merge_addend-overflow_add-at-3 t c).Start) u v w, c.requires.y_bound)
 
 pub merge_addend-shape_of-out : goal.merge_addend-shape_of-out
 merge_addend-shape_of-out t c =
@@ -120,7 +120,7 @@ module _ {t : ℕ} where
 
 pub merge_run-loop-y-init : goal.merge_run-loop-y-init
 merge_run-loop-y-init t c =
-    start _ _ _ c.requires.0.0 c.requires.0.1
+    start _ _ _ c.requires.type_run.0 c.requires.type_run.1
 
 pub merge_run-append-requires : goal.merge_run-append-requires
 merge_run-append-requires t c = omega (arith, c.loop-y.invariant.room)
@@ -201,24 +201,24 @@ merge_union-shape_of-out-then-b-eq0 t c = c.put_bytes.auto.out
 
 pub merge_union-returns-then-b-eq0 : goal.merge_union-returns-then-b-eq0
 merge_union-returns-then-b-eq0 t c =
-    first-only c.requires.0.0 c.if-b-eq0.true c.put_bytes.ensures
+    first-only c.requires.type_run.0 c.if-b-eq0.true c.put_bytes.ensures
 
 pub merge_union-total_over-over-requires : goal.merge_union-total_over-over-requires
-merge_union-total_over-over-requires t c = c.requires.0
+merge_union-total_over-over-requires t c = c.requires.type_run
 
 pub merge_union-merge_run-tail-requires : goal.merge_union-merge_run-tail-requires
 merge_union-merge_run-tail-requires t c =
-    (omega (arith, c.decreases), c.requires)
+    (omega (arith, c.decreases), (c.requires.type_run, c.requires.b_bound))
 
 pub merge_union-put_bytes-requires-2 : goal.merge_union-put_bytes-requires-2
 merge_union-put_bytes-requires-2 t c =
-    let le = merged-le (At c.args.level) c.args.a.now c.args.b.now c.requires.0.0.coded c.requires.0.1.coded in
-    omega (arith, c.merge_run-tail.ensures.upto, c.requires.1)
+    let le = merged-le (At c.args.level) c.args.a.now c.args.b.now c.requires.type_run.0.coded c.requires.type_run.1.coded in
+    omega (arith, c.merge_run-tail.ensures.upto, c.requires.b_bound)
 
 pub merge_union-overflow_add-result : goal.merge_union-overflow_add-result
 merge_union-overflow_add-result t c =
-    let le = merged-le (At c.args.level) c.args.a.now c.args.b.now c.requires.0.0.coded c.requires.0.1.coded in
-    omega (arith, c.merge_run-tail.ensures.upto, c.requires.1)
+    let le = merged-le (At c.args.level) c.args.a.now c.args.b.now c.requires.type_run.0.coded c.requires.type_run.1.coded in
+    omega (arith, c.merge_run-tail.ensures.upto, c.requires.b_bound)
 
 pub merge_union-overflow_sub-result : goal.merge_union-overflow_sub-result
 merge_union-overflow_sub-result t c = omega (arith, c.merge_run-tail.ensures.upto)

@@ -15,12 +15,14 @@ use lib.ListN.{length, take, drop, length-take, length-drop}
 use borrow.Rule.Slice.PartMut.{put_mid, same_len_mid}
 use Rattle.value_table.specs.Value.{record_kind}
 use Rattle.folding.specs.declared.pass.Folded.TheVariants.{Records}
+use Rattle.folding.specs.declared.pass.Folded.{Folded}
+use Rattle.folding.specs.declared.pass.Placed.{Placed}
 use Rattle.counting_theory.specs.Trie.{size, add}
 use Rattle.counting_theory.specs.Label.{by_kind, Counting, CountingType}
-use Rattle.counting_theory.specs.Encoding.{type_size, type_payload, encode, type_of}
+use Rattle.counting_theory.specs.Encoding.{type_size, type_payload, type_span, encode, type_of}
 use Rattle.type_arena.specs.Inside.Addend.{body}
 use Rattle.inference.specs.Inside.Inferring.{grown, ArenaHolds, Starts, split, Counted, PlacedAt, Grown}
-use Rattle.folding.specs.Inside.Folding.{HeldAt, Inside, first_label, FoldedRun}
+use Rattle.folding.specs.Inside.Folding.{HeldAt, Inside, start_inside, first_label, FoldedRun}
 use Rattle.type_arena.proofs.FirstAddend.{Addend, addend}
 use Rattle.inference.proofs.InPlace.AddItem.{step-length, step-within, step-span, step-holds, grown-length}
 use Rattle.folding.proofs.OnBytes.Starts.{start-inside}
@@ -49,7 +51,7 @@ use Rattle.folding.specs.Inside.Folding.{first_label, with_first, FoldedFirst}
 use Rattle.type_arena.proofs.FirstAddend.{addend, headed, body-rest}
 use Rattle.folding.proofs.OnBytes.RunAdded.{RanTo, ran-start, ran-holds, ran-end, ran-full, ran-next}
 use Rattle.folding.proofs.pass.+fold_addend_fold_run.Goals as goal
-use Rattle.folding.proofs.pass.+fold_addend_fold_run.Goals.{fold_addend-After-fold_run, fold_addend-After-place, fold_addend-After-span_at-span, fold_addend-After-start_inside-begin, fold_addend-In-At, fold_addend-Start, fold_run-After-fold_addend, fold_run-In-loop-y, fold_run-Start}
+use Rattle.folding.proofs.pass.+fold_addend_fold_run.Goals.{fold_addend-After-place, fold_addend-In-At, fold_addend-Start, fold_run-In-loop-y}
 
 module _ {t : ℕ} where
   -- What is known on the way through `fold_addend`: where its label was found, what stands inside the record there, and what was added.
@@ -59,17 +61,14 @@ module _ {t : ℕ} where
   -- what the search for the first label has found
   module _ (c : goal.fold_addend-After-place t) where
 
-    abbrev asked : goal.fold_addend-Start t
-    asked = c.before.before.before.before.before.before.before.before.before.before
-
     abbrev pub Held : Type 0
-    Held = HeldAt asked.args.field asked.args.a.now asked.args.n asked.args.rest asked.args.from
+    Held = HeldAt c.args.field c.args.a.now c.args.n c.args.rest c.args.from
 
-    pub put : (h : Held) → PlacedAt (first_label asked.args.x.now) (type_payload asked.args.x.now 0) h.f h.q asked.args.rest c.place.result c.place.new.a
+    pub put : (h : Held) → PlacedAt (first_label c.args.x.now) (type_payload c.args.x.now 0) h.f h.q c.args.rest c.place.result c.place.new.a
     put h =
-        let l = label-wanted asked.args.x.now asked.args.work.now _ _ c.kind_at-kind.ensures c.key_at-key.ensures in
+        let l = label-wanted c.args.x.now c.args.work.now _ _ c.kind_at-kind.ensures c.key_at-key.ensures in
         let starts = c.start_for-start.ensures _ h.f h.q h.free h.holds h.starts in
-        rw (l, c.payload_at-more.ensures) at (c.place.ensures asked.args.field h.f h.q h.free h.holds starts)
+        rw (l, c.payload_at-more.ensures) at (c.place.ensures c.args.field h.f h.q h.free h.holds starts)
 
   -- the label has its record
   module _ (c : goal.fold_addend-In-At t) where
@@ -77,11 +76,8 @@ module _ {t : ℕ} where
     abbrev pub at : goal.fold_addend-After-place t
     at = (record { before = c.before.before.before.before; type_inv = record { work = c.type_inv.work; x = c.type_inv.x } })
 
-    abbrev pub begun : goal.fold_addend-Start t
-    begun = asked at
-
     abbrev pub x : List ℕ
-    x = begun.args.x.now
+    x = c.args.x.now
 
     abbrev place : ℕ
     place = c.in-At.p
@@ -90,100 +86,84 @@ module _ {t : ℕ} where
     records = c.in-At.m
 
     abbrev arena : List ℕ
-    arena = at.place.last.0
+    arena = c.place.new.a
 
     pub counted : (h : Held at) → Counted (split (first_label x) h.f) (first_label x) (grown (split (first_label x) h.f).payload (type_payload x 0)) h.q place records arena
-    counted h = first_counted x h.f h.q begun.args.rest _ _ (put at h) place records c.in-At.is
+    counted h = first_counted x h.f h.q c.args.rest _ _ (put at h) place records c.in-At.is
 
-    pub same-arena : length arena ≡ length begun.args.a.now
-    same-arena = at.place.kept.0
+    pub same-arena : length arena ≡ length c.args.a.now
+    same-arena = c.place.auto.a
 
     pub short : length arena ≤ 65536
-    short = omega (arith, begun.requires.0.held.holds.short, same-arena)
+    short = omega (arith, c.requires.0.held.holds.short, same-arena)
 
-    pub bound : (place + 1 ≤ records) × (type_size * (records + begun.args.rest) ≤ length arena) × (length arena ≤ 65536)
+    pub bound : (place + 1 ≤ records) × (type_size * (records + c.args.rest) ≤ length arena) × (length arena ≤ 65536)
     bound =
-        let h = begun.requires.0.held in
+        let h = c.requires.0.held in
         omega (arith, short, step-within h.f _ h.holds.used short (counted h), step-length h.f _ h.holds.used short (counted h))
 
-  -- its span is read
-  module _ (c : goal.fold_addend-After-span_at-span t) where
+    -- where what stands inside it begins, and its bytes
+    abbrev below-at : ℕ
+    below-at = type_size * place + type_size
 
-    abbrev pub told : goal.fold_addend-In-At t
-    told = (record { before = c.before.before.before.before; type_inv = record { a = c.type_inv.a; work = c.type_inv.work; x = c.type_inv.x } })
+    abbrev below-bytes : List ℕ
+    below-bytes = take (length arena - below-at) (drop below-at arena)
 
-    abbrev below : List ℕ
-    below = c.body_of-below.result.now
+    -- the siblings inside, what is behind them, and how many records
+    abbrev content : Held at → CountingType
+    content h = (split (first_label x) h.f).content
 
-    abbrev span : ℕ
-    span = c.span_at-span.result
+    abbrev pub behind : Held at → List ℕ
+    behind h = encode (split (first_label x) h.f).after ++ h.q
 
-    pub below-is : below ≡ body (x told)
-    below-is = c.body_of-below.ensures
+    abbrev pub in_use : ℕ → ℕ
+    in_use span = records + c.args.rest - place - span
 
-    pub span-is : (h : Held (at told)) → span ≡ 1 + size (split (first_label (x told)) h.f).content
-    span-is h = c.span_at-span.ensures.0 ∙ step-span h.f _ h.holds.used (short told) (counted told h)
-
-    pub numbers : (1 ≤ span) × (place told + span ≤ records told)
-    numbers = let h = (begun told).requires.0.held in omega (arith, span-is h, step-within h.f _ h.holds.used (short told) (counted told h))
-
-    -- what is inside the record in the arena
-    pub inner : (h : Held (at told)) → ArenaHolds by_kind (eqb (at told).kind_at-kind.result record_kind) (take (length (arena told) - (type_size * place told + type_size)) (drop (type_size * place told + type_size) (arena told))) (span - 1) (records told + (begun told).args.rest - place told - span) (split (first_label (x told)) h.f).content (encode (split (first_label (x told)) h.f).after ++ h.q) (counted told h).free
-    inner h =
-        inside-kind (x told) (at told).kind_at-kind.ensures
-        (step-holds h.f _ h.holds.used (short told) (counted told h) _ (span-is h) by_kind (begun told).args.field h.holds.siblings)
-
-  -- where the first search inside it begins
-  pub begins : (c : goal.fold_addend-After-start_inside-begin t) (h : Held (at (told (record { before = c.before.before; type_inv = record { work = c.type_inv.work; x = c.type_inv.x } })))) → Inside (begun (told (record { before = c.before.before; type_inv = record { work = c.type_inv.work; x = c.type_inv.x } }))).args.inside (begun (told (record { before = c.before.before; type_inv = record { work = c.type_inv.work; x = c.type_inv.x } }))).args.from h.f → Starts c.start_inside-begin.result (split (first_label (x (told (record { before = c.before.before; type_inv = record { work = c.type_inv.work; x = c.type_inv.x } })))) h.f).content
-  begins c h i =
-      rw c.start_inside-begin.ensures (start-inside (first_label (x (told (record { before = c.before.before; type_inv = record { work = c.type_inv.work; x = c.type_inv.x } })))) _ h.f _ _ _ i (counted (told (record { before = c.before.before; type_inv = record { work = c.type_inv.work; x = c.type_inv.x } })) h).place (omega (arith, span-is (record { before = c.before.before; type_inv = record { work = c.type_inv.work; x = c.type_inv.x } }) h)))
-
-  -- what is inside it has been added
-  module _ (c : goal.fold_addend-After-fold_run t) where
-
-    abbrev pub sp : goal.fold_addend-After-span_at-span t
-    sp = (record { before = c.before.before.before.before; type_inv = record { work = c.type_inv.work; x = c.type_inv.x } })
-
-    abbrev pub inside : List ℕ
-    inside = c.fold_run.new.a
-
-    abbrev whole : List ℕ
-    whole = put_mid (type_size * place (told sp) + type_size) (length (arena (told sp)) - (type_size * place (told sp) + type_size)) (arena (told sp)) inside
-
-    pub same : length whole ≡ length (begun (told sp)).args.a.now
-    same =
-        same_len_mid (type_size * place (told sp) + type_size) (length (arena (told sp)) - (type_size * place (told sp) + type_size)) (arena (told sp)) inside c.fold_run.auto.a
-        ∙ same-arena (told sp)
+    abbrev Hint : Held at → Type 0
+    Hint h = Inside c.args.inside c.args.from h.f
 
     abbrev pub material : CountingType
-    material = type_of by_kind (body (x (told sp)))
+    material = type_of by_kind (body x)
 
-    -- the siblings inside, and what is behind them
-    abbrev content : Held (at (told sp)) → CountingType
-    content h = (split (first_label (x (told sp))) h.f).content
+    -- its span is read
+    module _ {span : ℕ} (e : span ≡ type_span arena place) where
 
-    abbrev pub behind : Held (at (told sp)) → List ℕ
-    behind h = encode (split (first_label (x (told sp))) h.f).after ++ h.q
+      pub span-is : (h : Held at) → span ≡ 1 + size (content h)
+      span-is h = e ∙ step-span h.f _ h.holds.used short (counted h)
 
-    abbrev pub in_use : ℕ
-    in_use = records (told sp) + (begun (told sp)).args.rest - place (told sp) - span sp
+      pub numbers : (1 ≤ span) × (place + span ≤ records)
+      numbers = let h = c.requires.0.held in omega (arith, span-is h, step-within h.f _ h.holds.used short (counted h))
 
-    abbrev Hint : Held (at (told sp)) → Type 0
-    Hint h = Inside (begun (told sp)).args.inside (begun (told sp)).args.from h.f
+      -- what is inside the record in the arena
+      pub inner : (h : Held at) → ArenaHolds by_kind (eqb c.kind_at-kind.result record_kind) below-bytes (span - 1) (in_use span) (content h) (behind h) (counted h).free
+      inner h =
+          inside-kind x c.kind_at-kind.ensures
+          (step-holds h.f _ h.holds.used short (counted h) _ (span-is h) by_kind c.args.field h.holds.siblings)
 
-    pub added : (h : Held (at (told sp))) → Hint h → FoldedRun (add Counting material (content h)) (behind h) in_use c.fold_run.result inside
-    added h i =
-        subst (λ (y : List ℕ). FoldedRun (add Counting (type_of by_kind y) (content h)) (behind h) in_use c.fold_run.result inside) (below-is sp)
-        (c.fold_run.ensures _ _ _ (inner sp h) (begins (record { before = c.before.before.before; type_inv = record { work = c.type_inv.work; x = c.type_inv.x } }) h i))
+      -- where the first search inside it begins
+      pub begins : {begin : ℕ} → begin ≡ start_inside (eqb place c.args.from) c.args.inside (span - 1) → (h : Held at) → Hint h → Starts begin (content h)
+      begins b h i = rw b (start-inside (first_label x) _ h.f _ _ _ i (counted h).place (omega (arith, span-is h)))
 
-    pub stored : (h : Held (at (told sp))) → Hint h → (k low : ℕ) → c.fold_run.result ≡ Records k low → Grown (add Counting material (content h)) (behind h) k inside × Starts low (add Counting material (content h))
-    stored h i k low e = run-records _ (behind h) in_use _ inside (added h i) k low e
+      -- what is inside it has been added
+      module _ {begin : ℕ} {below : List ℕ} (inside : List ℕ) (result : Folded) (b : begin ≡ start_inside (eqb place c.args.from) c.args.inside (span - 1)) (w : below ≡ body x)
+          (r : (f : CountingType) (q free : List ℕ) → ArenaHolds by_kind (eqb c.kind_at-kind.result record_kind) below-bytes (span - 1) (in_use span) f q free → Starts begin f → FoldedRun (add Counting (type_of by_kind below) f) q (in_use span) result inside) where
 
-    pub small : (k low : ℕ) → c.fold_run.result ≡ Records k low → (type_size * k ≤ length (arena (told sp))) × (type_size * place (told sp) + type_size ≤ length (arena (told sp)))
-    small k low e =
-        let s = (begun (told sp)).requires.0 in
-        let n : length inside ≡ length (take (length (arena (told sp)) - (type_size * place (told sp) + type_size)) (drop (type_size * place (told sp) + type_size) (arena (told sp)))) = c.fold_run.auto.a in
-        omega (arith, grown-length (stored s.held s.inside k low e).0, simp (length-take, length-drop) at n, bound (told sp))
+        pub added : (h : Held at) → Hint h → FoldedRun (add Counting material (content h)) (behind h) (in_use span) result inside
+        added h i =
+            subst (λ (y : List ℕ). FoldedRun (add Counting (type_of by_kind y) (content h)) (behind h) (in_use span) result inside) w
+            (r _ _ _ (inner h) (begins b h i))
+
+        pub stored : (h : Held at) → Hint h → (k low : ℕ) → result ≡ Records k low → Grown (add Counting material (content h)) (behind h) k inside × Starts low (add Counting material (content h))
+        stored h i k low z = run-records _ (behind h) (in_use span) _ inside (added h i) k low z
+
+        pub small : length inside ≡ length below-bytes → (k low : ℕ) → result ≡ Records k low → (type_size * k ≤ length arena) × (below-at ≤ length arena)
+        small n k low z =
+            let s = c.requires.0 in
+            omega (arith, grown-length (stored s.held s.inside k low z).0, simp (length-take, length-drop) at n, bound)
+
+    -- the arena with these bytes inside the record
+    pub same : (inside : List ℕ) → length inside ≡ length below-bytes → length (put_mid below-at (length arena - below-at) arena inside) ≡ length c.args.a.now
+    same inside n = same_len_mid below-at (length arena - below-at) arena inside n ∙ same-arena
 
 -- The needs of `fold_addend`.
 pub fold_addend-kind_at-kind-requires : goal.fold_addend-kind_at-kind-requires
@@ -211,95 +191,96 @@ fold_addend-returns-in_default t c f q free h s i =
     first-full _ f q _ _ _ (put (goal.at.fold_addend-returns-in_default t c).After-place (record { f = f; q = q; free = free; holds = h; starts = s })) c.in_default.is
 
 pub fold_addend-body_of-below-requires : goal.fold_addend-body_of-below-requires
-fold_addend-body_of-below-requires t c = headed (first (begun c))
+fold_addend-body_of-below-requires t c = headed (first (goal.at.fold_addend-body_of-below-requires t c).Start)
 
 pub fold_addend-shape_of-a-then-below-eq0 : goal.fold_addend-shape_of-a-then-below-eq0
-fold_addend-shape_of-a-then-below-eq0 t c = same-arena (goal.at.fold_addend-shape_of-a-then-below-eq0 t c).In-At
+fold_addend-shape_of-a-then-below-eq0 t c = c.place.auto.a
 
 pub fold_addend-returns-then-below-eq0 : goal.fold_addend-returns-then-below-eq0
 fold_addend-returns-then-below-eq0 t c f q free h s i =
-    let k = counted (goal.at.fold_addend-returns-then-below-eq0 t c).In-At (record { f = f; q = q; free = free; holds = h; starts = s }) in
-    let none : length (body (x (goal.at.fold_addend-returns-then-below-eq0 t c).In-At)) ≡ 0 = sym (ap length c.body_of-below.ensures) ∙ c.if-below-eq0.true in
-    (step-empty f _ h.used (short (goal.at.fold_addend-returns-then-below-eq0 t c).In-At) k (type_payload (x (goal.at.fold_addend-returns-then-below-eq0 t c).In-At) 0) refl (add Counting (type_of by_kind (body (x (goal.at.fold_addend-returns-then-below-eq0 t c).In-At)))) (nothing-added (body (x (goal.at.fold_addend-returns-then-below-eq0 t c).In-At)) none), k.place, inside-zero _ _)
+    let o = (goal.at.fold_addend-returns-then-below-eq0 t c).In-At in
+    let k = counted o (record { f = f; q = q; free = free; holds = h; starts = s }) in
+    let none : length (body c.args.x.now) ≡ 0 = sym (ap length c.body_of-below.ensures) ∙ c.if-below-eq0.true in
+    (step-empty f _ h.used (short o) k (type_payload c.args.x.now 0) refl (add Counting (type_of by_kind (body c.args.x.now))) (nothing-added (body c.args.x.now) none), k.place, inside-zero _ _)
 
 pub fold_addend-span_at-span-requires : goal.fold_addend-span_at-span-requires
 fold_addend-span_at-span-requires t c = omega (arith, bound (goal.at.fold_addend-span_at-span-requires t c).In-At)
 
 pub fold_addend-overflow_mul-inner : goal.fold_addend-overflow_mul-inner
-fold_addend-overflow_mul-inner t c = omega (arith, bound (told c))
+fold_addend-overflow_mul-inner t c = omega (arith, bound (goal.at.fold_addend-overflow_mul-inner t c).In-At)
 
 pub fold_addend-overflow_add-inner : goal.fold_addend-overflow_add-inner
-fold_addend-overflow_add-inner t c = omega (arith, bound (told c))
+fold_addend-overflow_add-inner t c = omega (arith, bound (goal.at.fold_addend-overflow_add-inner t c).In-At)
 
 pub fold_addend-overflow_add-behind : goal.fold_addend-overflow_add-behind
-fold_addend-overflow_add-behind t c = omega (arith, bound (told c), numbers c)
+fold_addend-overflow_add-behind t c = omega (arith, bound (goal.at.fold_addend-overflow_add-behind t c).In-At, numbers (goal.at.fold_addend-overflow_add-behind t c).In-At c.span_at-span.ensures.0)
 
 pub fold_addend-overflow_sub-behind : goal.fold_addend-overflow_sub-behind
-fold_addend-overflow_sub-behind t c = omega (arith, bound (told c), numbers c)
+fold_addend-overflow_sub-behind t c = omega (arith, bound (goal.at.fold_addend-overflow_sub-behind t c).In-At, numbers (goal.at.fold_addend-overflow_sub-behind t c).In-At c.span_at-span.ensures.0)
 
 pub fold_addend-overflow_sub-behind-2 : goal.fold_addend-overflow_sub-behind-2
-fold_addend-overflow_sub-behind-2 t c = omega (arith, bound (told c), numbers c)
+fold_addend-overflow_sub-behind-2 t c = omega (arith, bound (goal.at.fold_addend-overflow_sub-behind-2 t c).In-At, numbers (goal.at.fold_addend-overflow_sub-behind-2 t c).In-At c.span_at-span.ensures.0)
 
 pub fold_addend-overflow_sub-held : goal.fold_addend-overflow_sub-held
-fold_addend-overflow_sub-held t c = omega (arith, numbers c)
+fold_addend-overflow_sub-held t c = omega (arith, numbers (goal.at.fold_addend-overflow_sub-held t c).In-At c.span_at-span.ensures.0)
 
 pub fold_addend-slice_bounds-fold_run-count : goal.fold_addend-slice_bounds-fold_run-count
-fold_addend-slice_bounds-fold_run-count t c = omega (arith, bound (told (goal.at.fold_addend-slice_bounds-fold_run-count t c).After-span_at-span))
+fold_addend-slice_bounds-fold_run-count t c = omega (arith, bound (goal.at.fold_addend-slice_bounds-fold_run-count t c).In-At)
 
 pub fold_addend-slice_bounds-fold_run-start : goal.fold_addend-slice_bounds-fold_run-start
-fold_addend-slice_bounds-fold_run-start t c = omega (arith, bound (told (goal.at.fold_addend-slice_bounds-fold_run-start t c).After-span_at-span))
+fold_addend-slice_bounds-fold_run-start t c = omega (arith, bound (goal.at.fold_addend-slice_bounds-fold_run-start t c).In-At)
 
 pub fold_addend-slice_bounds-fold_run-end : goal.fold_addend-slice_bounds-fold_run-end
-fold_addend-slice_bounds-fold_run-end t c = omega (arith, bound (told (goal.at.fold_addend-slice_bounds-fold_run-end t c).After-span_at-span))
+fold_addend-slice_bounds-fold_run-end t c = omega (arith, bound (goal.at.fold_addend-slice_bounds-fold_run-end t c).In-At)
 
 pub fold_addend-fold_run-requires : goal.fold_addend-fold_run-requires
 fold_addend-fold_run-requires t c =
-    let s = begun (told (goal.at.fold_addend-fold_run-requires t c).After-span_at-span) in
-    let h = s.requires.0 in
-    let kind = (at (told (goal.at.fold_addend-fold_run-requires t c).After-span_at-span)).kind_at-kind in (
-      omega (arith, s.decreases, ap length (below-is (goal.at.fold_addend-fold_run-requires t c).After-span_at-span), body-rest (first s)),
+    let o = (goal.at.fold_addend-fold_run-requires t c).In-At in
+    let h = c.requires.0 in
+    let s = first (goal.at.fold_addend-fold_run-requires t c).Start in (
+      omega (arith, c.decreases, ap length c.body_of-below.ensures, body-rest s),
       (
-        record { f = _; q = _; free = _; holds = inner (goal.at.fold_addend-fold_run-requires t c).After-span_at-span h.held; starts = begins (goal.at.fold_addend-fold_run-requires t c).After-start_inside-begin h.held h.inside },
-        subst (λ (y : List ℕ). Coded by_kind (eqb kind.result record_kind) y) (sym (below-is (goal.at.fold_addend-fold_run-requires t c).After-span_at-span)) (coded-body (first s) (sym kind.ensures)),
+        record { f = _; q = _; free = _; holds = inner o c.span_at-span.ensures.0 h.held; starts = begins o c.span_at-span.ensures.0 c.start_inside-begin.ensures h.held h.inside },
+        subst (λ (y : List ℕ). Coded by_kind (eqb c.kind_at-kind.result record_kind) y) (sym c.body_of-below.ensures) (coded-body s (sym c.kind_at-kind.ensures)),
       ),
     )
 
 pub fold_addend-shape_of-a-in_default-fold_run : goal.fold_addend-shape_of-a-in_default-fold_run
-fold_addend-shape_of-a-in_default-fold_run t c = same (goal.at.fold_addend-shape_of-a-in_default-fold_run t c).After-fold_run
+fold_addend-shape_of-a-in_default-fold_run t c = same (goal.at.fold_addend-shape_of-a-in_default-fold_run t c).In-At c.fold_run.new.a c.fold_run.auto.a
 
 pub fold_addend-returns-in_default-fold_run : goal.fold_addend-returns-in_default-fold_run
 fold_addend-returns-in_default-fold_run t c f q free h s i =
-    let j = told (sp (goal.at.fold_addend-returns-in_default-fold_run t c).After-fold_run) in
-    let v : Held (at j) = record { f = f; q = q; free = free; holds = h; starts = s } in
-    step-full f _ h.used (short j) (counted j v) _ (span-is (sp (goal.at.fold_addend-returns-in_default-fold_run t c).After-fold_run) v) (type_payload (x j) 0) refl (add Counting (material (goal.at.fold_addend-returns-in_default-fold_run t c).After-fold_run)) (inside (goal.at.fold_addend-returns-in_default-fold_run t c).After-fold_run)
-    (run-full _ (behind (goal.at.fold_addend-returns-in_default-fold_run t c).After-fold_run v) (in_use (goal.at.fold_addend-returns-in_default-fold_run t c).After-fold_run) _ (inside (goal.at.fold_addend-returns-in_default-fold_run t c).After-fold_run) (added (goal.at.fold_addend-returns-in_default-fold_run t c).After-fold_run v i) c.in_default-fold_run.is)
+    let o = (goal.at.fold_addend-returns-in_default-fold_run t c).In-At in
+    let v : Held (at o) = record { f = f; q = q; free = free; holds = h; starts = s } in
+    step-full f _ h.used (short o) (counted o v) _ (span-is o c.span_at-span.ensures.0 v) (type_payload c.args.x.now 0) refl (add Counting (material o)) c.fold_run.new.a
+    (run-full _ (behind o v) (in_use o c.span_at-span.result) _ c.fold_run.new.a (added o c.span_at-span.ensures.0 _ _ c.start_inside-begin.ensures c.body_of-below.ensures c.fold_run.ensures v i) c.in_default-fold_run.is)
 
 pub fold_addend-overflow_add-size : goal.fold_addend-overflow_add-size
-fold_addend-overflow_add-size t c = omega (arith, small (goal.at.fold_addend-overflow_add-size t c).After-fold_run _ _ c.in-Records.is, bound (told (sp (goal.at.fold_addend-overflow_add-size t c).After-fold_run)))
+fold_addend-overflow_add-size t c = omega (arith, small (goal.at.fold_addend-overflow_add-size t c).In-At c.span_at-span.ensures.0 _ _ c.start_inside-begin.ensures c.body_of-below.ensures c.fold_run.ensures c.fold_run.auto.a _ _ c.in-Records.is, bound (goal.at.fold_addend-overflow_add-size t c).In-At)
 
 pub fold_addend-store_span-requires : goal.fold_addend-store_span-requires
-fold_addend-store_span-requires t c = omega (arith, small (goal.at.fold_addend-store_span-requires t c).After-fold_run _ _ c.in-Records.is, same (goal.at.fold_addend-store_span-requires t c).After-fold_run, same-arena (told (sp (goal.at.fold_addend-store_span-requires t c).After-fold_run)), bound (told (sp (goal.at.fold_addend-store_span-requires t c).After-fold_run)))
+fold_addend-store_span-requires t c = omega (arith, small (goal.at.fold_addend-store_span-requires t c).In-At c.span_at-span.ensures.0 _ _ c.start_inside-begin.ensures c.body_of-below.ensures c.fold_run.ensures c.fold_run.auto.a _ _ c.in-Records.is, same (goal.at.fold_addend-store_span-requires t c).In-At c.fold_run.new.a c.fold_run.auto.a, same-arena (goal.at.fold_addend-store_span-requires t c).In-At, bound (goal.at.fold_addend-store_span-requires t c).In-At)
 
 pub fold_addend-overflow_add-result : goal.fold_addend-overflow_add-result
-fold_addend-overflow_add-result t c = omega (arith, small (goal.at.fold_addend-overflow_add-result t c).After-fold_run _ _ c.in-Records.is, numbers (sp (goal.at.fold_addend-overflow_add-result t c).After-fold_run), bound (told (sp (goal.at.fold_addend-overflow_add-result t c).After-fold_run)))
+fold_addend-overflow_add-result t c = omega (arith, small (goal.at.fold_addend-overflow_add-result t c).In-At c.span_at-span.ensures.0 _ _ c.start_inside-begin.ensures c.body_of-below.ensures c.fold_run.ensures c.fold_run.auto.a _ _ c.in-Records.is, numbers (goal.at.fold_addend-overflow_add-result t c).In-At c.span_at-span.ensures.0, bound (goal.at.fold_addend-overflow_add-result t c).In-At)
 
 pub fold_addend-overflow_add-result-2 : goal.fold_addend-overflow_add-result-2
-fold_addend-overflow_add-result-2 t c = omega (arith, small (goal.at.fold_addend-overflow_add-result-2 t c).After-fold_run _ _ c.in-Records.is, numbers (sp (goal.at.fold_addend-overflow_add-result-2 t c).After-fold_run), bound (told (sp (goal.at.fold_addend-overflow_add-result-2 t c).After-fold_run)))
+fold_addend-overflow_add-result-2 t c = omega (arith, small (goal.at.fold_addend-overflow_add-result-2 t c).In-At c.span_at-span.ensures.0 _ _ c.start_inside-begin.ensures c.body_of-below.ensures c.fold_run.ensures c.fold_run.auto.a _ _ c.in-Records.is, numbers (goal.at.fold_addend-overflow_add-result-2 t c).In-At c.span_at-span.ensures.0, bound (goal.at.fold_addend-overflow_add-result-2 t c).In-At)
 
 pub fold_addend-overflow_sub-result : goal.fold_addend-overflow_sub-result
-fold_addend-overflow_sub-result t c = omega (arith, small (goal.at.fold_addend-overflow_sub-result t c).After-fold_run _ _ c.in-Records.is, numbers (sp (goal.at.fold_addend-overflow_sub-result t c).After-fold_run), bound (told (sp (goal.at.fold_addend-overflow_sub-result t c).After-fold_run)))
+fold_addend-overflow_sub-result t c = omega (arith, small (goal.at.fold_addend-overflow_sub-result t c).In-At c.span_at-span.ensures.0 _ _ c.start_inside-begin.ensures c.body_of-below.ensures c.fold_run.ensures c.fold_run.auto.a _ _ c.in-Records.is, numbers (goal.at.fold_addend-overflow_sub-result t c).In-At c.span_at-span.ensures.0, bound (goal.at.fold_addend-overflow_sub-result t c).In-At)
 
 pub fold_addend-shape_of-a : goal.fold_addend-shape_of-a
-fold_addend-shape_of-a t c = c.store_span.auto.b ∙ same (goal.at.fold_addend-shape_of-a t c).After-fold_run
+fold_addend-shape_of-a t c = c.store_span.auto.b ∙ same (goal.at.fold_addend-shape_of-a t c).In-At c.fold_run.new.a c.fold_run.auto.a
 
 pub fold_addend-returns : goal.fold_addend-returns
 fold_addend-returns t c f q free h s i =
-    let j = told (sp (goal.at.fold_addend-returns t c).After-fold_run) in
-    let v : Held (at j) = record { f = f; q = q; free = free; holds = h; starts = s } in
-    let w = stored (goal.at.fold_addend-returns t c).After-fold_run v i _ _ c.in-Records.is in (
-      step-grown f _ h.used (short j) (counted j v) _ (span-is (sp (goal.at.fold_addend-returns t c).After-fold_run) v) (type_payload (x j) 0) refl (add Counting (material (goal.at.fold_addend-returns t c).After-fold_run)) _ _ _ w.0 c.store_span.ensures,
-      (counted j v).place,
-      inside_found _ _ _ _ (first_label (x j)) _ _ _ (insert-split (first_label (x j)) (type_payload (x j) 0) (add Counting (material (goal.at.fold_addend-returns t c).After-fold_run)) f) (counted j v).place w.1,
+    let o = (goal.at.fold_addend-returns t c).In-At in
+    let v : Held (at o) = record { f = f; q = q; free = free; holds = h; starts = s } in
+    let w = stored o c.span_at-span.ensures.0 _ _ c.start_inside-begin.ensures c.body_of-below.ensures c.fold_run.ensures v i _ _ c.in-Records.is in (
+      step-grown f _ h.used (short o) (counted o v) _ (span-is o c.span_at-span.ensures.0 v) (type_payload c.args.x.now 0) refl (add Counting (material o)) _ _ _ w.0 c.store_span.ensures,
+      (counted o v).place,
+      inside_found _ _ _ _ (first_label c.args.x.now) _ _ _ (insert-split (first_label c.args.x.now) (type_payload c.args.x.now 0) (add Counting (material o)) f) (counted o v).place w.1,
     )
 
 module _ {t : ℕ} where
@@ -307,51 +288,39 @@ module _ {t : ℕ} where
   -- a turn of the loop, in which something is left
   module _ (c : goal.fold_run-In-loop-y t) where
 
-    abbrev start : goal.fold_run-Start t
-    start = c.before.before.before.before.before.before
-
-    abbrev y : List ℕ
-    y = c.loop-y.y.now
-
     -- the siblings that were there, of some type
-    abbrev Held : CountingType → List ℕ → List ℕ → Type 0
-    Held f q free = ArenaHolds by_kind start.args.field start.args.a.now start.args.n start.args.rest f q free
+    abbrev WereHeld : CountingType → List ℕ → List ℕ → Type 0
+    WereHeld f q free = ArenaHolds by_kind c.args.field c.args.a.now c.args.n c.args.rest f q free
 
-    ran : {f : CountingType} {q free : List ℕ} → Held f q free → Starts start.args.start f → RanTo start.args.field start.args.x.now f q c.loop-y.a y c.loop-y.m c.loop-y.from c.loop-y.inside c.loop-y.low
+    ran : {f : CountingType} {q free : List ℕ} → WereHeld f q free → Starts c.args.start f → RanTo c.args.field c.args.x.now f q c.loop-y.a c.loop-y.y.now c.loop-y.m c.loop-y.from c.loop-y.inside c.loop-y.low
     ran h s = c.loop-y.invariant.2 _ _ _ h s
 
-    one : Coded by_kind start.args.field y
-    one = (ran start.requires.0.holds start.requires.0.starts).coded
+    one : Coded by_kind c.args.field c.loop-y.y.now
+    one = (ran c.requires.0.holds c.requires.0.starts).coded
 
-    short : length c.loop-y.a ≤ 65536
-    short = omega (arith, start.requires.0.holds.short, c.loop-y.invariant.0)
+    short-so-far : length c.loop-y.a ≤ 65536
+    short-so-far = omega (arith, c.requires.0.holds.short, c.loop-y.invariant.0)
 
-  -- its first addend or field has been added
-  module _ (c : goal.fold_run-After-fold_addend t) where
-
-    abbrev turn : goal.fold_run-In-loop-y t
-    turn = (record { before = c.before.before.before; type_inv = record { work = c.type_inv.work; x = c.type_inv.x } })
-
-    added : {f : CountingType} {q free : List ℕ} (h : Held turn f q free) (s : Starts (start turn).args.start f) → FoldedFirst (with_first (y turn) (ran turn h s).g) (size (split (first_label (y turn)) (ran turn h s).g).before) q (start turn).args.rest c.fold_addend.result c.fold_addend.new.a
-    added h s =
-        let r = ran turn h s in
-        c.fold_addend.ensures r.g _ r.free (ran-holds r _ h.used (short turn)) r.starts r.inside
-
-    same-arena : length c.fold_addend.new.a ≡ length (start turn).args.a.now
-    same-arena = c.fold_addend.auto.a ∙ turn.loop-y.invariant.0
+    -- its first addend or field has been added
+    first-added : (result : Placed) (a : List ℕ) → ((f : CountingType) (q free : List ℕ) → ArenaHolds by_kind c.args.field c.loop-y.a c.loop-y.m c.args.rest f q free → Starts c.loop-y.from f → Inside c.loop-y.inside c.loop-y.from f →
+        FoldedFirst (with_first c.loop-y.y.now f) (size (split (first_label c.loop-y.y.now) f).before) q c.args.rest result a) → {f : CountingType} {q free : List ℕ} (h : WereHeld f q free) (s : Starts c.args.start f) →
+        FoldedFirst (with_first c.loop-y.y.now (ran h s).g) (size (split (first_label c.loop-y.y.now) (ran h s).g).before) q c.args.rest result a
+    first-added result a e h s =
+        let r = ran h s in
+        e r.g _ r.free (ran-holds r _ h.used short-so-far) r.starts r.inside
 
 pub fold_run-loop-y-init : goal.fold_run-loop-y-init
 fold_run-loop-y-init t c = (refl, le_refl _, λ f q free h s. ran-start h s c.requires.1)
 
 pub fold_run-fold_addend-requires : goal.fold_run-fold_addend-requires
 fold_run-fold_addend-requires t c =
-    let s = start (goal.at.fold_run-fold_addend-requires t c).In-loop-y in
-    let h = s.requires.0 in
-    let r = ran (goal.at.fold_run-fold_addend-requires t c).In-loop-y h.holds h.starts in (
-      omega (arith, s.decreases, c.loop-y.invariant.1),
+    let o = (goal.at.fold_run-fold_addend-requires t c).In-loop-y in
+    let h = c.requires.0 in
+    let r = ran o h.holds h.starts in (
+      omega (arith, c.decreases, c.loop-y.invariant.1),
       (
         record {
-          held = record { f = r.g; q = _; free = r.free; holds = ran-holds r _ h.holds.used (short (goal.at.fold_run-fold_addend-requires t c).In-loop-y); starts = r.starts };
+          held = record { f = r.g; q = _; free = r.free; holds = ran-holds r _ h.holds.used (short-so-far o); starts = r.starts };
           inside = r.inside;
         },
         r.coded,
@@ -360,11 +329,12 @@ fold_run-fold_addend-requires t c =
     )
 
 pub fold_run-shape_of-a-in_default : goal.fold_run-shape_of-a-in_default
-fold_run-shape_of-a-in_default t c = same-arena (goal.at.fold_run-shape_of-a-in_default t c).After-fold_addend
+fold_run-shape_of-a-in_default t c = c.fold_addend.auto.a ∙ c.loop-y.invariant.0
 
 pub fold_run-returns-in_default : goal.fold_run-returns-in_default
 fold_run-returns-in_default t c f q free h s =
-    ran-full (ran (turn (goal.at.fold_run-returns-in_default t c).After-fold_addend) h s) (turn (goal.at.fold_run-returns-in_default t c).After-fold_addend).loop-y-test.true _ _ _ c.in_default.is (added (goal.at.fold_run-returns-in_default t c).After-fold_addend h s)
+    let o = (goal.at.fold_run-returns-in_default t c).In-loop-y in
+    ran-full (ran o h s) c.loop-y-test.true _ _ _ c.in_default.is (first-added o _ _ c.fold_addend.ensures h s)
 
 pub fold_run-rest_of-r-requires : goal.fold_run-rest_of-r-requires
 fold_run-rest_of-r-requires t c = headed (addend (one (goal.at.fold_run-rest_of-r-requires t c).In-loop-y) c.loop-y-test.true)
@@ -374,11 +344,11 @@ fold_run-loop-y-smaller t c = omega (arith, ap length c.rest_of-r.ensures, body-
 
 pub fold_run-loop-y-preserved : goal.fold_run-loop-y-preserved
 fold_run-loop-y-preserved t c =
-    let i = turn (goal.at.fold_run-loop-y-preserved t c).After-fold_addend in (
-      same-arena (goal.at.fold_run-loop-y-preserved t c).After-fold_addend,
-      omega (arith, ap length c.rest_of-r.ensures, body-rest (addend (one i) i.loop-y-test.true), i.loop-y.invariant.1),
+    let o = (goal.at.fold_run-loop-y-preserved t c).In-loop-y in (
+      c.fold_addend.auto.a ∙ c.loop-y.invariant.0,
+      omega (arith, ap length c.rest_of-r.ensures, body-rest (addend (one o) c.loop-y-test.true), c.loop-y.invariant.1),
       λ f q free h s.
-          ran-next (ran i h s) i.loop-y-test.true _ _ _ _ _ c.in-At.is (added (goal.at.fold_run-loop-y-preserved t c).After-fold_addend h s) _ _ c.lowest_of-low.ensures _ c.rest_of-r.ensures,
+          ran-next (ran o h s) c.loop-y-test.true _ _ _ _ _ c.in-At.is (first-added o _ _ c.fold_addend.ensures h s) _ _ c.lowest_of-low.ensures _ c.rest_of-r.ensures,
     )
 
 pub fold_run-shape_of-a : goal.fold_run-shape_of-a

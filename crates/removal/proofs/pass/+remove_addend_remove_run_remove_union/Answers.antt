@@ -25,16 +25,16 @@ use mathlib.Core.Path.{sym, ◌∙◌}
 use borrow.Author.Tests.{not-false}
 use Rattle.removal.proofs.OnBytes.Stored.{run-lost, run-passes, run-stored, tail-limit}
 use Rattle.removal.proofs.pass.+remove_addend_remove_run_remove_union.Goals as goal
-use Rattle.removal.proofs.pass.+remove_addend_remove_run_remove_union.Goals.{remove_addend-After-remove_union, remove_addend-Start, remove_run-Else-x-eq0}
+use Rattle.removal.proofs.pass.+remove_addend_remove_run_remove_union.Goals.{remove_addend-After-remove_union, remove_addend-Start, remove_run-Else-x-eq0, remove_run-then-lacks, remove_run-else-lacks, remove_run-then-lacks-2, remove_run-else-lacks-2, remove_union-else-level-via-then-level+else-passes, remove_union-else-level-via-else-level}
 
 module _ {t : ℕ} where
   -- The needs of `remove_addend`.
   -- what is known of the two first addends
   x-head : (s : goal.remove_addend-Start t) → Head s.args.level s.args.x.now
-  x-head s = head s.requires.0.0.run s.requires.0.1
+  x-head s = head s.requires.whole_run.0.run s.requires.whole_run.1
 
   y-head : (s : goal.remove_addend-Start t) → Head s.args.level s.args.y.now
-  y-head s = head s.requires.1.0.0 s.requires.1.0.1
+  y-head s = head s.requires.type_run.0 s.requires.type_run.1
 
   -- what is known once the run inside is done
   inside : (u : goal.remove_addend-After-remove_union t) → LeftInside u.args.limit u.args.y.now (x-head u.before.before.before.before.before.before.before.before.before.before.before.before.before.before.before.before.before) (u.count_at-count.result - u.count_at-taken.result) u.limit_inside-most.result u.inside-inner.result u.body_of-2.result.now u.body_of-3.result.now
@@ -92,7 +92,7 @@ remove_addend-inside-inner-requires t c = (x-head (goal.at.remove_addend-inside-
 pub remove_addend-overflow_add-from : goal.remove_addend-overflow_add-from
 remove_addend-overflow_add-from t c =
     let h = (x-head (goal.at.remove_addend-overflow_add-from t c).Start).first in
-    omega (arith, c.requires.1.1)
+    omega (arith, c.requires.x_bound)
 
 pub remove_addend-body_of-requires-2 : goal.remove_addend-body_of-requires-2
 remove_addend-body_of-requires-2 t c = headed (x-head (goal.at.remove_addend-body_of-requires-2 t c).Start).first
@@ -109,9 +109,9 @@ remove_addend-remove_union-requires t c =
     let v = c.body_of-3.ensures in (
       rw l (omega (arith, rank-inside h, c.decreases)),
       (
-        rw (c.limit_inside-most.ensures, l, u) (whole-inside h c.requires.0.0 _),
-        rw (l, v, c.requires.1.0.2) g.in_body,
-        omega (arith, ap length u, body-rest h.first, c.requires.1.1),
+        rw (c.limit_inside-most.ensures, l, u) (whole-inside h c.requires.whole_run.0 _),
+        rw (l, v, c.requires.type_run.2) g.in_body,
+        omega (arith, ap length u, body-rest h.first, c.requires.x_bound),
       ),
     )
 
@@ -123,16 +123,16 @@ remove_addend-key_at-requires t c =
 pub remove_addend-put_record-requires : goal.remove_addend-put_record-requires
 remove_addend-put_record-requires t c =
     let h = (x-head (goal.at.remove_addend-put_record-requires t c).Start).first in
-    omega (arith, c.requires.1.1)
+    omega (arith, c.requires.x_bound)
 
 pub remove_addend-overflow_add-at : goal.remove_addend-overflow_add-at
 remove_addend-overflow_add-at t c =
     let h = (x-head (goal.at.remove_addend-overflow_add-at t c).Start).first in
-    omega (arith, c.requires.1.1)
+    omega (arith, c.requires.x_bound)
 
 pub remove_addend-overflow_add-at-in-Bytes : goal.remove_addend-overflow_add-at-in-Bytes
 remove_addend-overflow_add-at-in-Bytes t c =
-    omega (arith, c.requires.1.1, body-rest (x-head (goal.at.remove_addend-overflow_add-at-in-Bytes t c).Start).first, inside-fits _ _ (x-head (goal.at.remove_addend-overflow_add-at-in-Bytes t c).Start) (inside (goal.at.remove_addend-overflow_add-at-in-Bytes t c).After-remove_union) _ _ _ _ (rw c.in-Bytes.is at c.remove_union.ensures))
+    omega (arith, c.requires.x_bound, body-rest (x-head (goal.at.remove_addend-overflow_add-at-in-Bytes t c).Start).first, inside-fits _ _ (x-head (goal.at.remove_addend-overflow_add-at-in-Bytes t c).Start) (inside (goal.at.remove_addend-overflow_add-at-in-Bytes t c).After-remove_union) _ _ _ _ (rw c.in-Bytes.is at c.remove_union.ensures))
 
 pub remove_addend-shape_of-out-in-NotPart : goal.remove_addend-shape_of-out-in-NotPart
 remove_addend-shape_of-out-in-NotPart t c = c.remove_union.auto.out
@@ -185,7 +185,7 @@ remove_run-loop-y-smaller-in-Less t c =
 pub remove_run-loop-y-preserved-in-Less : goal.remove_run-loop-y-preserved-in-Less
 remove_run-loop-y-preserved-in-Less t c =
     turn-less c.loop-y.invariant (whole-head (goal.at.remove_run-loop-y-preserved-in-Less t c).Else-x-eq0) (part-head (goal.at.remove_run-loop-y-preserved-in-Less t c).Else-x-eq0) (ap ordering_of (sym c.in-Less.is) ∙ c.compare_labels.ensures) c.keep-r.ensures
-    (⊎_elim (λ w. lacks-before _ w.0.taken w.1) (λ w. lacks-now w.0.left (w.2 ∙ ap (ltb c.args.limit) w.1.ensures)) c.if-lacks.branch)
+    (elim c.if-lacks.branch [ remove_run-then-lacks w ↦ lacks-before _ w.if-lacks.true w.lacks-is | remove_run-else-lacks w ↦ lacks-now w.if-lacks.false (w.lacks-is ∙ ap (ltb c.args.limit) w.count_at.ensures) ])
 
 pub remove_run-rest_of-r-requires : goal.remove_run-rest_of-r-requires
 remove_run-rest_of-r-requires t c = headed (part-head (goal.at.remove_run-rest_of-r-requires t c).Else-x-eq0).first
@@ -225,7 +225,7 @@ remove_run-loop-y-preserved t c =
     let i = ap ordering_of (sym c.in-Same.is) ∙ c.compare_labels.ensures in
     let r = c.remove_addend-lack in
     turn-same c.loop-y.invariant (whole-head (goal.at.remove_run-loop-y-preserved t c).Else-x-eq0) (part-head (goal.at.remove_run-loop-y-preserved t c).Else-x-eq0) i r.ensures r.auto.out c.rest_of-u.ensures c.rest_of-v.ensures
-    (⊎_elim (λ w. lacks-before _ w.0.taken w.1) (λ w. lacks-now w.0.left w.1) c.if-lacks-2.branch)
+    (elim c.if-lacks-2.branch [ remove_run-then-lacks-2 w ↦ lacks-before _ w.if-lacks-2.true w.lacks-is | remove_run-else-lacks-2 w ↦ lacks-now w.if-lacks-2.false w.lacks-is ])
 
 pub remove_run-shape_of-out : goal.remove_run-shape_of-out
 remove_run-shape_of-out t c = c.loop-y.invariant.long
@@ -262,4 +262,4 @@ remove_union-overflow_sub-result t c = omega (arith, c.remove_run-tail.ensures.f
 pub remove_union-returns : goal.remove_union-returns
 remove_union-returns t c =
     let r = rw c.if-lacks.false at c.remove_run-tail.ensures in
-    run-stored r _ (⊎_elim (λ w. not-false _ (sym (w.1.ensures _ _ r.tail.run.coded) ∙ w.2.left)) (λ w. tail-limit r w.left) c.else-level.branch) c.put_bytes.ensures
+    run-stored r _ (elim c.else-level.branch [ remove_union-else-level-via-then-level+else-passes w ↦ not-false _ (sym (w.passes.ensures _ _ r.tail.run.coded) ∙ w.if-passes.false) | remove_union-else-level-via-else-level w ↦ tail-limit r w.if-level.false ]) c.put_bytes.ensures
