@@ -60,7 +60,6 @@ module _ {t : ℕ} where
 
   -- what the search for the first label has found
   module _ (c : goal.fold_addend-After-place t) where
-
     abbrev pub Held : Type 0
     Held = HeldAt c.args.field c.args.a.now c.args.n c.args.rest c.args.from
 
@@ -72,7 +71,6 @@ module _ {t : ℕ} where
 
   -- the label has its record
   module _ (c : goal.fold_addend-In-At t) where
-
     abbrev pub at : goal.fold_addend-After-place t
     at = (record { before = c.before.before.before.before; type_inv = record { work = c.type_inv.work; x = c.type_inv.x } })
 
@@ -127,7 +125,6 @@ module _ {t : ℕ} where
 
     -- its span is read
     module _ {span : ℕ} (e : span ≡ type_span arena place) where
-
       pub span-is : (h : Held at) → span ≡ 1 + size (content h)
       span-is h = e ∙ step-span h.f _ h.holds.used short (counted h)
 
@@ -147,7 +144,6 @@ module _ {t : ℕ} where
       -- what is inside it has been added
       module _ {begin : ℕ} {below : List ℕ} (inside : List ℕ) (result : Folded) (b : begin ≡ start_inside (eqb place c.args.from) c.args.inside (span - 1)) (w : below ≡ body x)
           (r : (f : CountingType) (q free : List ℕ) → ArenaHolds by_kind (eqb c.kind_at-kind.result record_kind) below-bytes (span - 1) (in_use span) f q free → Starts begin f → FoldedRun (add Counting (type_of by_kind below) f) q (in_use span) result inside) where
-
         pub added : (h : Held at) → Hint h → FoldedRun (add Counting material (content h)) (behind h) (in_use span) result inside
         added h i =
             subst (λ (y : List ℕ). FoldedRun (add Counting (type_of by_kind y) (content h)) (behind h) (in_use span) result inside) w
@@ -287,7 +283,6 @@ module _ {t : ℕ} where
   -- The needs of `fold_run`.
   -- a turn of the loop, in which something is left
   module _ (c : goal.fold_run-In-loop-y t) where
-
     -- the siblings that were there, of some type
     abbrev WereHeld : CountingType → List ℕ → List ℕ → Type 0
     WereHeld f q free = ArenaHolds by_kind c.args.field c.args.a.now c.args.n c.args.rest f q free

@@ -202,8 +202,7 @@ remove_run-loop-y-preserved-in-More t c =
 pub remove_run-remove_addend-lack-requires : goal.remove_run-remove_addend-lack-requires
 remove_run-remove_addend-lack-requires t c =
     let i = ap ordering_of (sym c.in-Same.is) ∙ c.compare_labels.ensures in
-    let l = c.loop-y in
-    (
+    let l = c.loop-y in (
       omega (arith, c.decreases),
       ((l.invariant.whole, omega arith), ((l.invariant.part, c.loop-y-test.true, same-kinds _ _ _ i), omega (arith, l.invariant.room, c.requires))),
     )
