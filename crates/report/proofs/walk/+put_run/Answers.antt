@@ -1,10 +1,7 @@
 -- `put_run` meets its contract: the lines of the records from p on are left to store.
-use Prim.Native.Nat.{ℕ, ◌-◌, ◌<◌}
 use native.Mathlib.Omega.{arith}
-use borrow.Author.Rules.{rules}
-use Rattle.report.specs.Report.{program_equivalence}
 use Rattle.report.proofs.Runs.{run-first}
-use Rattle.report.proofs.Walking.{Walking, walking_start, walking-next, walking-done}
+use Rattle.report.proofs.Walking.{walking_start, walking-next, walking-done}
 use Rattle.report.proofs.walk.+put_run.Goals as goal
 
 pub loop-p-init : goal.loop-p-init
