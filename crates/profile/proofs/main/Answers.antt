@@ -1,5 +1,4 @@
 -- `main` is safe and ends: the text that is written stands in its buffer.
-use borrow.Author.Rules.{rules}
 use Rattle.report.proofs.Storing.{left-within, left-counted}
 use Rattle.profile.proofs.main.Goals as goal
 

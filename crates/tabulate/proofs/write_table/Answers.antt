@@ -4,7 +4,6 @@ use mathlib.Core.Path.{sym}
 use native.Mathlib.Omega.{arith}
 use lib.ListN.{length}
 use lib.Seq.{length-take-le}
-use borrow.Author.Rules.{rules}
 use Rattle.value_table.specs.Value.{record_size}
 use Rattle.tabulate.proofs.Room.{answered-room}
 use Rattle.tabulate.proofs.write_table.Goals as goal

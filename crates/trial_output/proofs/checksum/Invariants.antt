@@ -1,5 +1,5 @@
 -- `checksum` is safe and ends: the loop stays within the bytes, and keeps both sums below their modulus.
-use Rattle.std.proofs.Common.{◌-◌, ◌<◌, ◌≤◌, rules}
+use Rattle.std.proofs.Common.{◌-◌, ◌<◌, ◌≤◌}
 use Rattle.trial_output.proofs.checksum.Given as goal
 
 abbrev pub invariant-loop-k : goal.invariant-loop-k

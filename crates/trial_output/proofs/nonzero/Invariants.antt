@@ -1,5 +1,5 @@
 -- `nonzero` is safe and ends: the loop stays within the bytes.
-use Rattle.std.proofs.Common.{◌-◌, ◌≤◌, rules}
+use Rattle.std.proofs.Common.{◌-◌, ◌≤◌}
 use Rattle.trial_output.proofs.nonzero.Given as goal
 
 abbrev pub invariant-loop-k : goal.invariant-loop-k

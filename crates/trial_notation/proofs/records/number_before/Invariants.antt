@@ -1,5 +1,5 @@
 -- `number_before` is safe and ends: the loop counts the bytes.
-use Rattle.std.proofs.Common.{◌-◌, ◌≤◌, rules}
+use Rattle.std.proofs.Common.{◌-◌, ◌≤◌}
 use Rattle.trial_notation.proofs.records.number_before.Given as goal
 
 abbrev pub invariant-loop : goal.invariant-loop

@@ -1,5 +1,5 @@
 -- `put_bytes` is safe and ends: the loop keeps the length of the buffer.
-use Rattle.std.proofs.Common.{◌≡◌, ◌-◌, ◌≤◌, length, rules}
+use Rattle.std.proofs.Common.{◌≡◌, ◌-◌, ◌≤◌, length}
 use Rattle.trial_notation.proofs.records.put_bytes.Given as goal
 
 abbrev pub invariant-loop-k : goal.invariant-loop-k

@@ -1,5 +1,5 @@
 -- `put_run` is safe and ends: the loop keeps the length of the buffer.
-use Rattle.std.proofs.Common.{◌≡◌, ◌-◌, length, rules}
+use Rattle.std.proofs.Common.{◌≡◌, ◌-◌, length}
 use Rattle.trial_notation.proofs.records.put_run.Given as goal
 
 abbrev pub invariant-loop : goal.invariant-loop

@@ -1,5 +1,5 @@
 -- `put_text` is safe and ends: the loop stays within the text, and keeps the length of the buffer.
-use Rattle.std.proofs.Common.{◌≡◌, ◌-◌, ◌<◌, ◌≤◌, length, rules}
+use Rattle.std.proofs.Common.{◌≡◌, ◌-◌, ◌<◌, ◌≤◌, length}
 use Rattle.trial_notation.proofs.records.put_text.Given as goal
 
 abbrev pub invariant-loop-k : goal.invariant-loop-k

@@ -1,5 +1,5 @@
 -- `put_book` is safe and ends: the loop stays within the text, and keeps the length of the buffer.
-use Rattle.std.proofs.Common.{◌≡◌, ◌-◌, ◌≤◌, length, rules}
+use Rattle.std.proofs.Common.{◌≡◌, ◌-◌, ◌≤◌, length}
 use Rattle.trial_notation.proofs.spelled.put_book.Given as goal
 
 abbrev pub invariant-loop-k : goal.invariant-loop-k

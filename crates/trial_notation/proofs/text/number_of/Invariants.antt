@@ -1,5 +1,5 @@
 -- `number_of` is safe and ends: the loop stays within the text.
-use Rattle.std.proofs.Common.{◌-◌, ◌≤◌, rules}
+use Rattle.std.proofs.Common.{◌-◌, ◌≤◌}
 use Rattle.trial_notation.proofs.text.number_of.Given as goal
 
 abbrev pub invariant-loop-k : goal.invariant-loop-k

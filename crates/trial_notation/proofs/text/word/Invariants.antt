@@ -1,5 +1,5 @@
 -- `word` is safe and ends: the loop takes so many turns.
-use Rattle.std.proofs.Common.{◌-◌, ◌≤◌, rules}
+use Rattle.std.proofs.Common.{◌-◌, ◌≤◌}
 use Rattle.trial_notation.proofs.text.word.Given as goal
 
 abbrev pub invariant-loop : goal.invariant-loop

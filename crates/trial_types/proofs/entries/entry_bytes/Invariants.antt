@@ -1,5 +1,5 @@
 -- `entry_bytes` is safe and ends: the loop stays within the records.
-use Rattle.std.proofs.Common.{◌-◌, ◌≤◌, rules}
+use Rattle.std.proofs.Common.{◌-◌, ◌≤◌}
 use Rattle.trial_types.proofs.entries.entry_bytes.Given as goal
 
 abbrev pub invariant-loop-i : goal.invariant-loop-i
