@@ -1,4 +1,4 @@
-/* Counting types for line messages: the C interface. Link libct.a, which `rt staticlib ct` writes (x86-64 Linux). */
+/* Counting types for line messages: the C interface. Link libct.a, which `bash tools/build ct` writes (x86-64 Linux). */
 #ifndef CT_H
 #define CT_H
 

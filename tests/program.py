@@ -1,7 +1,7 @@
 """The profile program beside the map of places to counts (inferences.py), on the tables of its trials, on tables with counts near all and
 near none, and on longer input.
 
-Run by tests/run, which builds the program: python3 tests/program.py target/bin/profile sample/log.table
+Run by tests/run, which builds the program: python3 tests/program.py crates/profile/out/profile sample/log.table
 """
 import subprocess
 import sys

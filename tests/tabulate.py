@@ -1,6 +1,6 @@
 """The tabulate program beside the answers of texts.py: its records or its line of refusal, for the known inputs, the sample and longer ones.
 
-Run by tests/run, which builds the program: python3 tests/tabulate.py target/bin/tabulate sample/log.json sample/keys.book
+Run by tests/run, which builds the program: python3 tests/tabulate.py crates/tabulate/out/tabulate sample/log.json sample/keys.book
 """
 import subprocess
 import sys

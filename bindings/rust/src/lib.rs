@@ -1,7 +1,7 @@
-//! Counting types for line messages: safe calls of libct.a, which `rt staticlib ct` writes (x86-64 Linux).
+//! Counting types for line messages: safe calls of libct.a, which `bash tools/build ct` writes (x86-64 Linux).
 //!
-//! The directory of libct.a is a library search path of the compiler: `rustc -L native=target/staticlib`, or for cargo
-//! `RUSTFLAGS="-L native=$PWD/target/staticlib"`. The archive becomes part of this crate's rlib.
+//! The directory of libct.a is a library search path of the compiler: `rustc -L native=crates/ct/out`, or for cargo
+//! `RUSTFLAGS="-L native=$PWD/crates/ct/out"`. The archive becomes part of this crate's rlib.
 //!
 //! Layouts, places and the profile are document 01's, texts and key books those of change 1. No call keeps anything, and each
 //! answer depends on its inputs alone. Lengths are looked at first, then the equivalence or the book, then the bytes.

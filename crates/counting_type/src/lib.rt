@@ -1,4 +1,6 @@
 // The upper library: infers, judges and merges counting types.
+#![tactic(auto)]
+
 ghost use Rattle.std.specs.Prelude.{◌≡◌, [], ◌≤◌, length};
 ghost use Rattle.value_table.specs.Value.{max_length};
 ghost use Rattle.value_table.specs.Judged.{messages};

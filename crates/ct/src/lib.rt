@@ -1,4 +1,6 @@
 // The C interface, as bindings/ct.h declares it.
+#![tactic(auto)]
+
 ghost use Rattle.std.specs.Prelude.{◌≡◌, [], length};
 ghost use Rattle.value_table.specs.Outcome.{outcome_of_answer};
 ghost use Rattle.value_table.specs.Judged.{judged};

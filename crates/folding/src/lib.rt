@@ -1,4 +1,6 @@
 // Folding: turns a type under label into the type under kind.
+#![tactic(auto)]
+
 mod pass;
 
 ghost use Rattle.std.specs.Prelude.{◌≡◌, ◌≤◌, length};

@@ -1,4 +1,6 @@
 // Inference of a whole table. Equal messages are gathered first and then added at once, since a log repeats few shapes.
+#![tactic(auto)]
+
 mod slots;
 
 ghost use Rattle.std.specs.Prelude.{◌≡◌, true, false, ◌↔◌, List, [], ℕ, ◌+◌, ◌*◌, ◌≤◌, ◌<◌, length, replicate};

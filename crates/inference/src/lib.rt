@@ -1,4 +1,6 @@
 // Inference in place: runs of values are added to the siblings that stand in an arena.
+#![tactic(auto)]
+
 mod elements;
 mod finding;
 pub mod inferring;

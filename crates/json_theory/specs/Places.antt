@@ -42,7 +42,7 @@ Begins name c = (s : List ℕ) × (head : Head) × (content : Values) × (m : Li
 -- the key that a value may have: 0, or in an object that is not full one that is listed and that no member before has
 abbrev pub Keyed : ℕ → Stack → Type 0
 Keyed key (base ms) = key ≡ 0
-Keyed key (level array k done outer) = key ≡ 0
+Keyed key (level array k _ outer) = key ≡ 0
 Keyed key (level object k done outer) = (1 ≤ key) × (member key (keys done) ≡ false) × (count done < max_fields)
 
 -- the messages, if the open arrays and objects ended here, with v behind the values of the innermost

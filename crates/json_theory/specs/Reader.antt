@@ -12,7 +12,7 @@ use Rattle.json_theory.specs.Book.{bad_book_length, bad_book, key_number}
 -- how many arrays and objects are open, and how many value records there are
 unfoldable pub depth : Stack → ℕ
 depth (base ms) = 0
-depth (level o key done outer) = suc (depth outer)
+depth (level o key _ outer) = suc (depth outer)
 
 unfoldable pub written : Stack → ℕ
 written (base ms) = size ms

@@ -1,4 +1,6 @@
 // Merges two well-formed types in one pass over both: union by union, and inside addends that have one label.
+#![tactic(auto)]
+
 ghost use Rattle.std.specs.Prelude.{◌≡◌, ◌||◌, ◌+◌, ◌^◌, ◌<◌, length};
 ghost use Rattle.counting_theory.specs.Encoding.{type_kind, type_of};
 ghost use Rattle.counting_theory.specs.WellFormed.{IsType};

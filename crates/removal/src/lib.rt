@@ -1,4 +1,6 @@
 // Removal: takes a part out of a whole type.
+#![tactic(auto)]
+
 mod pass;
 
 ghost use Rattle.std.specs.Prelude.{◌≡◌, [], length};

@@ -1,4 +1,6 @@
 // Well-formedness of a type in 16-byte records, which removal alone works on, in one pass over its records.
+#![tactic(auto)]
+
 pub mod pair;
 pub mod written;
 

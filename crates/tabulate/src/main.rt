@@ -40,13 +40,17 @@ fn is_unreadable(mut file: &File) -> bool {
     file.read(&mut byte).is_err()
 }
 
-// What failed, and the system's words for it, without the number that may stand behind them.
+// The system's words for an error, without the number that may stand behind them.
+fn words(text: &str) -> &str {
+    match text.split_once(" (os error ") {
+        Some((words, _)) => words,
+        None => text,
+    }
+}
+
 fn print_failure(rt: &HostRuntime, what: &str, error: io::Error) -> io::Result<()> {
     let text = format!(in rt.alloc(); "{error}")?;
-    let words = match text.split_once(" (os error ") {
-        Some((words, _)) => words,
-        None => text.as_str(),
-    };
+    let words = words(&text);
     eprintln!(rt; "{what}: {words}")
 }
 

@@ -1,4 +1,6 @@
 // Tag-bus inference: types of messages whose keys are 1 to 64, with their key sets as words.
+#![tactic(auto)]
+
 mod entries;
 
 ghost use Rattle.std.specs.Prelude.{◌≡◌, ◌||◌, ◌≤◌, length};

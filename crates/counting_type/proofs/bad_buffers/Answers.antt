@@ -1,6 +1,5 @@
 -- `bad_buffers` meets its contract.
 use mathlib.Core.Path.{sym, ◌∙◌}
-use borrow.Author.Rules.{rules}
 use Rattle.counting_type.proofs.bad_buffers.Goals as goal
 
 pub returns-then-bad_length : goal.returns-then-bad_length

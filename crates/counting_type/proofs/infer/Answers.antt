@@ -1,7 +1,6 @@
 -- `infer` meets its contract.
 use mathlib.Core.Path.{◌∙◌, ap}
 use native.Mathlib.Omega.{arith}
-use borrow.Author.Rules.{rules}
 use Rattle.byte_records.specs.Number.{zeros}
 use Rattle.answers.proofs.Fronts.{front_length, front-cleared}
 use Rattle.byte_records.proofs.Clear.{cleared-whole}

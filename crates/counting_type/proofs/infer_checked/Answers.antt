@@ -1,7 +1,6 @@
 -- `infer_checked` meets its contract.
 use mathlib.Core.Path.{sym}
 use mathlib.Core.Bool.{true≢false}
-use borrow.Author.Rules.{rules}
 use Rattle.counting_type.proofs.InferredFront.{inferred-room, inferred-stored}
 use Rattle.inference.proofs.InPlace.AddItem.{added_full, added-records}
 use Rattle.counting_type.proofs.infer_checked.Goals as goal

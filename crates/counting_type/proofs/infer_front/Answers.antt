@@ -1,7 +1,6 @@
 -- `infer_front` meets its contract.
 use mathlib.Core.Path.{refl, sym, ◌∙◌, ap}
 use lib.ListN.{length}
-use borrow.Author.Rules.{rules}
 use Rattle.value_table.specs.Outcome.{outcome_of}
 use Rattle.value_table.proofs.Acceptance.{accepts}
 use Rattle.counting_theory.specs.Answers.{inferred}

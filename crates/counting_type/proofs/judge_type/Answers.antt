@@ -1,6 +1,5 @@
 -- `judge_type` meets its contract.
 use mathlib.Core.Path.{sym, ◌∙◌}
-use borrow.Author.Rules.{rules}
 use Rattle.counting_theory.specs.Answers.{judged_type}
 use Rattle.answers.proofs.Equivalence.{known, unknown}
 use Rattle.counting_type.proofs.judge_type.Goals as goal

@@ -2,7 +2,6 @@
 use mathlib.Core.Path.{refl}
 use mathlib.Core.List.{[]}
 use native.Mathlib.Omega.{arith}
-use borrow.Author.Rules.{rules}
 use Rattle.answers.proofs.Fronts.{front_length, front-cleared}
 use Rattle.answers.proofs.Exact.{exact-merged}
 use Rattle.counting_type.proofs.merge.Goals as goal

@@ -1,7 +1,6 @@
 -- `merge_checked` meets its contract.
 use mathlib.Core.Path.{sym, ◌∙◌}
 use native.Mathlib.Omega.{arith}
-use borrow.Author.Rules.{rules}
 use Rattle.merging.specs.Inside.Merging.{both, merged_bytes, exceeds}
 use Rattle.answers.proofs.Fronts.{front-room, front_bytes, front-within, front-total, sets-front}
 use Rattle.counting_type.proofs.merge_checked.Goals as goal

@@ -1,6 +1,5 @@
 -- `ct_fold` meets its contract: the three numbers are those of the folding, which leaves the same buffers.
 use mathlib.Core.Path.{◌∙◌}
-use borrow.Author.Rules.{rules}
 use Rattle.ct.proofs.ct_fold.Goals as goal
 
 pub returns : goal.returns

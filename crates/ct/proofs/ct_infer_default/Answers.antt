@@ -1,6 +1,5 @@
 -- `ct_infer_default` meets its contract: the three numbers are those of the inference, which leaves the same buffers.
 use mathlib.Core.Path.{◌∙◌}
-use borrow.Author.Rules.{rules}
 use Rattle.ct.proofs.ct_infer_default.Goals as goal
 
 pub returns : goal.returns

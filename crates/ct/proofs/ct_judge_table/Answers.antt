@@ -1,6 +1,5 @@
 -- `ct_judge_table` meets its contract: the three numbers are those of the judgement, which is the one that the table has.
 use mathlib.Core.Path.{◌∙◌}
-use borrow.Author.Rules.{rules}
 use Rattle.ct.proofs.ct_judge_table.Goals as goal
 
 pub returns : goal.returns

@@ -1,6 +1,5 @@
 -- `ct_read_text` meets its contract: the three numbers are those of the reading, which leaves the same table.
 use mathlib.Core.Path.{◌∙◌}
-use borrow.Author.Rules.{rules}
 use Rattle.ct.proofs.ct_read_text.Goals as goal
 
 pub returns : goal.returns

@@ -1,7 +1,6 @@
 -- `ct_remove` meets its contract: the three numbers are those of removal, which leaves the same arena.
 use mathlib.Core.Path.{◌∙◌}
 use mathlib.Core.List.{[]}
-use borrow.Author.Rules.{rules}
 use Rattle.ct.proofs.ct_remove.Goals as goal
 
 pub returns : goal.returns

@@ -1,6 +1,5 @@
 -- `bad_lengths` meets its contract.
 use mathlib.Core.Path.{sym, ◌∙◌}
-use borrow.Author.Rules.{rules}
 use Rattle.folding.proofs.bad_lengths.Goals as goal
 
 pub returns-then-bad_length : goal.returns-then-bad_length

@@ -1,7 +1,6 @@
 -- `fold` meets its contract.
 use mathlib.Core.Path.{◌∙◌}
 use native.Mathlib.Omega.{arith}
-use borrow.Author.Rules.{rules}
 use Rattle.byte_records.proofs.Clear.{cleared-whole}
 use Rattle.answers.proofs.Fronts.{front_length, front-cleared}
 use Rattle.folding.proofs.Calls.{exact-folded}

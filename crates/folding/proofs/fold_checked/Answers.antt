@@ -1,6 +1,5 @@
 -- `fold_checked` meets its contract.
 use mathlib.Core.Path.{sym, ◌∙◌}
-use borrow.Author.Rules.{rules}
 use Rattle.counting_theory.specs.Trie.{nil}
 use Rattle.inference.proofs.InPlace.Seeking.{starts-zero}
 use Rattle.folding.proofs.OnBytes.WholeType.{empty_holds, empty-held, whole_run, whole-front, whole-full, front-accepted, front-over, front-too-small}

@@ -5,7 +5,6 @@ use mathlib.Core.List.{List}
 use Prim.Native.Nat.{ℕ}
 use lib.Dec.{eqb}
 use lib.ListN.{length}
-use borrow.Author.Rules.{rules}
 use Rattle.byte_records.proofs.Tests.{or_parts}
 use Rattle.counting_theory.specs.Label.{by_label}
 use Rattle.counting_theory.specs.Encoding.{type_of}

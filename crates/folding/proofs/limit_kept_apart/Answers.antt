@@ -1,6 +1,5 @@
 -- `limit_kept_apart` meets its contract.
 use native.Mathlib.Omega.{arith}
-use borrow.Author.Rules.{rules}
 use Rattle.counting_theory.specs.Trie.{nil}
 use Rattle.inference.proofs.InPlace.Seeking.{starts-zero}
 use Rattle.folding.proofs.OnBytes.WholeType.{empty_holds, empty-held, whole_run, whole-front, whole-full, never-full}

@@ -10,7 +10,6 @@ use Rattle.inference.proofs.InPlace.Words.{part-fits}
 use Rattle.gathering.specs.Inside.Gathering.{slot_start, message_at}
 use Rattle.gathering.proofs.Waiting.Added.{waited-nothing, waits, part-is, weighed, slot-times}
 use Rattle.gathering.proofs.Waiting.SlotBytes.{slots_kept}
-use borrow.Author.Rules.{rules}
 use Rattle.gathering.proofs.add_waiting.Goals as goal
 
 pub returns-then-slot-lt-ONE : goal.returns-then-slot-lt-ONE

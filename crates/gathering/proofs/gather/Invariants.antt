@@ -1,15 +1,9 @@
 -- `gather` meets its contract.
-use borrow.Author.Rules.{rules}
-use mathlib.Core.Path.{◌≡◌, refl}
-use Prim.Native.Nat.{◌-◌, ◌*◌, ◌≤◌, ◌<◌}
-use native.Mathlib.Omega.{arith}
+use mathlib.Core.Path.{◌≡◌}
+use Prim.Native.Nat.{◌-◌, ◌≤◌}
 use lib.ListN.{length}
-use Rattle.value_table.specs.Value.{max_length, record_size, records}
 use Rattle.type_arena.specs.Inside.Arena.{by_flag}
-use Rattle.gathering.specs.Inside.Gathering.{slots_of, MessageAt, Gathering}
-use Rattle.inference.proofs.InPlace.TableRun.{table-run}
-use Rattle.gathering.proofs.Waiting.GatherLoop.{here}
-use Rattle.gathering.proofs.Waiting.Settled.{gathering-start}
+use Rattle.gathering.specs.Inside.Gathering.{slots_of, Gathering}
 use Rattle.gathering.proofs.gather.Given as goal
 
 abbrev pub invariant-loop-i : goal.invariant-loop-i

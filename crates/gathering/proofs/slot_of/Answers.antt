@@ -1,6 +1,5 @@
 -- `slot_of` meets its contract.
-use borrow.Author.Rules.{rules}
-use Prim.Native.Nat.{◌-◌, ◌*◌, ◌/◌, ◌<◌}
+use Prim.Native.Nat.{◌*◌, ◌/◌}
 use Rattle.gathering.proofs.Waiting.SlotBytes.{scaled_fits, scaled-below}
 use Rattle.gathering.proofs.slot_of.Goals as goal
 

@@ -1,7 +1,5 @@
 -- `slot_of` meets its contract.
-use borrow.Author.Rules.{rules}
-use Prim.Native.Nat.{◌-◌, ◌*◌, ◌/◌, ◌<◌}
-use Rattle.gathering.proofs.Waiting.SlotBytes.{scaled_fits, scaled-below}
+use Prim.Native.Nat.{◌-◌, ◌<◌}
 use Rattle.gathering.proofs.slot_of.Given as goal
 
 abbrev pub invariant-loop-j : goal.invariant-loop-j

@@ -7,7 +7,6 @@ use lib.ListN.{length, get_or}
 use Rattle.gathering.specs.Inside.Gathering.{slots_of, Slot}
 use Rattle.gathering.proofs.Waiting.SlotBytes.{length-slots}
 use Rattle.gathering.proofs.Waiting.GatherLoop.{here, slot-later, taken-same, taken-to}
-use borrow.Author.Rules.{rules}
 use Rattle.gathering.proofs.take_message.Goals as goal
 use Rattle.gathering.proofs.take_message.Goals.{After-read_slot-slot}
 

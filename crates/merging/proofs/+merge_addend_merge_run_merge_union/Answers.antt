@@ -1,8 +1,6 @@
 -- `merge_run`, `merge_addend` and `merge_union` meet their contracts.
-use Prim.Native.Nat.{ℕ, ◌+◌, ◌*◌, ◌<◌}
+use Prim.Native.Nat.{ℕ}
 use lib.ListN.{length}
-use Rattle.type_arena.proofs.Runs.{rank}
-use Rattle.merging.proofs.TypeMerge.MergeLoop.{State}
 use mathlib.Core.Path.{ap, ◌∙◌}
 use Prim.Native.Nat.{ℕ}
 use native.Mathlib.Omega.{arith}
@@ -11,7 +9,6 @@ use Rattle.type_arena.proofs.FirstAddend.{headed, body-rest}
 use Rattle.type_arena.proofs.Runs.{Head, head, rank-inside}
 use Rattle.merging.proofs.TypeMerge.MergeLoop.{inside-fits, stored-inside, addend-done}
 use mathlib.Core.Path.{sym, ap, ◌∙◌}
-use borrow.Author.Rules.{rules}
 use Rattle.type_arena.specs.Inside.LabelOrder.{ordering_of}
 use Rattle.type_arena.proofs.FirstAddend.{headed}
 use Rattle.type_arena.proofs.Runs.{Head, head, same-kinds}

@@ -1,25 +1,8 @@
 -- `merge_run`, `merge_addend` and `merge_union` meet their contracts.
-use Prim.Native.Nat.{ℕ, ◌+◌, ◌*◌, ◌<◌}
+use Prim.Native.Nat.{◌+◌, ◌*◌}
 use lib.ListN.{length}
 use Rattle.type_arena.proofs.Runs.{rank}
 use Rattle.merging.proofs.TypeMerge.MergeLoop.{State}
-use mathlib.Core.Path.{ap, ◌∙◌}
-use Prim.Native.Nat.{ℕ}
-use native.Mathlib.Omega.{arith}
-use Rattle.type_arena.specs.Inside.Runs.{inside_of}
-use Rattle.type_arena.proofs.FirstAddend.{headed, body-rest}
-use Rattle.type_arena.proofs.Runs.{Head, head, rank-inside}
-use Rattle.merging.proofs.TypeMerge.MergeLoop.{inside-fits, stored-inside, addend-done}
-use mathlib.Core.Path.{sym, ap, ◌∙◌}
-use borrow.Author.Rules.{rules}
-use Rattle.type_arena.specs.Inside.LabelOrder.{ordering_of}
-use Rattle.type_arena.proofs.FirstAddend.{headed}
-use Rattle.type_arena.proofs.Runs.{Head, head, same-kinds}
-use Rattle.merging.proofs.TypeMerge.MergeLoop.{start, turn-less, turn_more, turn-same, second-done, first_done}
-use mathlib.Core.Path.{◌∙◌}
-use Rattle.type_arena.proofs.Runs.{At}
-use Rattle.merging.proofs.TypeMerge.OneAddend.{merged-le}
-use Rattle.merging.proofs.TypeMerge.MergeLoop.{first-only, union-done}
 use Rattle.merging.proofs.+merge_addend_merge_run_merge_union.Given as goal
 
 abbrev pub decreases-merge_addend : goal.decreases-merge_addend

@@ -1,6 +1,5 @@
 -- `merge_types` meets its contract.
 use Rattle.type_arena.proofs.Runs.{type-run, type-short}
-use borrow.Author.Rules.{rules}
 use native.Mathlib.Omega.{arith}
 use Rattle.merging.proofs.merge_types.Goals as goal
 

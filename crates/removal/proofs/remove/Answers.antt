@@ -2,7 +2,6 @@
 use mathlib.Core.Path.{refl}
 use mathlib.Core.List.{[]}
 use native.Mathlib.Omega.{arith}
-use borrow.Author.Rules.{rules}
 use Rattle.removal_check.proofs.Fronts.{front_length, front-cleared}
 use Rattle.removal.proofs.WholeTypes.{exact-removed}
 use Rattle.removal.proofs.remove.Goals as goal

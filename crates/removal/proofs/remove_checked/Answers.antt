@@ -1,6 +1,5 @@
 -- `remove_checked` meets its contract.
 use native.Mathlib.Omega.{arith}
-use borrow.Author.Rules.{rules}
 use Rattle.removal.specs.Inside.Removing.{remainder_at}
 use Rattle.removal_arena.proofs.Runs.{type-run, type-short}
 use Rattle.removal.proofs.WholeTypes.{type-whole, front-not-part, front-no-room, front-removed}

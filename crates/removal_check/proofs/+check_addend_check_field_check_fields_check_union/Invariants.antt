@@ -1,15 +1,7 @@
 -- The checker: unions by addends, addends by their inner unions, fields between, with a remaining depth that falls.
-use mathlib.Core.Path.{◌≡◌, refl, sym, ap, ◌∙◌}
-use Prim.Native.Nat.{ℕ, ◌+◌, ◌*◌, ◌-◌, ◌<◌}
-use native.Mathlib.Omega.{arith}
-use borrow.Author.Rules.{rules}
-use borrow.Author.Tests.{not-true, not-false}
-use Rattle.removal_theory.specs.Encoding.{type_span}
-use Rattle.removal_theory.specs.Inside.TypeBytes.{type_count}
+use Prim.Native.Nat.{◌+◌, ◌*◌, ◌-◌}
 use Rattle.removal_arena.specs.Inside.Arena.{by_flag}
-use Rattle.removal_check.specs.Inside.Checker.{checked_of, is_some, has_total, addends, check_run, addend_right}
-use Rattle.removal_check.proofs.OnePass.CheckLoop.{addend-inside, wrong-record, record-span, with-fields, with-union, with_nothing}
-use Rattle.removal_check.proofs.OnePass.Loops.{run-from, run-within, in_table, Addends, addends-start, addends-done, last-inside, wrong-addend, wrong-count, wrong-order, addend-span, count-below, addends-next, Fields, fields-start, fields-done, wrong-field, field-span, wrong-total, fields-next}
+use Rattle.removal_check.proofs.OnePass.Loops.{Addends, Fields}
 use Rattle.removal_check.proofs.+check_addend_check_field_check_fields_check_union.Given as goal
 
 abbrev pub decreases-check_addend : goal.decreases-check_addend

@@ -3,7 +3,6 @@ use mathlib.Core.Path.{sym, ◌∙◌}
 use Prim.Native.Nat.{◌-◌}
 use native.Mathlib.Omega.{arith}
 use borrow.Author.Tests.{eq-eqb, ne_eqb, le-leb}
-use borrow.Author.Rules.{rules}
 use Rattle.removal_theory.specs.WellFormed.{type_record}
 use Rattle.removal_check.proofs.addend_record.Goals as goal
 

@@ -5,7 +5,6 @@ use Prim.Native.Nat.{ℕ, ◌+◌, ◌-◌, ◌≤◌}
 use native.Mathlib.Omega.{arith}
 use lib.Dec.{leb}
 use borrow.Author.Tests.{lt-leb, le-leb, leb-true, leb-false}
-use borrow.Author.Rules.{rules}
 use Rattle.counting_theory.specs.WellFormed.{max_total}
 use Rattle.removal_check.proofs.count_fits.Goals as goal
 

@@ -1,7 +1,6 @@
 -- `field_fits` meets its contract.
 use mathlib.Core.Path.{sym, ◌∙◌}
 use borrow.Author.Tests.{le-ltb, lt-ltb}
-use borrow.Author.Rules.{rules}
 use Rattle.removal_check.specs.Inside.Checker.{fits}
 use Rattle.removal_theory.specs.WellFormed.{type_record}
 use Rattle.removal_check.proofs.field_fits.Goals as goal

@@ -1,7 +1,6 @@
 -- `field_record` meets its contract.
 use mathlib.Core.Path.{sym, ◌∙◌}
 use borrow.Author.Tests.{eq-eqb, ne_eqb, lt-leb, le-leb}
-use borrow.Author.Rules.{rules}
 use Rattle.removal_check.proofs.field_record.Goals as goal
 
 pub returns-then-not-placed : goal.returns-then-not-placed

@@ -1,7 +1,6 @@
 -- `in_order` meets its contract.
 use mathlib.Core.Path.{sym, ap, ◌∙◌}
 use borrow.Author.Tests.{eq-eqb, ne_eqb}
-use borrow.Author.Rules.{rules}
 use Rattle.counting_theory.specs.WellFormed.{is_lt}
 use Rattle.removal_arena.specs.Inside.LabelOrder.{ordering_of}
 use Rattle.removal_check.proofs.in_order.Goals as goal

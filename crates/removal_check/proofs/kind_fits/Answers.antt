@@ -1,6 +1,5 @@
 -- `kind_fits` meets its contract.
 use borrow.Author.Tests.{lt-leb, le-leb}
-use borrow.Author.Rules.{rules}
 use Rattle.removal_check.proofs.kind_fits.Goals as goal
 
 pub returns-then-kind-lt1 : goal.returns-then-kind-lt1

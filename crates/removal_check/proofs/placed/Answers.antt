@@ -1,6 +1,5 @@
 -- `placed` meets its contract.
 use borrow.Author.Tests.{eq-eqb, ne_eqb, lt-leb, le-leb}
-use borrow.Author.Rules.{rules}
 use Rattle.removal_check.proofs.placed.Goals as goal
 
 pub returns-then-zero_at-ne0 : goal.returns-then-zero_at-ne0

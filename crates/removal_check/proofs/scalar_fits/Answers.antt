@@ -1,6 +1,5 @@
 -- `scalar_fits` meets its contract.
 use borrow.Author.Tests.{lt-ltb, le-ltb}
-use borrow.Author.Rules.{rules}
 use Rattle.removal_check.proofs.scalar_fits.Goals as goal
 
 pub returns-then-kind_at-gt-LAST_SCALAR : goal.returns-then-kind_at-gt-LAST_SCALAR

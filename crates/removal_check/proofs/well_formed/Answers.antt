@@ -2,7 +2,6 @@
 use mathlib.Core.Path.{sym, ap, ◌∙◌}
 use native.Mathlib.Omega.{arith}
 use lib.ListN.{length}
-use borrow.Author.Rules.{rules}
 use Rattle.removal_check.specs.Inside.Checker.{checked_of, is_some}
 use Rattle.removal_check.proofs.OnePass.AcceptsExactly.{check-well-formed}
 use Rattle.removal_theory.proofs.WellFormed.AcceptsExactly.{type-length}

@@ -1,7 +1,6 @@
 -- `put_profile` meets its contract.
 use mathlib.Core.Path.{refl, ap, ◌∙◌}
 use native.Mathlib.Omega.{arith}
-use borrow.Author.Rules.{rules}
 use Rattle.report.proofs.Program.{Told, told, told-type, told-place, told-length, told-report, told-refusal, small-number}
 use Rattle.report.proofs.put_profile.Goals as goal
 use Rattle.report.proofs.put_profile.Goals.{After-answer_of-answer}

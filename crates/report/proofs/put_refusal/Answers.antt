@@ -1,6 +1,5 @@
 -- `put_refusal` meets its contract.
 use native.Mathlib.Omega.{arith}
-use borrow.Author.Rules.{rules}
 use mathlib.Core.List.{append_assoc}
 use Rattle.report.specs.Line.{refusal_line}
 use Rattle.report.proofs.Storing.{stored-then, stored-front}

@@ -1,7 +1,6 @@
 -- `put_report` meets its contract: the whole type is one run.
 use mathlib.Core.Path.{ap, ◌∙◌}
 use native.Mathlib.Omega.{arith}
-use borrow.Author.Rules.{rules}
 use Rattle.report.specs.Decimal.{digit_count}
 use Rattle.report.proofs.Storing.{stored-front}
 use Rattle.report.proofs.TypeRun.{whole-short, whole_run, whole-union, whole-total, whole-largest, whole-lines}

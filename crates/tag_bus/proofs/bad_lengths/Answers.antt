@@ -1,7 +1,6 @@
 -- `bad_lengths` meets its contract.
 use mathlib.Core.Path.{sym, ◌∙◌}
 use borrow.Author.Tests.{ne_eqb, eq-eqb}
-use borrow.Author.Rules.{rules}
 use Rattle.tag_bus.specs.TagBus.{bad_entries_length}
 use Rattle.tag_bus.proofs.bad_lengths.Goals as goal
 

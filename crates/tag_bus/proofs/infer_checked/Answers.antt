@@ -3,7 +3,6 @@ use mathlib.Core.List.{List}
 use Prim.Native.Nat.{ℕ}
 use native.Mathlib.Omega.{arith}
 use lib.ListN.{length}
-use borrow.Author.Rules.{rules}
 use Rattle.value_table.specs.Judged.{messages}
 use Rattle.counting_theory.specs.Label.{by_label, CountingType}
 use Rattle.counting_theory.specs.Raw.{profile_of}

@@ -1,7 +1,6 @@
 -- `infer_front` meets its contract.
 use mathlib.Core.Path.{refl, sym, ◌∙◌, ap}
 use lib.ListN.{length}
-use borrow.Author.Rules.{rules}
 use Rattle.byte_records.specs.Number.{Bytes}
 use Rattle.byte_records.proofs.Tests.{or_parts}
 use Rattle.value_table.specs.Outcome.{outcome_of}

@@ -1,7 +1,6 @@
 -- `infer_tag_bus` meets its contract.
 use mathlib.Core.Path.{◌∙◌, ap}
 use native.Mathlib.Omega.{arith}
-use borrow.Author.Rules.{rules}
 use Rattle.byte_records.specs.Number.{zeros}
 use Rattle.byte_records.proofs.Clear.{cleared-whole}
 use Rattle.answers.proofs.Fronts.{front_length}

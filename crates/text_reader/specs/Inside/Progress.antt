@@ -19,7 +19,7 @@ is_object object = true
 -- the record of each open value, whether it is an object, and how many items stand before it, by depth
 abbrev pub LevelsHold : List ℕ → List Bool → List ℕ → Stack → Type 0
 LevelsHold records objects before (base ms) = Unit {0}
-LevelsHold records objects before (level o key done outer) =
+LevelsHold records objects before (level o key _ outer) =
     (get_or records (depth outer) 0 ≡ written outer) × (get_or objects (depth outer) false ≡ is_object o) × (get_or before (depth outer) 0 ≡ items_in outer)
     × LevelsHold records objects before outer
 
@@ -39,7 +39,7 @@ pub data AwaitsItem : State → Stack → Type 0 where
 -- the byte c does not shut the innermost level
 abbrev pub StaysOpen : Stack → ℕ → Type 0
 StaysOpen (base ms) c = Unit {0}
-StaysOpen (level o key done outer) c = eqb c (closer o) ≡ false
+StaysOpen (level o key _ outer) c = eqb c (closer o) ≡ false
 
 -- an item may begin at byte p: a message only before the text's end, and right behind a bracket only what does not shut it again
 abbrev pub Ready : List ℕ → State → ℕ → Type 0
@@ -82,12 +82,12 @@ kind_started nothing = 0
 -- whether the innermost level is an object
 abbrev pub in_object : Stack → Bool
 in_object (base ms) = false
-in_object (level o key done outer) = is_object o
+in_object (level o key _ outer) = is_object o
 
 -- the record of the innermost level, and whether the byte c shuts it
 abbrev pub own_record : Stack → ℕ
 own_record (base ms) = 0
-own_record (level o key done outer) = written outer
+own_record (level o key _ outer) = written outer
 
 abbrev pub shuts : ℕ → Bool → ℕ → Bool
 shuts d is_obj c = cond (eqb d 0) false (eqb c (cond is_obj 0x7D 0x5D))

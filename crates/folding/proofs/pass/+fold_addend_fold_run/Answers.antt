@@ -1,7 +1,7 @@
 -- `fold_addend` and `fold_run` meet their contracts.
 use mathlib.Core.Path.{◌≡◌}
 use mathlib.Core.List.{List}
-use Prim.Native.Nat.{ℕ, ◌+◌, ◌*◌, ◌≤◌, ◌<◌}
+use Prim.Native.Nat.{ℕ, ◌+◌, ◌*◌, ◌≤◌}
 use lib.ListN.{length}
 use Rattle.counting_theory.specs.Label.{by_kind, CountingType}
 use Rattle.inference.specs.Inside.Inferring.{ArenaHolds, Starts}
@@ -30,7 +30,6 @@ use Rattle.folding.proofs.OnBytes.RunAdded.{run-records}
 use Rattle.folding.proofs.OnBytes.FirstAdded.{label-wanted, inside-kind, first_counted}
 use mathlib.Core.Path.{◌≡◌, refl, sym, ◌∙◌, ap, subst}
 use Prim.Native.Nat.{ℕ, ◌-◌}
-use borrow.Author.Rules.{rules}
 use Rattle.counting_theory.specs.Label.{by_kind, Counting}
 use Rattle.counting_theory.specs.Encoding.{type_payload, type_of}
 use Rattle.type_arena.specs.Inside.Addend.{body, Coded}

@@ -1,6 +1,5 @@
 -- `start_for` meets its contract.
 use mathlib.Core.Bool.{false}
-use borrow.Author.Rules.{rules}
 use Rattle.folding.proofs.OnBytes.FieldStart.{as_fields_lem, held-fields, found-start, behind-start}
 use Rattle.folding.proofs.pass.start_for.Goals as goal
 

@@ -1,5 +1,4 @@
 -- `clear_slots` meets its contract.
-use borrow.Author.Rules.{rules}
 use Rattle.gathering.proofs.Waiting.SlotBytes.{slots-cleared}
 use Rattle.gathering.proofs.slots.clear_slots.Goals as goal
 

@@ -1,6 +1,5 @@
 -- `put_slot` meets its contract.
 use mathlib.Core.Path.{◌∙◌, ap}
-use borrow.Author.Rules.{rules}
 use Rattle.gathering.specs.Inside.Gathering.{slots_of}
 use Rattle.gathering.proofs.Waiting.SlotBytes.{slot-put}
 use Rattle.gathering.proofs.slots.put_slot.Goals as goal

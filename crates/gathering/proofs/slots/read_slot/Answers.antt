@@ -1,6 +1,5 @@
 -- `read_slot` meets its contract.
 use mathlib.Core.Path.{◌∙◌}
-use borrow.Author.Rules.{rules}
 use Rattle.gathering.proofs.Waiting.SlotBytes.{slot_read}
 use Rattle.gathering.proofs.slots.read_slot.Goals as goal
 

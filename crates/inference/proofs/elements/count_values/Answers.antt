@@ -1,14 +1,13 @@
 -- `count_values` meets its contract.
-use mathlib.Core.Path.{◌≡◌, refl}
-use mathlib.Core.Bool.{false}
+use mathlib.Core.Path.{refl}
 use mathlib.Core.List.{List}
-use Prim.Native.Nat.{ℕ, ◌+◌, ◌*◌, ◌-◌, ◌/◌, ◌≤◌, ◌<◌}
+use Prim.Native.Nat.{ℕ, ◌+◌, ◌*◌, ◌/◌, ◌≤◌, ◌<◌}
 use native.Mathlib.Omega.{arith}
 use lib.ListN.{length}
-use Rattle.value_table.specs.Value.{record_size, max_length, Values}
-use Rattle.inference.specs.Inside.Inferring.{TableRun, step_at}
+use Rattle.value_table.specs.Value.{record_size, max_length}
+use Rattle.inference.specs.Inside.Inferring.{step_at}
 use Rattle.inference.proofs.InPlace.Runs.{whole-records}
-use Rattle.inference.proofs.InPlace.Elements.{Passed, none_passed, passed-step, passed-next, all-passed}
+use Rattle.inference.proofs.InPlace.Elements.{none_passed, passed-step, passed-next, all-passed}
 use Rattle.inference.proofs.elements.count_values.Goals as goal
 use Rattle.inference.proofs.elements.count_values.Goals.{In-loop-i}
 

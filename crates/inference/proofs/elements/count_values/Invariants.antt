@@ -1,14 +1,11 @@
 -- `count_values` meets its contract.
-use mathlib.Core.Path.{◌≡◌, refl}
+use mathlib.Core.Path.{◌≡◌}
 use mathlib.Core.Bool.{false}
-use mathlib.Core.List.{List}
-use Prim.Native.Nat.{ℕ, ◌+◌, ◌*◌, ◌-◌, ◌/◌, ◌≤◌, ◌<◌}
-use native.Mathlib.Omega.{arith}
+use Prim.Native.Nat.{◌-◌, ◌/◌, ◌≤◌}
 use lib.ListN.{length}
-use Rattle.value_table.specs.Value.{record_size, max_length, Values}
-use Rattle.inference.specs.Inside.Inferring.{TableRun, step_at}
-use Rattle.inference.proofs.InPlace.Runs.{whole-records}
-use Rattle.inference.proofs.InPlace.Elements.{Passed, none_passed, passed-step, passed-next, all-passed}
+use Rattle.value_table.specs.Value.{record_size, Values}
+use Rattle.inference.specs.Inside.Inferring.{TableRun}
+use Rattle.inference.proofs.InPlace.Elements.{Passed}
 use Rattle.inference.proofs.elements.count_values.Given as goal
 
 abbrev pub invariant-loop-i : goal.invariant-loop-i

@@ -1,6 +1,5 @@
 -- `step_at` meets its contract.
 use mathlib.Core.Path.{refl}
-use borrow.Author.Rules.{rules}
 use borrow.Author.Tests.{le-leb, lt-leb}
 use Rattle.value_table.specs.Value.{last_scalar}
 use Rattle.inference.proofs.elements.step_at.Goals as goal

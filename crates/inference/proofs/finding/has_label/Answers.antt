@@ -1,13 +1,10 @@
 -- `has_label` meets its contract. The loop's invariant: the keys before are the same.
 use mathlib.Core.Path.{sym, ◌∙◌}
-use mathlib.Core.Bool.{true, true≢false}
-use Prim.Native.Nat.Ordering.{eq}
-use Prim.Native.Nat.{◌-◌}
+use mathlib.Core.Bool.{true≢false}
 use native.Mathlib.Omega.{arith}
-use borrow.Author.Rules.{rules}
 use borrow.Author.Tests.{eqb-true}
 use Rattle.counting_theory.proofs.KeyOrder.{both_end}
-use Rattle.inference.proofs.InPlace.Compare.{KeysLeft, left-start, left-same}
+use Rattle.inference.proofs.InPlace.Compare.{left-start, left-same}
 use Rattle.inference.proofs.finding.has_label.Goals as goal
 
 pub loop-i-init : goal.loop-i-init

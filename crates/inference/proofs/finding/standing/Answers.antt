@@ -1,9 +1,8 @@
 -- `standing` meets its contract. The loop's invariant: a sibling, or the end, is where it has come to.
 use mathlib.Core.List.{List}
 use mathlib.Core.Bool.{Bool, true}
-use Prim.Native.Nat.{ℕ, ◌-◌, ◌<◌}
+use Prim.Native.Nat.{ℕ, ◌<◌}
 use native.Mathlib.Omega.{arith}
-use borrow.Author.Rules.{rules}
 use Rattle.counting_theory.specs.Label.{Equivalence, Label, CountingType}
 use Rattle.type_arena.specs.Inside.Arena.{by_flag}
 use Rattle.inference.specs.Inside.Inferring.{wanted, ArenaHolds, Starts}

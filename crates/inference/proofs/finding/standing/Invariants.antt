@@ -1,14 +1,10 @@
 -- `standing` meets its contract. The loop's invariant: a sibling, or the end, is where it has come to.
 use mathlib.Core.List.{List}
-use mathlib.Core.Bool.{Bool, true}
-use Prim.Native.Nat.{ℕ, ◌-◌, ◌<◌}
-use native.Mathlib.Omega.{arith}
-use borrow.Author.Rules.{rules}
-use Rattle.counting_theory.specs.Label.{Equivalence, Label, CountingType}
+use mathlib.Core.Bool.{Bool}
+use Prim.Native.Nat.{ℕ, ◌-◌}
+use Rattle.counting_theory.specs.Label.{CountingType}
 use Rattle.type_arena.specs.Inside.Arena.{by_flag}
-use Rattle.inference.specs.Inside.Inferring.{wanted, ArenaHolds, Starts}
-use Rattle.inference.proofs.InPlace.Placing.{holds-length}
-use Rattle.inference.proofs.InPlace.Seeking.{Stop, stop, seen-there, starts-again, starts-next}
+use Rattle.inference.specs.Inside.Inferring.{ArenaHolds, Starts}
 use Rattle.inference.proofs.finding.standing.Given as goal
 
 abbrev pub invariant-loop-passed : goal.invariant-loop-passed

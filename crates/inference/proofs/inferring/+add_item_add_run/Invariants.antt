@@ -1,27 +1,15 @@
 -- A run of values is added item by item, and an item with the run below it.
-use mathlib.Core.Path.{◌≡◌, refl, ◌∙◌}
+use mathlib.Core.Path.{◌≡◌}
 use mathlib.Core.Bool.{cond}
-use mathlib.Core.List.{List, ◌++◌}
-use Prim.Native.Nat.{ℕ, ◌+◌, ◌*◌, ◌-◌, ◌/◌, ◌≤◌, ◌<◌}
-use native.Mathlib.Omega.{arith}
+use mathlib.Core.List.{List}
+use Prim.Native.Nat.{ℕ, ◌+◌, ◌*◌, ◌-◌, ◌/◌}
 use lib.Dec.{eqb}
-use lib.ListN.{length, take, drop, length-take, length-drop}
-use borrow.Author.Rules.{rules}
-use borrow.Rule.Slice.PartMut.{put_mid, same_len_mid}
+use lib.ListN.{length}
 use Rattle.value_table.specs.Value.{record_size, record_kind, Values}
-use Rattle.counting_theory.specs.Payload.{Payload}
-use Rattle.counting_theory.specs.Trie.{size, add}
-use Rattle.counting_theory.specs.Label.{Label, Counting, CountingType}
-use Rattle.counting_theory.specs.Raw.{raw}
-use Rattle.counting_theory.specs.Encoding.{type_size, encode}
+use Rattle.counting_theory.specs.Label.{CountingType}
 use Rattle.type_arena.specs.Inside.Arena.{by_flag}
-use Rattle.type_arena.specs.Inside.Payload.{item_payload}
-use Rattle.counting_theory.specs.Inside.Times.{times}
-use Rattle.inference.specs.Inside.Inferring.{grown as grown_to, TableRun, ArenaHolds, split, Counted, Grown, label_for, with_item, Weighed, AddedAt}
+use Rattle.inference.specs.Inside.Inferring.{TableRun, ArenaHolds}
 use Rattle.inference.specs.Inside.ScalarFields.{AddedSoFar}
-use Rattle.inference.proofs.InPlace.AddItem.{Task, step-length, step-within, step-span, step-empty, nothing-added, step-holds, step-full, step-grown, added_full, added-records, grown-length}
-use Rattle.inference.proofs.InPlace.RunLoop.{ran-start, ran-holds, ran-end, ran_first, below, below-run, turn-full, turn-room, turn-added, turn-order, turn-measure, turn-few, turn-weighed, turn-fits}
-use Rattle.inference.proofs.InPlace.Runs.{whole-records}
 use Rattle.inference.proofs.inferring.+add_item_add_run.Given as goal
 
 abbrev pub decreases-add_item : goal.decreases-add_item

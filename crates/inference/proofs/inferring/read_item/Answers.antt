@@ -1,7 +1,6 @@
 -- `read_item` meets its contract.
 use mathlib.Core.Path.{refl}
 use native.Mathlib.Omega.{arith}
-use borrow.Author.Rules.{rules}
 use Rattle.inference.proofs.inferring.read_item.Goals as goal
 
 pub returns-then-field : goal.returns-then-field

@@ -5,7 +5,6 @@ use native.Mathlib.Omega.{arith}
 use lib.Dec.{eqb}
 use lib.ListN.{length}
 use borrow.Author.Tests.{eq-eqb}
-use borrow.Author.Rules.{rules}
 use Rattle.inference.specs.declared.key_list.Listed.TheVariants.{Keys}
 use Rattle.inference.specs.Inside.Inferring.{TableRun, LabelListed}
 use Rattle.type_arena.specs.Inside.Arena.{by_flag}

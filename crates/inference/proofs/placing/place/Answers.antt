@@ -5,7 +5,6 @@ use mathlib.Core.Path.{sym, ◌∙◌}
 use Prim.Native.Nat.{ℕ, ◌+◌, ◌*◌, ◌≤◌}
 use native.Mathlib.Omega.{arith}
 use lib.ListN.{length, length-take, length-drop}
-use borrow.Author.Rules.{rules}
 use Rattle.inference.specs.Inside.Inferring.{wanted, ArenaHolds, Starts, StandsAt, split}
 use Rattle.counting_theory.specs.Encoding.{type_size}
 use Rattle.type_arena.specs.Inside.Arena.{by_flag}

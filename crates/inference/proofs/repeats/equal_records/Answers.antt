@@ -1,11 +1,7 @@
 -- `equal_records` meets its contract.
 use mathlib.Core.Path.{sym, ◌∙◌}
 use mathlib.Core.Bool.{true≢false}
-use Prim.Native.Nat.{◌+◌, ◌-◌, ◌≤◌}
 use native.Mathlib.Omega.{arith}
-use borrow.Author.Rules.{rules}
-use borrow.Author.Tests.{not-true, not-false}
-use Rattle.inference.specs.Inside.Inferring.{EqualRecords}
 use Rattle.inference.proofs.InPlace.Repeats.{equal-none, equal_next}
 use Rattle.inference.proofs.repeats.equal_records.Goals as goal
 

@@ -1,7 +1,6 @@
 -- `equal_values` meets its contract.
 use native.Mathlib.Nat.{mul-div-le, lt-mul-div-succ}
 use native.Mathlib.Omega.{arith}
-use borrow.Author.Rules.{rules}
 use Rattle.inference.proofs.InPlace.Repeats.{most_values}
 use Rattle.inference.proofs.repeats.equal_values.Goals as goal
 

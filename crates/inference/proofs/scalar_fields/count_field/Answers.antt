@@ -4,7 +4,6 @@ use mathlib.Core.Bool.{Bool, true}
 use mathlib.Core.Path.{refl}
 use Prim.Native.Nat.{ℕ}
 use native.Mathlib.Omega.{arith}
-use borrow.Author.Rules.{rules}
 use Rattle.counting_theory.specs.Label.{field_kind, CountingType}
 use Rattle.type_arena.specs.Inside.Arena.{by_flag}
 use Rattle.inference.specs.Inside.Inferring.{ArenaHolds, Starts, StandsAt}

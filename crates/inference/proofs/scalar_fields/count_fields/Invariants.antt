@@ -1,21 +1,14 @@
 -- `count_fields` meets its contract.
 use mathlib.Core.List.{List}
 use mathlib.Core.Bool.{Bool, true}
-use mathlib.Core.Path.{◌≡◌, refl, ◌∙◌}
-use Prim.Native.Nat.{ℕ, ◌+◌, ◌*◌, ◌-◌, ◌/◌, ◌≤◌, ◌<◌}
-use native.Mathlib.Omega.{arith}
+use mathlib.Core.Path.{◌≡◌}
+use Prim.Native.Nat.{ℕ, ◌*◌, ◌-◌, ◌/◌, ◌≤◌}
 use lib.ListN.{length}
-use borrow.Author.Rules.{rules}
-use Rattle.value_table.specs.Value.{record_size, Values, key_at, kind_at}
+use Rattle.value_table.specs.Value.{record_size, Values}
 use Rattle.counting_theory.specs.Encoding.{type_size}
-use Rattle.counting_theory.specs.Label.{Equivalence, CountingType}
-use Rattle.inference.specs.declared.scalar_fields.Sought.{Sought}
-use Rattle.inference.specs.declared.scalar_fields.Sought.TheVariants.{Field}
-use Rattle.type_arena.specs.Inside.Arena.{by_flag, RecordIn}
-use Rattle.inference.specs.Inside.Inferring.{resumed}
-use Rattle.inference.specs.Inside.ScalarFields.{AddedSoFar, FieldCounted}
-use Rattle.inference.proofs.InPlace.RunLoop.{ran-holds}
-use Rattle.inference.proofs.InPlace.Scalars.{scalar-room, scalar-turn, ran-from}
+use Rattle.counting_theory.specs.Label.{CountingType}
+use Rattle.type_arena.specs.Inside.Arena.{by_flag}
+use Rattle.inference.specs.Inside.ScalarFields.{AddedSoFar}
 use Rattle.inference.proofs.scalar_fields.count_fields.Given as goal
 
 abbrev pub invariant-loop-next : goal.invariant-loop-next

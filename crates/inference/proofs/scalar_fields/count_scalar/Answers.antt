@@ -5,7 +5,6 @@ use mathlib.Core.Path.{◌≡◌, refl, sym, ◌∙◌}
 use Prim.Native.Nat.{ℕ, ◌+◌, ◌*◌, ◌-◌, ◌≤◌}
 use native.Mathlib.Omega.{arith}
 use lib.ListN.{length, take, drop, length-take, length-drop}
-use borrow.Author.Rules.{rules}
 use Rattle.counting_theory.specs.Label.{field_kind, CountingType}
 use Rattle.counting_theory.specs.Encoding.{type_size, type_span, encode}
 use Rattle.value_table.specs.Value.{none, value, count}

@@ -1,7 +1,5 @@
 -- `count_standing` meets its contract.
 use native.Mathlib.Omega.{arith}
-use borrow.Author.Rules.{rules}
-use borrow.Author.Tests.{not-false}
 use Rattle.inference.proofs.scalar_fields.count_standing.Goals as goal
 use Rattle.inference.proofs.scalar_fields.count_standing.Goals.{Start}
 

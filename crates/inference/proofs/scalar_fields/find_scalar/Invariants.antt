@@ -1,15 +1,12 @@
 -- `find_scalar` meets its contract.
 use mathlib.Core.List.{List}
 use mathlib.Core.Bool.{Bool, false}
-use mathlib.Core.Path.{refl}
 use Prim.Native.Nat.{ℕ, ◌-◌}
-use native.Mathlib.Omega.{arith}
 use Rattle.counting_theory.specs.Label.{CountingType}
 use Rattle.type_arena.specs.Inside.Arena.{by_flag}
 use Rattle.inference.specs.Inside.Inferring.{ArenaHolds}
 use Rattle.inference.specs.Inside.ScalarFields.{plain}
-use Rattle.inference.proofs.InPlace.Seeking.{Stop, stop, seen_end, starts-next}
-use Rattle.inference.proofs.InPlace.Scalars.{Begun, begun_first, union-key, plain-equal, plain-kind-less, plain-kind-greater}
+use Rattle.inference.proofs.InPlace.Scalars.{Begun}
 use Rattle.inference.proofs.scalar_fields.find_scalar.Given as goal
 
 abbrev pub invariant-loop-at : goal.invariant-loop-at

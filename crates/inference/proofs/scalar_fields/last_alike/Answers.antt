@@ -1,8 +1,7 @@
 -- `last_alike` meets its contract.
-use mathlib.Core.Path.{◌≡◌}
 use mathlib.Core.List.{List}
 use mathlib.Core.Bool.{Bool, true}
-use Prim.Native.Nat.{ℕ, ◌+◌, ◌-◌, ◌≤◌, ◌<◌}
+use Prim.Native.Nat.{ℕ, ◌+◌, ◌≤◌, ◌<◌}
 use native.Mathlib.Omega.{arith}
 use Rattle.counting_theory.specs.Label.{CountingType}
 use Rattle.counting_theory.specs.Encoding.{type_key, type_span}

@@ -2,14 +2,12 @@
 use mathlib.Core.Path.{◌≡◌}
 use mathlib.Core.List.{List}
 use mathlib.Core.Bool.{Bool, true}
-use Prim.Native.Nat.{ℕ, ◌+◌, ◌-◌, ◌≤◌, ◌<◌}
-use native.Mathlib.Omega.{arith}
+use Prim.Native.Nat.{ℕ, ◌+◌, ◌-◌, ◌≤◌}
 use Rattle.counting_theory.specs.Label.{CountingType}
-use Rattle.counting_theory.specs.Encoding.{type_key, type_span}
-use Rattle.type_arena.specs.Inside.Arena.{by_flag, RecordIn}
+use Rattle.counting_theory.specs.Encoding.{type_span}
+use Rattle.type_arena.specs.Inside.Arena.{by_flag}
 use Rattle.inference.specs.Inside.Inferring.{ArenaHolds, Starts}
 use Rattle.inference.specs.Inside.ScalarFields.{BelowAt}
-use Rattle.inference.proofs.InPlace.Scalars.{table_at, reach-at, starts-behind, next-below}
 use Rattle.inference.proofs.scalar_fields.last_alike.Given as goal
 
 abbrev pub invariant-loop-next : goal.invariant-loop-next

@@ -1,7 +1,7 @@
 -- `seek_field` meets its contract.
 use mathlib.Core.List.{List}
 use mathlib.Core.Bool.{Bool, true, false}
-use Prim.Native.Nat.{ℕ, ◌+◌, ◌-◌, ◌≤◌}
+use Prim.Native.Nat.{ℕ, ◌+◌, ◌≤◌}
 use native.Mathlib.Omega.{arith}
 use Rattle.counting_theory.specs.Label.{field_kind, CountingType}
 use Rattle.counting_theory.specs.Encoding.{type_span}

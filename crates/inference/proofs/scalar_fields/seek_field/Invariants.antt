@@ -1,15 +1,12 @@
 -- `seek_field` meets its contract.
 use mathlib.Core.List.{List}
-use mathlib.Core.Bool.{Bool, true, false}
-use Prim.Native.Nat.{ℕ, ◌+◌, ◌-◌, ◌≤◌}
-use native.Mathlib.Omega.{arith}
+use mathlib.Core.Bool.{Bool, true}
+use Prim.Native.Nat.{ℕ, ◌-◌}
 use Rattle.counting_theory.specs.Label.{field_kind, CountingType}
-use Rattle.counting_theory.specs.Encoding.{type_span}
 use Rattle.type_arena.specs.Inside.Arena.{by_flag}
 use Rattle.inference.specs.Inside.Inferring.{ArenaHolds, Starts}
-use Rattle.inference.specs.Inside.ScalarFields.{plain, BelowAt}
-use Rattle.inference.proofs.InPlace.Seeking.{Stop, stop}
-use Rattle.inference.proofs.InPlace.Scalars.{Begun, begun-start, begun-behind, table_at, reach-at, field-kind, plain-equal}
+use Rattle.inference.specs.Inside.ScalarFields.{plain}
+use Rattle.inference.proofs.InPlace.Scalars.{Begun}
 use Rattle.inference.proofs.scalar_fields.seek_field.Given as goal
 
 abbrev pub invariant-loop-at : goal.invariant-loop-at

@@ -3,8 +3,6 @@ use mathlib.Core.Path.{ap}
 use mathlib.Core.List.{List}
 use Prim.Native.Nat.{ℕ}
 use native.Mathlib.Omega.{arith}
-use borrow.Author.Tests.{not-true, not-false}
-use borrow.Author.Rules.{rules}
 use Rattle.counting_theory.specs.Label.{Label, label_of}
 use Rattle.counting_theory.proofs.LabelOrder.{kind-less, kind-more, key-less, key_more, under-kind, no_record, by-lists}
 use Rattle.type_arena.specs.Inside.Arena.{by_flag, label_at}

@@ -1,16 +1,11 @@
 -- `pass_alike` meets its contract. The loop's invariant: a sibling, or the end, is where it has come to, and the label is still ahead.
 use mathlib.Core.List.{List}
-use mathlib.Core.Bool.{Bool, true, false}
-use mathlib.Core.Path.{◌≡◌, refl, ap, sym, ◌∙◌}
-use Prim.Native.Nat.{ℕ, ◌+◌, ◌-◌, ◌≤◌, ◌<◌}
-use native.Mathlib.Omega.{arith}
-use borrow.Author.Rules.{rules}
-use Rattle.counting_theory.specs.Label.{Equivalence, Label, CountingType}
+use mathlib.Core.Bool.{Bool}
+use Prim.Native.Nat.{ℕ, ◌+◌, ◌-◌, ◌≤◌}
+use Rattle.counting_theory.specs.Label.{CountingType}
 use Rattle.counting_theory.specs.Encoding.{type_span}
 use Rattle.type_arena.specs.Inside.Arena.{by_flag}
-use Rattle.type_arena.specs.Inside.LabelOrder.{ordering_of}
 use Rattle.inference.specs.Inside.Inferring.{wanted, ArenaHolds, Starts, Ahead}
-use Rattle.inference.proofs.InPlace.Seeking.{Stop, stop, seen-there, starts-next, ahead-seen, seen-ahead}
 use Rattle.inference.proofs.search.pass_alike.Given as goal
 
 abbrev pub invariant-loop-at : goal.invariant-loop-at

@@ -1,7 +1,7 @@
 -- `resume_at` meets its contract.
 use mathlib.Core.Path.{refl}
 use native.Mathlib.Omega.{arith}
-use borrow.Author.Tests.{lt-ltb, le-ltb, not-true, not-false}
+use borrow.Author.Tests.{lt-ltb, le-ltb}
 use Rattle.inference.proofs.search.resume_at.Goals as goal
 
 pub returns-then-not-field : goal.returns-then-not-field

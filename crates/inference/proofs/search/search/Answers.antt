@@ -1,11 +1,9 @@
 -- `search` meets its contract.
 use mathlib.Core.List.{List}
-use mathlib.Core.Bool.{Bool, cond}
+use mathlib.Core.Bool.{Bool}
 use mathlib.Core.Path.{ap, sym, ◌∙◌}
-use Prim.Native.Nat.{ℕ, ◌+◌, ◌-◌}
+use Prim.Native.Nat.{ℕ, ◌+◌}
 use native.Mathlib.Omega.{arith}
-use borrow.Author.Tests.{not-true, not-false}
-use borrow.Author.Rules.{rules}
 use Rattle.inference.specs.Inside.Inferring.{wanted, ArenaHolds, Starts, Ahead, PassedTo}
 use Rattle.type_arena.specs.Inside.Arena.{by_flag}
 use Rattle.type_arena.specs.Inside.LabelOrder.{ordering_of}

@@ -1,12 +1,9 @@
 -- `remove_run`, `remove_addend` and `remove_union` meet their contracts.
-use Prim.Native.Nat.{ℕ, ◌+◌, ◌*◌, ◌<◌}
+use Prim.Native.Nat.{ℕ}
 use lib.ListN.{length}
-use Rattle.removal_arena.proofs.Runs.{rank}
-use Rattle.removal.proofs.OnBytes.RemovalLoop.{State}
 use mathlib.Core.Path.{sym, ap, ◌∙◌}
 use Prim.Native.Nat.{ℕ, ◌-◌}
 use native.Mathlib.Omega.{arith}
-use borrow.Author.Rules.{rules}
 use Rattle.removal_arena.specs.Inside.Payload.{payload_of}
 use Rattle.removal_arena.specs.Inside.Runs.{inside_of}
 use Rattle.removal_arena.proofs.FirstAddend.{headed, body-rest, coded-length}
@@ -14,7 +11,6 @@ use Rattle.removal_arena.proofs.Runs.{Head, head, rank-inside}
 use Rattle.removal.proofs.OnBytes.OneAddend.{short-left, over-left}
 use Rattle.removal.proofs.OnBytes.RemovalLoop.{whole-inside}
 use Rattle.removal.proofs.OnBytes.Stored.{addend-lost, addend-gone, LeftInside, inside-fits, addend-kept, addend-not-part}
-use mathlib.Core.Logic.{⊎_elim}
 use Prim.Native.Nat.{ℕ}
 use lib.Dec.{ltb}
 use Rattle.removal_arena.specs.Inside.LabelOrder.{ordering_of}

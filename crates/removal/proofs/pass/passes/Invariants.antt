@@ -1,12 +1,9 @@
 -- `passes` meets its contract. The loop's invariant: no count so far is above the limit.
-use mathlib.Core.Path.{ap}
 use mathlib.Core.Bool.{Bool}
-use native.Mathlib.Omega.{arith}
 use lib.ListN.{length}
 use Rattle.counting_theory.specs.Label.{Equivalence}
 use Rattle.removal_arena.specs.Inside.Addend.{Coded}
-use Rattle.removal_arena.proofs.FirstAddend.{headed}
-use Rattle.removal.proofs.CountLimit.{Seeking, seeking-start, seeking-first, seeking-next, seeking-found, seeking-done}
+use Rattle.removal.proofs.CountLimit.{Seeking}
 use Rattle.removal.proofs.pass.passes.Given as goal
 
 abbrev pub invariant-loop-x : goal.invariant-loop-x

@@ -1,10 +1,7 @@
 -- `same_bytes` meets its contract. The loop's invariant: the first i bytes agree.
-use mathlib.Core.Path.{refl, sym, ap, ◌∙◌}
 use Prim.Native.Nat.{◌-◌}
 use lib.ListN.{length}
-use borrow.Author.Rules.{rules}
-use Rattle.byte_records.specs.Number.{number_at}
-use Rattle.removal.proofs.SameBytes.{Agree, agree-start, agree-next, agree-done}
+use Rattle.removal.proofs.SameBytes.{Agree}
 use Rattle.removal.proofs.pass.same_bytes.Given as goal
 
 abbrev pub invariant-loop-i : goal.invariant-loop-i

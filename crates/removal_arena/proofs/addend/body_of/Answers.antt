@@ -3,7 +3,6 @@ use mathlib.Core.Path.{ap}
 use Prim.Native.Nat.{◌*◌}
 use Rattle.removal_theory.specs.Encoding.{type_size}
 use Rattle.removal_arena.proofs.FirstAddend.{body_is}
-use borrow.Author.Rules.{rules}
 use Rattle.removal_arena.proofs.addend.body_of.Goals as goal
 
 pub returns : goal.returns

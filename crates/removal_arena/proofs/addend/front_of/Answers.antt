@@ -4,7 +4,6 @@ use Prim.Native.Nat.{◌*◌}
 use lib.Seq.{length-take-le}
 use Rattle.removal_theory.specs.Encoding.{type_size}
 use Rattle.removal_arena.proofs.FirstAddend.{front-is}
-use borrow.Author.Rules.{rules}
 use native.Mathlib.Omega.{arith}
 use Rattle.removal_arena.proofs.addend.front_of.Goals as goal
 

@@ -1,13 +1,8 @@
 -- `compare_keys` meets its contract. The loop's invariant: the key lists compare as the keys before and what is left of them.
 use mathlib.Core.Logic.{⊎_elim, inl, inr}
-use Prim.Native.Nat.{◌-◌}
 use native.Mathlib.Omega.{arith}
-use borrow.Author.Rules.{rules}
 use Rattle.byte_records.proofs.Chain.{chain-le}
-use Rattle.removal_theory.specs.Encoding.{type_key, type_span}
-use Rattle.counting_theory.proofs.KeyOrder.{Comparing, comparing-start, one-ends, left-sibling, right-sibling, next_keys}
-use Rattle.removal_arena.specs.Inside.Arena.{keys_in}
-use Rattle.removal_arena.specs.Inside.LabelOrder.{ordering_of}
+use Rattle.counting_theory.proofs.KeyOrder.{comparing-start, one-ends, left-sibling, right-sibling, next_keys}
 use Rattle.removal_arena.proofs.Fields.{inside-chain}
 use Rattle.removal_arena.proofs.label_order.compare_keys.Goals as goal
 

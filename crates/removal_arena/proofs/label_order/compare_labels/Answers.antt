@@ -1,7 +1,6 @@
 -- `compare_labels` meets its contract.
 use mathlib.Core.Path.{ap, ◌∙◌}
 use native.Mathlib.Omega.{arith}
-use borrow.Author.Rules.{rules}
 use Rattle.counting_theory.specs.Label.{Label}
 use Rattle.counting_theory.proofs.LabelOrder.{kind-less, kind-more, key-less, key_more, under-kind, no_record, by-lists}
 use Rattle.removal_arena.specs.Inside.Arena.{by_flag, label_at}

@@ -1,6 +1,5 @@
 -- `then_order` meets its contract.
 use mathlib.Core.Path.{refl}
-use borrow.Author.Rules.{rules}
 use Rattle.counting_theory.specs.Order.{then}
 use Rattle.removal_arena.proofs.label_order.then_order.Goals as goal
 

@@ -3,7 +3,6 @@ use mathlib.Core.List.{append-nil}
 use Rattle.byte_records.specs.Format.{record_bytes}
 use Rattle.removal_theory.specs.Payload.{numbers}
 use Rattle.removal_arena.specs.Inside.Payload.{payload_of, payload_bytes}
-use borrow.Author.Rules.{rules}
 use Rattle.removal_arena.proofs.payload.store_payload.Goals as goal
 
 pub returns : goal.returns

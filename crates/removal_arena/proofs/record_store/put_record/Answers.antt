@@ -8,7 +8,6 @@ use Rattle.removal_arena.specs.Inside.Arena.{header_of}
 use Rattle.removal_arena.specs.Inside.Payload.{payload_of}
 use Rattle.byte_records.proofs.Sets.{sets-aside}
 use Rattle.removal_arena.proofs.RecordBytes.{length-header}
-use borrow.Author.Rules.{rules}
 use Rattle.removal_arena.proofs.record_store.put_record.Goals as goal
 
 pub returns : goal.returns

@@ -2,7 +2,6 @@
 use native.Mathlib.Omega.{arith}
 use Rattle.removal_arena.proofs.RecordBytes.{sets-record}
 use Rattle.removal_arena.specs.Inside.Payload.{payload_of}
-use borrow.Author.Rules.{rules}
 use Rattle.removal_arena.proofs.record_store.store_record.Goals as goal
 
 pub returns : goal.returns

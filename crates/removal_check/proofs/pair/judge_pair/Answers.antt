@@ -3,7 +3,6 @@ use mathlib.Core.Path.{◌≡◌, refl, sym, ◌∙◌}
 use mathlib.Core.Bool.{false, ◌||◌}
 use Prim.Native.Nat.{ℕ}
 use lib.ListN.{length}
-use borrow.Author.Rules.{rules}
 use Rattle.byte_records.proofs.Tests.{or_parts}
 use Rattle.removal_theory.specs.WellFormed.{bad_type_length}
 use Rattle.removal_theory.proofs.WellFormed.AcceptsExactly.{well-formed-type}

@@ -1,7 +1,6 @@
 -- `bytes_written` meets its contract.
 use mathlib.Core.Path.{refl}
 use native.Mathlib.Omega.{arith}
-use borrow.Author.Rules.{rules}
 use Rattle.removal_check.proofs.written.bytes_written.Goals as goal
 
 pub overflow_mul-result : goal.overflow_mul-result

@@ -1,6 +1,6 @@
 -- `digit_count` meets its contract: d divisions are done, and those of the rest are to come.
 use mathlib.Core.Path.{◌≡◌, refl}
-use Prim.Native.Nat.{ℕ, ◌+◌, ◌≤◌}
+use Prim.Native.Nat.{ℕ, ◌≤◌}
 use borrow.Author.Rules.{rules}
 use native.Mathlib.Omega.{arith}
 use Rattle.counting_theory.specs.WellFormed.{max_total}

@@ -1,12 +1,7 @@
 -- `digit_count` meets its contract: d divisions are done, and those of the rest are to come.
-use mathlib.Core.Path.{◌≡◌, refl}
-use Prim.Native.Nat.{ℕ, ◌+◌, ◌≤◌}
-use borrow.Author.Rules.{rules}
-use native.Mathlib.Omega.{arith}
-use Rattle.counting_theory.specs.WellFormed.{max_total}
+use mathlib.Core.Path.{◌≡◌}
+use Prim.Native.Nat.{◌+◌}
 use Rattle.report.specs.Decimal.{divisions, digit_count}
-use Rattle.report.specs.Inside.Room.{max_digits}
-use Rattle.report.proofs.Digits.{division, first-division, one-digit, digits-at-most}
 use Rattle.report.proofs.decimal.digit_count.Given as goal
 
 abbrev pub invariant-loop-rest : goal.invariant-loop-rest

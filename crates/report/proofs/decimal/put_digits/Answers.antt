@@ -1,11 +1,9 @@
 -- `put_digits` meets its contract: the first d digits are left to store, those of the rest.
 use mathlib.Core.Path.{◌≡◌, refl, sym, ap, ◌∙◌}
-use Prim.Native.Nat.{ℕ, ◌+◌, ◌-◌, ◌%◌, ◌≤◌}
-use lib.ListN.{length, length-set}
-use lib.Seq.{sets}
+use Prim.Native.Nat.{ℕ, ◌+◌, ◌-◌, ◌%◌}
+use lib.ListN.{length-set}
 use Rattle.report.specs.Decimal.{digits}
 use Rattle.report.proofs.Digits.{length_digits, digit-stored}
-use borrow.Author.Rules.{rules}
 use native.Mathlib.Omega.{arith}
 use Rattle.report.proofs.decimal.put_digits.Goals as goal
 

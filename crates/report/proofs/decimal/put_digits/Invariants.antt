@@ -1,12 +1,9 @@
 -- `put_digits` meets its contract: the first d digits are left to store, those of the rest.
-use mathlib.Core.Path.{◌≡◌, refl, sym, ap, ◌∙◌}
-use Prim.Native.Nat.{ℕ, ◌+◌, ◌-◌, ◌%◌, ◌≤◌}
-use lib.ListN.{length, length-set}
+use mathlib.Core.Path.{◌≡◌}
+use Prim.Native.Nat.{◌≤◌}
+use lib.ListN.{length}
 use lib.Seq.{sets}
 use Rattle.report.specs.Decimal.{digits}
-use Rattle.report.proofs.Digits.{length_digits, digit-stored}
-use borrow.Author.Rules.{rules}
-use native.Mathlib.Omega.{arith}
 use Rattle.report.proofs.decimal.put_digits.Given as goal
 
 abbrev pub invariant-loop-d : goal.invariant-loop-d

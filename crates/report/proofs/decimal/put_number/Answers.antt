@@ -1,6 +1,5 @@
 -- `put_number` meets its contract.
 use native.Mathlib.Omega.{arith}
-use borrow.Author.Rules.{rules}
 use Rattle.report.specs.Decimal.{digit_count}
 use Rattle.report.proofs.Digits.{length_digits}
 use Rattle.report.proofs.decimal.put_number.Goals as goal

@@ -1,6 +1,5 @@
 -- `put_padded` meets its contract: the spaces, then the digits.
 use native.Mathlib.Omega.{arith}
-use borrow.Author.Rules.{rules}
 use Prim.Native.Nat.{ℕ, ◌-◌}
 use lib.ListN.{length-replicate}
 use Rattle.report.specs.Decimal.{digit_count}

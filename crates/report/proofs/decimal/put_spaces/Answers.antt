@@ -3,7 +3,6 @@ use mathlib.Core.Path.{sym}
 use lib.ListN.{length-replicate}
 use Rattle.report.specs.Inside.Room.{max_digits}
 use Rattle.report.proofs.Storing.{take-replicate}
-use borrow.Author.Rules.{rules}
 use native.Mathlib.Omega.{arith}
 use Rattle.report.proofs.decimal.put_spaces.Goals as goal
 

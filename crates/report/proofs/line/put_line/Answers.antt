@@ -1,6 +1,5 @@
 -- `put_line` meets its contract: the seven parts one after the other.
 use native.Mathlib.Omega.{arith}
-use borrow.Author.Rules.{rules}
 use mathlib.Core.List.{append_assoc}
 use Rattle.report.specs.Line.{line_of}
 use Rattle.report.proofs.Storing.{stored-then}

@@ -1,6 +1,5 @@
 -- `put_number_and` meets its contract.
 use native.Mathlib.Omega.{arith}
-use borrow.Author.Rules.{rules}
 use Rattle.report.proofs.Storing.{stored-then}
 use Rattle.report.proofs.line.put_number_and.Goals as goal
 

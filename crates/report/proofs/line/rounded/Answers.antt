@@ -1,6 +1,5 @@
 -- `rounded` meets its contract.
 use mathlib.Core.Path.{refl}
-use borrow.Author.Rules.{rules}
 use Rattle.report.specs.Line.{rounded}
 use Rattle.report.proofs.Shares.{rounded-below}
 use Rattle.report.proofs.line.rounded.Goals as goal

@@ -1,7 +1,6 @@
 -- `share` meets its contract.
 use mathlib.Core.Path.{sym, ap, ◌∙◌}
 use native.Mathlib.Omega.{arith}
-use borrow.Author.Rules.{rules}
 use Rattle.report.specs.Line.{without_false_end}
 use Rattle.report.proofs.Shares.{neither-end, share_part, share-rest}
 use Rattle.report.proofs.line.share.Goals as goal

@@ -1,17 +1,14 @@
 -- `put_run` meets its contract: the lines of the records from p on are left to store.
-use Prim.Native.Nat.{ℕ, ◌-◌, ◌<◌}
-use native.Mathlib.Omega.{arith}
-use borrow.Author.Rules.{rules}
+use Prim.Native.Nat.{◌-◌}
 use Rattle.report.specs.Report.{program_equivalence}
-use Rattle.report.proofs.Runs.{run-first}
-use Rattle.report.proofs.Walking.{Walking, walking_start, walking-next, walking-done}
+use Rattle.report.proofs.Walking.{Walking}
 use Rattle.report.proofs.walk.+put_run.Given as goal
 
 abbrev pub decreases-put_run : goal.decreases-put_run
 decreases-put_run l = l.end - l.i
 
-abbrev pub invariant-put_run-loop-p : goal.invariant-put_run-loop-p
-invariant-put_run-loop-p l = Walking program_equivalence l.b l.i l.end l.depth l.whole l.width l.initial.out l.at l.p l.out l.to
+abbrev pub invariant-loop-p : goal.invariant-loop-p
+invariant-loop-p l = Walking program_equivalence l.b l.i l.end l.depth l.whole l.width l.initial.out l.at l.p l.out l.to
 
-abbrev pub decreases-put_run-loop-p : goal.decreases-put_run-loop-p
-decreases-put_run-loop-p l = l.end - l.p
+abbrev pub decreases-loop-p : goal.decreases-loop-p
+decreases-loop-p l = l.end - l.p

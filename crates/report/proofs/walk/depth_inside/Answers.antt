@@ -1,5 +1,4 @@
 -- `depth_inside` meets its contract.
-use borrow.Author.Rules.{rules}
 use mathlib.Core.Path.{refl, sym, ◌∙◌}
 use borrow.Author.Tests.{eq-eqb, ne_eqb}
 use Rattle.report.proofs.walk.depth_inside.Goals as goal

@@ -1,10 +1,7 @@
 -- `largest_count` meets its contract: the largest count so far, and of the records left.
-use borrow.Author.Rules.{rules}
-use native.Mathlib.Omega.{arith}
-use mathlib.Core.Path.{◌≡◌, sym, ◌∙◌}
+use mathlib.Core.Path.{◌≡◌}
 use Prim.Native.Nat.{◌-◌, ◌≤◌, max}
 use Rattle.report.specs.Inside.Walk.{largest_from}
-use Rattle.report.proofs.Largest.{largest-next, largest-done}
 use Rattle.report.proofs.walk.largest_count.Given as goal
 
 abbrev pub invariant-loop-i : goal.invariant-loop-i

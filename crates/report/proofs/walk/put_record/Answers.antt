@@ -1,6 +1,5 @@
 -- `put_record` meets its contract.
 use native.Mathlib.Omega.{arith}
-use borrow.Author.Rules.{rules}
 use Rattle.counting_theory.proofs.Encoding.Header.{type_key-below}
 use Rattle.report.proofs.walk.put_record.Goals as goal
 

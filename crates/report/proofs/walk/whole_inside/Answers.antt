@@ -1,5 +1,4 @@
 -- `whole_inside` meets its contract.
-use borrow.Author.Rules.{rules}
 use mathlib.Core.Path.{◌≡◌, sym, ◌∙◌}
 use borrow.Author.Tests.{eq-eqb, ne_eqb}
 use Rattle.value_table.specs.Value.{record_kind}

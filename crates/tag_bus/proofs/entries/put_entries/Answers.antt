@@ -1,8 +1,7 @@
 -- `put_entries` meets its contract. The loop's invariant: the entries of the records passed stand in the front.
 use mathlib.Core.Path.{sym, ◌∙◌}
-use Prim.Native.Nat.{◌-◌}
 use native.Mathlib.Omega.{arith}
-use Rattle.tag_bus.proofs.Pass.{Passed, pass-first, pass-entry, pass-full, pass-other, pass-end}
+use Rattle.tag_bus.proofs.Pass.{pass-first, pass-entry, pass-full, pass-other, pass-end}
 use Rattle.tag_bus.proofs.entries.put_entries.Goals as goal
 use Rattle.tag_bus.proofs.entries.put_entries.Goals.{then-kind_at-eq-RECORD+else-entries-at-lt-ENTRY_SIZE, else-kind_at-eq-RECORD}
 

@@ -1,9 +1,6 @@
 -- `put_entries` meets its contract. The loop's invariant: the entries of the records passed stand in the front.
-use mathlib.Core.Path.{sym, ◌∙◌}
 use Prim.Native.Nat.{◌-◌}
-use native.Mathlib.Omega.{arith}
-use mathlib.Core.Logic.{⊎_elim}
-use Rattle.tag_bus.proofs.Pass.{Passed, pass-first, pass-entry, pass-full, pass-other, pass-end}
+use Rattle.tag_bus.proofs.Pass.{Passed}
 use Rattle.tag_bus.proofs.entries.put_entries.Given as goal
 
 abbrev pub invariant-loop-i : goal.invariant-loop-i

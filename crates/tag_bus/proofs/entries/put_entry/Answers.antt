@@ -1,5 +1,4 @@
 -- `put_entry` meets its contract.
-use borrow.Author.Rules.{rules}
 use Rattle.tag_bus.proofs.Pass.{entry-stored}
 use Rattle.tag_bus.proofs.entries.put_entry.Goals as goal
 

@@ -1,12 +1,7 @@
 -- `word_at` meets its contract. The loop's invariant: the word lacks the keys of the fields that are left.
-use Prim.Native.Nat.{◌*◌, ◌-◌, ◌≤◌}
 use native.Mathlib.Omega.{arith}
-use lib.ListN.{length}
-use borrow.Author.Rules.{rules}
-use Rattle.counting_theory.specs.Encoding.{type_size, type_key, type_span}
-use Rattle.type_arena.specs.Inside.Arena.{keys_in}
-use Rattle.key_word.specs.Word.{word}
-use Rattle.key_word.proofs.Building.{Left, left-first, next_field, no_field}
+use Rattle.counting_theory.specs.Encoding.{type_key, type_span}
+use Rattle.key_word.proofs.Building.{left-first, next_field, no_field}
 use Rattle.tag_bus.proofs.entries.word_at.Goals as goal
 
 pub loop-j-init : goal.loop-j-init

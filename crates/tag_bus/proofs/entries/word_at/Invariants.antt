@@ -1,12 +1,10 @@
 -- `word_at` meets its contract. The loop's invariant: the word lacks the keys of the fields that are left.
 use Prim.Native.Nat.{◌*◌, ◌-◌, ◌≤◌}
-use native.Mathlib.Omega.{arith}
 use lib.ListN.{length}
-use borrow.Author.Rules.{rules}
 use Rattle.counting_theory.specs.Encoding.{type_size, type_key, type_span}
 use Rattle.type_arena.specs.Inside.Arena.{keys_in}
 use Rattle.key_word.specs.Word.{word}
-use Rattle.key_word.proofs.Building.{Left, left-first, next_field, no_field}
+use Rattle.key_word.proofs.Building.{Left}
 use Rattle.tag_bus.proofs.entries.word_at.Given as goal
 
 abbrev pub invariant-loop-j : goal.invariant-loop-j
