@@ -2,18 +2,15 @@
 #![tactic(auto)]
 
 use std::io;
-use std::io::Read;
 use value_table::record;
 
 // One byte more than a table may have, so that longer input is seen to be too long.
 const INPUT_LENGTH: usize = record::MAX_LENGTH + 1;
 
 fn main(rt: HostRuntime) -> io::Result<()> {
-    let mut input = Vec::new(rt.alloc());
-    rt.stdin()
-        .take(INPUT_LENGTH as u64)
-        .read_to_end(&mut input)?;
+    let mut input = [0u8; INPUT_LENGTH];
+    let n = input::read_full(rt.stdin(), &mut input)?;
     let mut text = [0u8; report::TEXT_LIMIT];
-    let length = report::put_profile(&input, &mut text);
+    let length = report::put_profile(&input[..n], &mut text);
     rt.write_all(&text[..length])
 }

@@ -2,7 +2,6 @@
 // value table; a refusal is a line on standard error.
 #![tactic(auto)]
 
-use std::alloc::Global;
 use std::env::{Env, FillError};
 use std::fs::File;
 use std::io;
@@ -25,13 +24,6 @@ fn write_table(rt: &HostRuntime, text: &[u8], book: &[u8]) -> io::Result<()> {
     }
     let n = record::SIZE * (answer.count as usize);
     rt.write_all(&table[..n])
-}
-
-// All that a text or a book may have, and a byte more.
-fn read_all<R: Read + Drop>(alloc: Global, from: R) -> io::Result<Vec<u8>> {
-    let mut bytes = Vec::new(alloc);
-    from.take(INPUT_LENGTH as u64).read_to_end(&mut bytes)?;
-    Ok(bytes)
 }
 
 // Whether nothing can be read, as from a folder; at the end of a file this is false.
@@ -59,10 +51,12 @@ fn tabulate(rt: &HostRuntime, path: &str) -> io::Result<()> {
         Ok(file) => file,
         Err(error) => return print_failure(rt, path, error),
     };
-    match read_all(rt.alloc(), &file) {
-        Ok(book) => {
-            let text = read_all(rt.alloc(), rt.stdin())?;
-            write_table(rt, &text, &book)
+    let mut book = [0u8; INPUT_LENGTH];
+    match input::read_full(&file, &mut book) {
+        Ok(b) => {
+            let mut text = [0u8; INPUT_LENGTH];
+            let t = input::read_full(rt.stdin(), &mut text)?;
+            write_table(rt, &text[..t], &book[..b])
         }
         Err(error) if is_unreadable(&file) => print_failure(rt, path, error),
         Err(error) => Err(error),

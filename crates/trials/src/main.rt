@@ -6,13 +6,12 @@ mod texts;
 mod trial;
 
 use std::io;
-use std::io::Read;
 
 // The most bytes of the trials that are read.
 const INPUT_LENGTH: usize = 393216;
 
 fn main(rt: HostRuntime) -> io::Result<()> {
-    let mut text = Vec::new(rt.alloc());
-    rt.stdin().take(INPUT_LENGTH as u64).read_to_end(&mut text)?;
-    lines::each_line(&rt, &text)
+    let mut text = [0u8; INPUT_LENGTH];
+    let n = input::read_full(rt.stdin(), &mut text)?;
+    lines::each_line(&rt, &text[..n])
 }

@@ -1,0 +1,6 @@
+-- What was read stands in the buffer.
+use Rattle.std.proofs.Common.{◌≤◌, length}
+use Rattle.input.proofs.read_full.Given as goal
+
+abbrev pub invariant-loop : goal.invariant-loop
+invariant-loop g l = l.n ≤ length l.buffer
