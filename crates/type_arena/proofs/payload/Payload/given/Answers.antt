@@ -3,7 +3,7 @@ use Rattle.std.proofs.Common.{refl, ◌∙◌, eq-eqb, ne_eqb}
 use Rattle.value_table.specs.Value.{array_kind}
 use Rattle.type_arena.specs.Inside.Payload.{payload_of}
 use Rattle.type_arena.proofs.PayloadBytes.{item-is}
-use Rattle.type_arena.proofs.payload.given.Goals as goal
+use Rattle.type_arena.proofs.payload.Payload.given.Goals as goal
 
 pub returns-then-kind-eq-ARRAY : goal.returns-then-kind-eq-ARRAY
 unfolding payload_of
