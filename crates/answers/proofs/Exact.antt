@@ -9,7 +9,8 @@ use lib.ListN.{length, take}
 use Rattle.value_table.specs.Outcome.{Outcome}
 use Rattle.value_table.specs.Judged.{judged, messages}
 use Rattle.counting_theory.specs.Trie.{size, reduce}
-use Rattle.counting_theory.specs.Label.{Equivalence, Counting, CountingType}
+use Rattle.counting_theory.specs.Label.{Counting, CountingType}
+use Rattle.counting_theory.specs.declared.equivalence.Equivalence.{Equivalence}
 use Rattle.counting_theory.specs.Raw.{profile_of}
 use Rattle.counting_theory.specs.Encoding.{type_size, type_of}
 use Rattle.counting_theory.specs.WellFormed.{within_limit, well_formed, bad_type_length}

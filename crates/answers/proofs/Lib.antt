@@ -1,4 +1,3 @@
 -- What the calls that write a type leave in the buffers lent to them.
-pub mod Equivalence
 pub mod Exact
 pub mod Fronts

@@ -1,21 +1,22 @@
-// What a call that writes or judges a type answers: its refusals, and the answer as three numbers.
+// Why a call that writes or judges a type is refused, and that as three numbers.
 #![tactic(auto)]
 
-ghost use Rattle.std.specs.Prelude.{◌≡◌, ◌*◌, ◌^◌, ◌<◌};
+ghost use Rattle.std.specs.Prelude.{◌≡◌};
 ghost use Rattle.value_table.specs.Outcome.{outcome_of_answer};
-ghost use Rattle.counting_theory.specs.Encoding.{type_size};
-ghost use Rattle.answers.specs.Outcomes.{number_of_refusal, outcome_of};
+ghost use Rattle.answers.specs.declared.Refusal.TheVariants.{Equivalence as UnknownNumber, Room};
+ghost use Rattle.answers.specs.Outcomes.{refusal_of, refusal_of_table};
 
-use type_arena::type_record;
-use value_table::Answer;
+use counting_theory::equivalence::UnknownEquivalence;
+use type_arena::record_store::NoRoom;
+use value_table::{Answer, Fault, TableError, fault_number};
 
-// Why a call is refused: a length, an unknown equivalence, a fault of a record of the table, a malformed first (or only) or second type, a total
-// above the limit, a part that is not in the whole, or no room in the arena.
-#[derive(Clone, Copy)]
+// Why a call is refused: a length, an unknown equivalence, a fault and the record of the table that has it, a malformed first (or only) or
+// second type, a total above the limit, a part that is not in the whole, or no room in the arena.
+#[derive(Clone, Copy, Debug, PartialEq, Eq)]
 pub enum Refusal {
     Length,
     Equivalence,
-    Table(value_table::Fault),
+    Table(Fault, usize),
     First,
     Second,
     Total,
@@ -23,53 +24,46 @@ pub enum Refusal {
     Room,
 }
 
-// The answer of a call: a number of type records, or a refusal with its place.
-#[derive(Clone, Copy)]
-pub enum Answered {
-    Accepted(usize),
-    Refused(Refusal, usize),
-}
+impl From<UnknownEquivalence> for Refusal {
+    ghost from_gives = { λ _ why. why ≡ UnknownNumber };
 
-fn refusal_number(why: Refusal) -> u64
-    ensures { result ≡ number_of_refusal why }
-{
-    match why {
-        Refusal::Length => 1,
-        Refusal::Equivalence => 2,
-        Refusal::Table(fault) => value_table::fault_number(fault),
-        Refusal::First => 8,
-        Refusal::Second => 9,
-        Refusal::Total => 10,
-        Refusal::NotPart => 16,
-        Refusal::Room => 11,
+    fn from(_error: UnknownEquivalence) -> Refusal {
+        Refusal::Equivalence
     }
 }
 
-// An answer as three numbers.
-pub fn answer_of(answered: Answered) -> Answer
-    ensures { outcome_of_answer result ≡ outcome_of answered }
-{
-    match answered {
-        Answered::Accepted(records) => Answer {
-            number: 0,
-            place: 0,
-            count: records as u64,
-        },
-        Answered::Refused(why, place) => Answer {
-            number: refusal_number(why),
-            place: place as u64,
-            count: 0,
-        },
+impl From<TableError> for Refusal {
+    ghost from_gives = { λ error why. why ≡ refusal_of_table error };
+
+    fn from(error: TableError) -> Refusal {
+        match error {
+            TableError::Length => Refusal::Length,
+            TableError::Faulty(fault, place) => Refusal::Table(fault, place),
+        }
     }
 }
 
-// The bytes of the type that a call has written.
-pub fn bytes_written(answered: Answered) -> usize
-    requires { type_size * (outcome_of answered).count < 2 ^ 64 }
-    ensures { result ≡ type_size * (outcome_of answered).count }
-{
-    match answered {
-        Answered::Accepted(records) => records * type_record::SIZE,
-        Answered::Refused(_, _) => 0,
+impl From<NoRoom> for Refusal {
+    ghost from_gives = { λ _ why. why ≡ Room };
+
+    fn from(_error: NoRoom) -> Refusal {
+        Refusal::Room
+    }
+}
+
+impl From<Refusal> for Answer {
+    ghost from_gives = { λ why answer. outcome_of_answer answer ≡ refusal_of why };
+
+    fn from(why: Refusal) -> Answer {
+        match why {
+            Refusal::Length => Answer::refused(1, 0),
+            Refusal::Equivalence => Answer::refused(2, 0),
+            Refusal::Table(fault, place) => Answer::refused(fault_number(fault), place),
+            Refusal::First => Answer::refused(8, 0),
+            Refusal::Second => Answer::refused(9, 0),
+            Refusal::Total => Answer::refused(10, 0),
+            Refusal::NotPart => Answer::refused(16, 0),
+            Refusal::Room => Answer::refused(11, 0),
+        }
     }
 }

@@ -1,10 +1,10 @@
 -- Moving a list's first n elements up, the last one first.
-use mathlib.Core.Path.{◌≡◌, refl, sym, ◌∙◌, ap}
+use mathlib.Core.Path.{◌≡◌, sym, ◌∙◌, ap}
 use mathlib.Core.List.{List, ◌∷◌, ◌++◌}
 use Prim.Native.Nat.{ℕ, suc, ◌+◌, ◌≤◌, ◌<◌}
-use native.Mathlib.Nat.{le_refl, zero-add}
+use native.Mathlib.Nat.{le_refl}
 use native.Mathlib.Omega.{arith}
-use lib.ListN.{length, take, drop, get_or, set, length-take, length-set, drop_of_length-le}
+use lib.ListN.{length, take, drop, get_or, set, length-take, length-set}
 use lib.Seq.{take-take, take-set-le, drop-cons, drop-set-lt, get_or-set_same, get_or-take}
 
 -- the elements of a₀ from i to n have moved up by `gap`
@@ -32,9 +32,3 @@ module _ (a₀ : List ℕ) (n gap : ℕ) (room : n + gap ≤ length a₀) where
           take-set-le (j + gap) a (j + gap) (get_or a j 0) (le_refl _) ∙ sym (take-take (j + gap) (i + gap) a h) ∙ ap (take (j + gap)) m.0 ∙ take-take (j + gap) (i + gap) a₀ h,
           r ∙ rw (same, m.1, v),
         )
-
-pub moved-start : (a : List ℕ) (n gap : ℕ) → n + gap ≤ length a → Moved a n gap a n
-moved-start a n gap h = (refl, rw (drop_of_length-le (take n a) {i = n} (simp length-take (omega arith))))
-
-pub moved-end : (a₀ a : List ℕ) (n gap i : ℕ) → i ≡ 0 → Moved a₀ n gap a i → drop gap a ≡ take n a₀ ++ drop (n + gap) a₀
-moved-end a₀ a n gap i z m = rw (z, zero-add) at m.1

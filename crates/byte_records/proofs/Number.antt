@@ -2,7 +2,8 @@
 use mathlib.Core.Path.{◌≡◌, refl, sym, ap, ◌∙◌}
 use mathlib.Core.List.{List, [], ◌∷◌}
 use Prim.Native.Nat.{ℕ, zero, suc, ◌+◌, ◌*◌, ◌/◌, ◌%◌, ◌^◌, ◌<◌, ◌≤◌}
-use native.Mathlib.Nat.{pow-suc, zero-add, add-zero, suc-add, one-mul, mul_comm, mul_assoc, div-add-mod', mod-lt, one-le-pow}
+use native.Mathlib.Nat.{pow-suc, zero-add, add-zero, suc-add, one-mul, mul-suc, mul_comm, mul_assoc, div-add-mod', mod-lt, mod-eq_of_lt, one-le-pow, pow-le-pow_right, mul-le-mul_right}
+use Rattle.std.proofs.lemmas.Nat.{pow-add}
 use native.Mathlib.Numerals.{add-one}
 use native.Mathlib.Omega.{arith}
 use lib.Dec.{lit<}
@@ -77,3 +78,26 @@ number_at-one [] zero = refl
 number_at-one [] (suc p) = refl
 number_at-one (x ∷ b) zero = omega arith
 number_at-one (x ∷ b) (suc p) = number_at-one b p
+
+-- a byte's place, as a shift
+shift-place : (k : ℕ) → 2 ^ (8 * k) ≡ 256 ^ k
+shift-place zero = refl
+shift-place (suc k) = rw (mul-suc 8 k, pow-add 2 (8 * k) 8, shift-place k, pow-suc 256 k) refl
+
+pub read_room : (k : ℕ) → k ≤ 8 → 256 ^ k ≤ 256 ^ 8
+read_room k h = let least : 1 ≤ 256 = lit< tt in pow-le-pow_right least {i = k} {j = 8} h
+
+-- n is the number in the k bytes from p
+abbrev pub Read : ℕ → List ℕ → ℕ → ℕ → Type 0
+Read n b p k = (n ≡ number_at k b p) × (n < 256 ^ k)
+
+-- one byte more, shifted to its place above them
+pub read_more : (n : ℕ) (b : List ℕ) (p k : ℕ) → k < 8 → p + k < length b → get_or b (p + k) 0 < 256 → Read n b p k → Read (n + get_or b (p + k) 0 * 2 ^ (8 * k) % 2 ^ 64) b p (k + 1)
+read_more n b p k h l m r =
+    let x = get_or b (p + k) 0 in
+    let room : 256 ^ (k + 1) ≤ 256 ^ 8 = read_room (k + 1) (omega arith) in
+    let next : 256 ^ (k + 1) ≡ 256 ^ k * 256 = rw add-one (pow-suc 256 k) in
+    let some : (x + 1) * 256 ^ k ≤ 256 * 256 ^ k = mul-le-mul_right (256 ^ k) (omega arith) in
+    let whole : x * 256 ^ k % 2 ^ 64 ≡ x * 256 ^ k = mod-eq_of_lt (omega arith) in
+    let v : number_at (k + 1) b p ≡ number_at k b p + 256 ^ k * x = rw (← number_at-one b (p + k)) (number_at-add k 1 b p (omega arith)) in
+    rw (shift-place k, whole) (omega arith, omega arith)

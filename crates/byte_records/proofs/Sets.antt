@@ -1,12 +1,13 @@
 -- Runs of stores, of which those past the end are lost.
 use mathlib.Core.Path.{◌≡◌, refl, sym, ap, ◌∙◌}
-use mathlib.Core.List.{List, [], ◌∷◌, ◌++◌, append-nil}
-use Prim.Native.Nat.{ℕ, zero, suc, min, ◌+◌, ◌-◌, ◌/◌, ◌^◌, ◌≤◌, ◌<◌}
+use mathlib.Core.List.{List, [], ◌∷◌, ◌++◌, append-nil, append_assoc}
+use Prim.Native.Nat.{ℕ, zero, suc, min, ◌+◌, ◌-◌, ◌/◌, ◌%◌, ◌^◌, ◌≤◌, ◌<◌}
 use native.Mathlib.Nat.{add-zero, add-suc, suc-add, zero-add, div-one, pow-suc, mul_comm, div-div-eq-div-mul}
 use native.Mathlib.Decide.{dec_le}
+use native.Mathlib.Numerals.{add-one}
 use native.Mathlib.Omega.{arith}
-use lib.ListN.{length, set, drop, get_or, drop_of_length-le}
-use lib.Seq.{sets, sets-eq, set_comm, set_out, drop-cons}
+use lib.ListN.{length, set, take, drop, drop_of_length-le, take-append-drop}
+use lib.Seq.{sets, sets-eq, length-sets, length-take-le, set_comm, set_out, take_all, drop-drop}
 use Rattle.byte_records.specs.Number.{bytes_of}
 use Rattle.byte_records.proofs.Number.{length-bytes_of}
 
@@ -40,6 +41,14 @@ pub sets-bytes : (v w n : ℕ) (l : List ℕ) (i : ℕ) → sets (sets l i (byte
 sets-bytes v w n l i =
     rw (bytes_of-add v w n, sets-append (bytes_of v n) (bytes_of w (n / 256 ^ v)) l i, length-bytes_of v n) refl
 
+-- one byte of a number more is stored
+pub sets_more : (n : ℕ) (l : List ℕ) (i k : ℕ) {m : List ℕ} {rest : ℕ} → m ≡ sets l i (bytes_of k n) → rest ≡ n / 256 ^ k →
+    (set m (i + k) (rest % 256) ≡ sets l i (bytes_of (k + 1) n)) × (rest / 256 ≡ n / 256 ^ (k + 1))
+unfolding bytes_of
+sets_more n l i k e f =
+    let z : n / 256 ^ k / 256 ≡ n / 256 ^ (k + 1) = rw (add-one, pow-suc 256 k, div-div-eq-div-mul) refl in
+    rw (e, f) (sets-bytes k 1 n l i, z)
+
 sets-whole : (vs l : List ℕ) → length l ≡ length vs → sets l 0 vs ≡ vs
 sets-whole vs l h = sets-eq vs l 0 (omega arith) ∙ rw (zero-add, drop_of_length-le l {i = length vs} (omega arith)) (append-nil vs)
 
@@ -47,18 +56,30 @@ sets-whole vs l h = sets-eq vs l 0 (omega arith) ∙ rw (zero-add, drop_of_lengt
 pub sets-aside : (vs l out : List ℕ) (at : ℕ) {made out' : List ℕ} → length l ≡ length vs → made ≡ sets l 0 vs → out' ≡ sets out at made → out' ≡ sets out at vs
 sets-aside vs l out at h e f = f ∙ ap (sets out at) (e ∙ sets-whole vs l h)
 
--- one byte of a copy
-pub copy_more : (src out : List ℕ) (at i : ℕ) → i < length src →
-    sets (set out (at + i) (get_or src i 0)) (at + (i + 1)) (drop (i + 1) src) ≡ sets out (at + i) (drop i src)
-copy_more src out at i h =
-    let d : at + (i + 1) ≡ suc (at + i) = omega arith in
-    let k : i + 1 ≡ suc i = omega arith in
-    rw (d, k, drop-cons src i 0) refl
-
--- all is copied, or there is no more room
-pub copy-end : (src out all : List ℕ) (at i : ℕ) → min (length src) (length out - at) ≤ i → sets out (at + i) (drop i src) ≡ all → out ≡ all
-copy-end src out all at i h e = go (dec_le (length src) i)
+-- only what there is room for is stored
+sets-front : (vs l : List ℕ) (i n : ℕ) → n ≡ min (length vs) (length l - i) → sets l i vs ≡ sets l i (take n vs)
+sets-front vs l i n h = go (dec_le (length vs) n)
   where
-    go : Dec (length src ≤ i) → out ≡ all
-    go (yes z) = rw (drop_of_length-le src z) at e
-    go (no z) = sym (sets-out (drop i src) out (at + i) (omega arith)) ∙ e
+    go : Dec (length vs ≤ n) → sets l i vs ≡ sets l i (take n vs)
+    go (yes z) = ap (sets l i) (sym (take_all n vs z))
+    go (no z) =
+        let k : length (take n vs) ≡ n = length-take-le n vs (omega arith) in
+        let o : length (sets l i (take n vs)) ≤ i + n = rw length-sets (omega arith) in
+        ap (sets l i) (sym (take-append-drop n vs)) ∙ sets-append (take n vs) (drop n vs) l i ∙ rw k (sets-out (drop n vs) (sets l i (take n vs)) (i + n) o)
+
+-- the same as one part that is replaced
+pub sets-part : (vs l : List ℕ) (i a n : ℕ) → a ≡ min i (length l) → n ≡ min (length vs) (length l - a) → take a l ++ (take n vs ++ drop n (drop a l)) ≡ sets l i vs
+sets-part vs l i a n h k = go (dec_le i (length l))
+  where
+    e : sets l i vs ≡ sets l i (take n vs)
+    e = sets-front vs l i n (omega arith)
+
+    go : Dec (i ≤ length l) → take a l ++ (take n vs ++ drop n (drop a l)) ≡ sets l i vs
+    go (yes z) =
+        let w : length (take n vs) ≡ n = length-take-le n vs (omega arith) in
+        let q : a ≡ i = omega arith in
+        let d : drop n (drop i l) ≡ drop (i + n) l = drop-drop n i l in
+        rw (e, sets-eq (take n vs) l i (omega arith), w, q, d, append_assoc) refl
+    go (no z) =
+        let q : n ≡ 0 = omega arith in
+        rw (e, q) (take-append-drop a l)

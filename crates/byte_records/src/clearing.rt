@@ -6,9 +6,5 @@ pub fn clear_from(buffer: &mut [u8], from: usize)
     requires { from ≤ length buffer.old }
     ensures { buffer.new ≡ take from buffer.old ++ replicate (length buffer.old - from) 0 }
 {
-    let mut i = from;
-    while i < buffer.len() {
-        buffer[i] = 0;
-        i += 1;
-    }
+    buffer[from..].fill(0);
 }

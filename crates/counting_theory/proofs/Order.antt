@@ -9,7 +9,11 @@ use Prim.Native.Nat.{ℕ, zero, suc, ◌<◌, compare, Ordering}
 use native.Mathlib.Omega.{arith}
 use lib.Dec.{is_le, compare_is_eq}
 use borrow.Author.Tests.{leb-true, leb-false, eqb-false}
-use Rattle.counting_theory.specs.Order.{then, compare_pair, compare_list, compare_on}
+use Rattle.std.specs.declared.cmp.Ordering as code
+use Rattle.std.specs.declared.cmp.Ordering.TheVariants.{Less, Equal, Greater}
+use Rattle.std.specs.Ordering.{MatchOrdering, nat_cmp, ordering_then}
+use Rattle.std.specs.Cmp.{ranks}
+use Rattle.counting_theory.specs.Order.{then, compare_pair, compare_list, compare_on, ordering_of}
 use Rattle.counting_theory.specs.Inside.TrieLaws.{flip, IsOrder}
 
 pub number-refl : (n : ℕ) → compare n n ≡ eq
@@ -58,7 +62,7 @@ less-compare m n h = go (compare m n) refl
     go eq e = absurd (omega (arith, number-eq m n e))
     go gt e = absurd (omega (arith, leb-false m n (ap is_le e)))
 
-then-eq : (o u : Ordering) → then o u ≡ eq → (o ≡ eq) × (u ≡ eq)
+pub then-eq : (o u : Ordering) → then o u ≡ eq → (o ≡ eq) × (u ≡ eq)
 unfolding then
 then-eq lt u e = (e, cc)
 then-eq eq u e = (refl, e)
@@ -172,3 +176,18 @@ module _ {A : Type 0} {compare_a : A → A → Ordering} (O : IsOrder compare_a)
 
 pub more-compare : (m n : ℕ) → n < m → compare m n ≡ gt
 more-compare m n h = number-flip n m ∙ ap flip (less-compare n m h)
+
+-- the code's comparison of numbers, and of two comparisons the first that tells its arguments apart
+pub ordering-compare : (m n : ℕ) → ordering_of (nat_cmp m n) ≡ compare m n
+ordering-compare m n = go (nat_cmp m n) (ranks m n)
+  where
+    go : (o : code.Ordering) → MatchOrdering o (m < n) (m ≡ n) (n < m) → ordering_of o ≡ compare m n
+    go Less h = sym (less-compare m n h)
+    go Equal h = sym (rw h (number-refl n))
+    go Greater h = sym (more-compare m n h)
+
+pub ordering-then : (o u : code.Ordering) → ordering_of (ordering_then o u) ≡ then (ordering_of o) (ordering_of u)
+unfolding then
+ordering-then Less u = refl
+ordering-then Equal u = refl
+ordering-then Greater u = refl

@@ -1,13 +1,16 @@
 -- 'The five calls' and 'When a call is turned down' of document 01: for each call on types its outcome, and every byte that it
 -- leaves in the buffers lent to it, for every input.
-use Rattle.std.specs.Prelude.{Bool, cond, not, ◌||◌, List, [], ◌++◌, ℕ, zero, suc, ◌*◌, ◌-◌, ◌/◌, eqb, ltb, length}
+use Rattle.std.specs.Prelude.{◌≡◌, Result, Ok, Err, Bool, cond, not, ◌||◌, List, [], ◌++◌, ℕ, zero, suc, ◌*◌, ◌-◌, ◌/◌, eqb, ltb, length}
 use Rattle.std.proofs.Math.Option.{Option, none, some}
 use Rattle.byte_records.specs.Number.{zeros}
 use Rattle.value_table.specs.Value.{max_length}
 use Rattle.value_table.specs.Outcome.{Outcome, accepted, refused}
 use Rattle.value_table.specs.Judged.{bad_length, judged, messages}
 use Rattle.counting_theory.specs.Trie.{size, reduce}
-use Rattle.counting_theory.specs.Label.{Equivalence, by_kind, by_label, Counting, CountingType}
+use Rattle.counting_theory.specs.Label.{Counting, CountingType}
+use Rattle.counting_theory.specs.declared.equivalence.Equivalence.{Equivalence}
+use Rattle.counting_theory.specs.declared.equivalence.Equivalence.TheVariants.{Kind as by_kind, Label as by_label}
+use Rattle.counting_theory.specs.declared.equivalence.UnknownEquivalence.{UnknownEquivalence}
 use Rattle.counting_theory.specs.Raw.{profile_of}
 use Rattle.counting_theory.specs.Encoding.{type_size, type_records, encode, type_of}
 use Rattle.counting_theory.specs.WellFormed.{within_limit, well_formed, bad_type_length}
@@ -21,6 +24,11 @@ equivalence_of (suc (suc n)) = none
 abbrev pub equivalence_number : Equivalence → ℕ
 equivalence_number by_kind = 0
 equivalence_number by_label = 1
+
+-- what the code answers for the equivalence of a number
+abbrev pub IsEquivalence : ℕ → Result Equivalence UnknownEquivalence → Type 0
+IsEquivalence number (Ok e) = equivalence_of number ≡ some e
+IsEquivalence number (Err _) = equivalence_of number ≡ none
 
 -- the equivalence of call 3: kind in document 01, label by change 5 of document 02
 abbrev pub house_default : Equivalence

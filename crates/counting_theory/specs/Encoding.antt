@@ -4,7 +4,8 @@ use Rattle.byte_records.specs.Format.{Format, width_of, field_at, fields_at, rec
 use Rattle.value_table.specs.Value.{record_kind, array_kind, last_scalar}
 use Rattle.counting_theory.specs.Payload.{Payload, payload_format, numbers, of_numbers}
 use Rattle.counting_theory.specs.Trie.{nil, node, size}
-use Rattle.counting_theory.specs.Label.{Equivalence, Label, label_of, field_label, CountingType}
+use Rattle.counting_theory.specs.Label.{Label, label_of, field_label, CountingType}
+use Rattle.counting_theory.specs.declared.equivalence.Equivalence.{Equivalence}
 
 -- the fields of a type record: kind, zero, key and span, then the payload's
 abbrev pub type_format : Format

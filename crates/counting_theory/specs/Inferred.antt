@@ -3,7 +3,8 @@ use Rattle.std.specs.Prelude.{◌≡◌, Bool, false, ◌↔◌, ℕ, eqb}
 use Rattle.value_table.specs.Value.{Head, Values, none, value, Valid, record_kind, join_values}
 use Rattle.counting_theory.specs.Payload.{one}
 use Rattle.counting_theory.specs.Trie.{nil, reduce, Sorted}
-use Rattle.counting_theory.specs.Label.{Equivalence, label_of, Counting, CountingType}
+use Rattle.counting_theory.specs.Label.{label_of, Counting, CountingType}
+use Rattle.counting_theory.specs.declared.equivalence.Equivalence.{Equivalence}
 use Rattle.counting_theory.specs.Raw.{addend, profile_of}
 use Rattle.counting_theory.specs.Encoding.{sibling_keys, Tagged}
 use Rattle.counting_theory.specs.Published.{EReduced}

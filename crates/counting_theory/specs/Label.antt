@@ -5,10 +5,9 @@ use Rattle.value_table.specs.Value.{record_kind}
 use Rattle.counting_theory.specs.Order.{then, compare_pair, compare_list, compare_on}
 use Rattle.counting_theory.specs.Payload.{Payload, join}
 use Rattle.counting_theory.specs.Trie.{TrieOps, Trie}
-
 -- document 01's equivalence 0 and equivalence 1
-pub data Equivalence : Type 0 where
-  by_kind by_label : Equivalence
+use Rattle.counting_theory.specs.declared.equivalence.Equivalence.{Equivalence}
+use Rattle.counting_theory.specs.declared.equivalence.Equivalence.TheVariants.{Kind as by_kind, Label as by_label}
 
 abbrev pub field_kind : ℕ
 field_kind = 7

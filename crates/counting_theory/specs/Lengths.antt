@@ -2,7 +2,8 @@
 use Rattle.std.specs.Prelude.{◌≡◌, List, [], ◌∷◌, ◌⊎◌, ℕ, ◌≤◌, length}
 use Rattle.std.proofs.Math.Option.{some}
 use Rattle.counting_theory.specs.Payload.{Payload}
-use Rattle.counting_theory.specs.Label.{Equivalence, Label}
+use Rattle.counting_theory.specs.Label.{Label}
+use Rattle.counting_theory.specs.declared.equivalence.Equivalence.{Equivalence}
 use Rattle.counting_theory.specs.Place.{Value, elements_of, values_at, payload_at}
 
 -- P holds of each value, or of some value

@@ -3,7 +3,8 @@ use Rattle.std.specs.Prelude.{◌≡◌, Bool, true, false, ℕ, length}
 use mathlib.Core.List.{List, [], ◌∷◌, ◌++◌, Permᴰ}
 use Rattle.value_table.specs.Value.{Values, Valid, record_kind, array_kind}
 use Rattle.counting_theory.specs.Trie.{nil, node}
-use Rattle.counting_theory.specs.Label.{Equivalence, CountingType}
+use Rattle.counting_theory.specs.Label.{CountingType}
+use Rattle.counting_theory.specs.declared.equivalence.Equivalence.{Equivalence}
 use Rattle.counting_theory.specs.Raw.{profile_of}
 use Rattle.counting_theory.specs.Place.{Value, values_of, elements, field_values}
 use Rattle.counting_theory.specs.Published.{HasKey}

@@ -1,5 +1,7 @@
--- Comparisons of pairs, of lists and by a key.
+-- Comparisons of pairs, of lists and by a key, and what the code's orderings say.
 use Rattle.std.specs.Prelude.{List, [], ◌∷◌}
+use Rattle.std.specs.declared.cmp.Ordering as code
+use Rattle.std.specs.declared.cmp.Ordering.TheVariants.{Less, Equal, Greater}
 use Prim.Native.Nat.Ordering.{eq}
 use Prim.Native.Nat.Ordering.{gt}
 use Prim.Native.Nat.Ordering.{lt}
@@ -24,3 +26,8 @@ compare_list compare (x ∷ xs) (y ∷ ys) = then (compare x y) (compare_list co
 
 unfoldable pub compare_on : {A B : Type 0} → (B → B → Ordering) → (A → B) → A → A → Ordering
 compare_on compare key x y = compare (key x) (key y)
+
+abbrev pub ordering_of : code.Ordering → Ordering
+ordering_of Less = lt
+ordering_of Equal = eq
+ordering_of Greater = gt

@@ -6,7 +6,9 @@ use Rattle.std.proofs.Math.Dec.{compare_is_eq}
 use Rattle.value_table.specs.Value.{Head, Values, none, value, keys, member, Distinct, Valid, record_kind, array_kind}
 use Rattle.counting_theory.specs.Payload.{Payload, one, one_field}
 use Rattle.counting_theory.specs.Trie.{nil, node, ◌⊞◌ as join_option, lookup, total}
-use Rattle.counting_theory.specs.Label.{Equivalence, by_label, Label, field_kind, field_label, compare_label, Counting, CountingType}
+use Rattle.counting_theory.specs.Label.{Label, field_kind, field_label, compare_label, Counting, CountingType}
+use Rattle.counting_theory.specs.declared.equivalence.Equivalence.{Equivalence}
+use Rattle.counting_theory.specs.declared.equivalence.Equivalence.TheVariants.{Label as by_label}
 use Rattle.counting_theory.specs.Raw.{class_of, profile_of}
 
 -- a value without its key; a list of these stands for a multiset of document 000

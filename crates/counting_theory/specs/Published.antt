@@ -4,7 +4,9 @@ use Rattle.std.specs.Prelude.{◌≡◌, Bool, ◌⊎◌, ◌↔◌, ℕ}
 use Rattle.value_table.specs.Value.{record_kind}
 use Rattle.counting_theory.specs.Payload.{Payload, join}
 use Rattle.counting_theory.specs.Trie.{nil, node, reduce, Sorted}
-use Rattle.counting_theory.specs.Label.{Equivalence, by_kind, by_label, Label, field_label, Counting, CountingType}
+use Rattle.counting_theory.specs.Label.{Label, field_label, Counting, CountingType}
+use Rattle.counting_theory.specs.declared.equivalence.Equivalence.{Equivalence}
+use Rattle.counting_theory.specs.declared.equivalence.Equivalence.TheVariants.{Kind as by_kind, Label as by_label}
 use Rattle.counting_theory.specs.Encoding.{Tagged}
 
 -- node l a c stands among the siblings of f

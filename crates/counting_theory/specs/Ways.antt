@@ -8,7 +8,8 @@ use Rattle.value_table.specs.Value as table
 use Rattle.value_table.specs.Judged.{judged, messages}
 use Rattle.counting_theory.specs.Payload.{Payload}
 use Rattle.counting_theory.specs.Trie.{size, lookup}
-use Rattle.counting_theory.specs.Label.{Equivalence, Label, Counting, CountingType}
+use Rattle.counting_theory.specs.Label.{Label, Counting, CountingType}
+use Rattle.counting_theory.specs.declared.equivalence.Equivalence.{Equivalence}
 use Rattle.counting_theory.specs.Raw.{profile_of}
 use Rattle.counting_theory.specs.Place.{values_of, values_at, payload_at, count_of}
 use Rattle.counting_theory.specs.Lengths.{LengthsOf}

@@ -9,7 +9,9 @@ use Rattle.value_table.specs.Value.{record_size, max_length, max_depth, record_k
 use Rattle.value_table.specs.Value as table
 use Rattle.counting_theory.specs.Payload.{proper}
 use Rattle.counting_theory.specs.Trie.{nil, node, size, lookup, reduce, Sorted, total, largest_total}
-use Rattle.counting_theory.specs.Label.{Equivalence, by_kind, by_label, Label, field_kind, compare_label, Counting, CountingType}
+use Rattle.counting_theory.specs.Label.{Label, field_kind, compare_label, Counting, CountingType}
+use Rattle.counting_theory.specs.declared.equivalence.Equivalence.{Equivalence}
+use Rattle.counting_theory.specs.declared.equivalence.Equivalence.TheVariants.{Kind as by_kind, Label as by_label}
 use Rattle.counting_theory.specs.Raw.{profile_of}
 use Rattle.counting_theory.specs.Place.{◌⊞◌, count_of, Stands, FieldTotals}
 use Rattle.counting_theory.specs.Encoding.{type_size, type_records, type_kind, type_zero, type_key, type_span, encode, type_of, Tagged}

@@ -1,3 +1,4 @@
+// The theory of counting types: statements (specs/) and their laws (proofs/); and the equivalences, which the code has too.
 #![tactic(auto)]
 
-// The theory of counting types: statements (specs/) and their laws (proofs/), and no function.
+pub mod equivalence;

@@ -10,139 +10,134 @@ ghost use Rattle.counting_theory.specs.Raw.{profile_of};
 ghost use Rattle.counting_theory.specs.Encoding.{type_of};
 ghost use Rattle.counting_theory.specs.WellFormed.{IsType};
 ghost use Rattle.counting_theory.specs.Answers.{judged_type, leaves, stored, bad_buffers, inferred, inferred_default, merged, merged_types};
-ghost use Rattle.type_arena.specs.Inside.Arena.{by_flag};
-ghost use Rattle.inference.specs.Inside.Inferring.{AcceptedTable};
 ghost use Rattle.answers.specs.Outcomes.{outcome_of, left_by};
 ghost use Rattle.answers.specs.Inside.Front.{WrittenInFront};
 
-use answers::{Answered, Refusal, bytes_written};
+use answers::Refusal;
 use byte_records::clearing::clear_from;
+use counting_theory::equivalence::Equivalence;
 use gathering::add_messages;
-use inference::inferring::Inferred;
 use merging::merge_types;
-use type_arena::equivalence::BY_LABEL;
 use type_arena::type_record;
 use type_arena::type_record::bad_length;
-use type_check::pair::{Pair, judge_pair};
+use type_check::pair::judge_pair;
 use type_check::well_formed;
-use value_table::{Judged, judge, record};
+use value_table::{judge, record};
 
 // The equivalence of call 3.
-const HOUSE_DEFAULT: u64 = BY_LABEL;
+const HOUSE_DEFAULT: Equivalence = Equivalence::Label;
 
 // Whether the length of a table, of an arena or of its working buffer is wrong.
 pub fn bad_buffers(table: usize, arena: usize, work: usize) -> bool
     ensures { result ≡ bad_buffers table arena work }
 {
-    if record::bad_length(table) {
-        return true;
-    }
-    if bad_length(arena) {
-        return true;
-    }
-    work != arena
+    record::bad_length(table) || bad_length(arena) || work != arena
 }
 
-// The type of an accepted table's messages, in the front of the arena.
-fn infer_checked(table: &[u8], label: bool, arena: &mut [u8], work: &mut [u8]) -> Answered
-    requires { AcceptedTable table.now × (length arena.old ≤ max_length) × (length arena.old ≤ length work.old) }
-    ensures { WrittenInFront (stored (length arena.old) (profile_of (by_flag label) (messages table.now))) result arena.new }
-{
-    match add_messages(arena, table, label, false, work) {
-        Inferred::Records(n) => Answered::Accepted(n),
-        Inferred::Full => Answered::Refused(Refusal::Room, 0),
-    }
-}
-
-// The same for any inputs.
-fn infer_front(table: &[u8], equivalence: u64, arena: &mut [u8], work: &mut [u8]) -> Answered
+// The type of a table's messages, in the front of the arena, and how many records it has; behind them the arena and the working buffer
+// may hold anything.
+fn infer_front(
+    table: &[u8],
+    equivalence: u64,
+    arena: &mut [u8],
+    work: &mut [u8],
+) -> Result<usize, Refusal>
     ensures { WrittenInFront (inferred table.now equivalence (length arena.old) (length work.old)) result
         arena.new }
 {
     if bad_buffers(table.len(), arena.len(), work.len()) {
-        return Answered::Refused(Refusal::Length, 0);
+        return Err(Refusal::Length);
     }
-    if BY_LABEL < equivalence {
-        return Answered::Refused(Refusal::Equivalence, 0);
-    }
-    match judge(table) {
-        Judged::Length => Answered::Refused(Refusal::Length, 0),
-        Judged::Faulty(fault, place) => Answered::Refused(Refusal::Table(fault), place),
-        Judged::Accepted(_) => infer_checked(table, equivalence == BY_LABEL, arena, work),
-    }
+    let equivalence = Equivalence::try_from(equivalence)?;
+    judge(table)?;
+    Ok(add_messages(arena, table, equivalence, false, work)?)
 }
 
 // Call 2: infers the type of a table's messages under an equivalence into the arena, with a working buffer of the same length.
-pub fn infer(table: &[u8], equivalence: u64, arena: &mut [u8], work: &mut [u8]) -> Answered
+pub fn infer(
+    table: &[u8],
+    equivalence: u64,
+    arena: &mut [u8],
+    work: &mut [u8],
+) -> Result<usize, Refusal>
     ensures { left_by result arena.new work.new
         ≡ leaves (inferred table.now equivalence (length arena.old) (length work.old)) arena.old
         work.old }
 {
     let answered = infer_front(table, equivalence, arena, work);
-    clear_from(arena, bytes_written(answered));
-    clear_from(work, 0);
+    clear_from(arena, type_record::SIZE * answered.unwrap_or(0));
+    work.fill(0);
     answered
 }
 
 // Call 3: the same under the house default.
-pub fn infer_default(table: &[u8], arena: &mut [u8], work: &mut [u8]) -> Answered
+pub fn infer_default(table: &[u8], arena: &mut [u8], work: &mut [u8]) -> Result<usize, Refusal>
     ensures { left_by result arena.new work.new
         ≡ leaves (inferred_default table.now (length arena.old) (length work.old)) arena.old work.old }
 {
-    infer(table, HOUSE_DEFAULT, arena, work)
+    infer(table, HOUSE_DEFAULT as u64, arena, work)
 }
 
 // Call 4: judges a type under an equivalence, 0 for kind and 1 for label.
-pub fn judge_type(bytes: &[u8], equivalence: u64) -> Answered
+pub fn judge_type(bytes: &[u8], equivalence: u64) -> Result<usize, Refusal>
     ensures { outcome_of result ≡ judged_type bytes.now equivalence }
 {
     if bad_length(bytes.len()) {
-        return Answered::Refused(Refusal::Length, 0);
+        return Err(Refusal::Length);
     }
-    if BY_LABEL < equivalence {
-        return Answered::Refused(Refusal::Equivalence, 0);
+    if !well_formed(bytes, Equivalence::try_from(equivalence)?) {
+        return Err(Refusal::First);
     }
-    if well_formed(bytes, equivalence == BY_LABEL) {
-        return Answered::Accepted(bytes.len() / type_record::SIZE);
-    }
-    Answered::Refused(Refusal::First, 0)
+    Ok(bytes.len() / type_record::SIZE)
 }
 
 // The merge of two well-formed types, in the front of the arena.
-fn merge_checked(first: &[u8], second: &[u8], label: bool, arena: &mut [u8]) -> Answered
-    requires fact { IsType (by_flag label) first.now (type_of (by_flag label) first.now) }
-    requires fact_2 { IsType (by_flag label) second.now (type_of (by_flag label) second.now) }
+fn merge_checked(
+    first: &[u8],
+    second: &[u8],
+    equivalence: Equivalence,
+    arena: &mut [u8],
+) -> Result<usize, Refusal>
+    requires fact { IsType equivalence first.now (type_of equivalence first.now) }
+    requires fact_2 { IsType equivalence second.now (type_of equivalence second.now) }
     ensures { WrittenInFront
-        (merged_types (reduce Counting (type_of (by_flag label) first.now) (type_of (by_flag label) second.now))
+        (merged_types (reduce Counting (type_of equivalence first.now) (type_of equivalence second.now))
         (length arena.old)) result arena.new }
 {
-    let merged = merge_types(first, second, label, arena);
-    let n = merged.bytes;
+    let merged = merge_types(first, second, equivalence, arena);
     if merged.over {
-        return Answered::Refused(Refusal::Total, 0);
+        return Err(Refusal::Total);
     }
-    if arena.len() < n {
-        return Answered::Refused(Refusal::Room, 0);
+    if arena.len() < merged.bytes {
+        return Err(Refusal::Room);
     }
-    Answered::Accepted(n / type_record::SIZE)
+    Ok(merged.bytes / type_record::SIZE)
 }
 
 // The same for any inputs.
-fn merge_front(first: &[u8], second: &[u8], equivalence: u64, arena: &mut [u8]) -> Answered
+fn merge_front(
+    first: &[u8],
+    second: &[u8],
+    equivalence: u64,
+    arena: &mut [u8],
+) -> Result<usize, Refusal>
     ensures { WrittenInFront (merged first.now second.now equivalence (length arena.old)) result arena.new }
 {
-    match judge_pair(first, second, equivalence, arena.len()) {
-        Pair::Refused(why) => Answered::Refused(why, 0),
-        Pair::Formed(label) => merge_checked(first, second, label, arena),
-    }
+    let equivalence = judge_pair(first, second, equivalence, arena.len())?;
+    merge_checked(first, second, equivalence, arena)
 }
 
 // Call 5: merges a first and a second type under an equivalence into the arena. Both may be the same bytes.
-pub fn merge(first: &[u8], second: &[u8], equivalence: u64, arena: &mut [u8]) -> Answered
+pub fn merge(
+    first: &[u8],
+    second: &[u8],
+    equivalence: u64,
+    arena: &mut [u8],
+) -> Result<usize, Refusal>
     ensures { left_by result arena.new []
         ≡ leaves (merged first.now second.now equivalence (length arena.old)) arena.old [] }
 {
     let answered = merge_front(first, second, equivalence, arena);
-    clear_from(arena, bytes_written(answered));
+    clear_from(arena, type_record::SIZE * answered.unwrap_or(0));
     answered
 }

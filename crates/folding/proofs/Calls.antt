@@ -12,7 +12,8 @@ use Rattle.byte_records.proofs.Tests.{or_parts}
 use Rattle.value_table.specs.Judged.{bad_length, messages}
 use Rattle.value_table.specs.Outcome.{accepted}
 use Rattle.counting_theory.specs.Trie.{size, reduce}
-use Rattle.counting_theory.specs.Label.{by_kind, by_label, Counting, CountingType}
+use Rattle.counting_theory.specs.Label.{Counting, CountingType}
+use Rattle.counting_theory.specs.declared.equivalence.Equivalence.TheVariants.{Kind as by_kind, Label as by_label}
 use Rattle.counting_theory.specs.Raw.{profile_of}
 use Rattle.counting_theory.specs.Encoding.{type_size, type_records, encode, type_of}
 use Rattle.counting_theory.specs.WellFormed.{within_limit, well_formed, bad_type_length, IsType}

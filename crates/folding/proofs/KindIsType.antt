@@ -5,7 +5,8 @@ use mathlib.Core.List.{List}
 use Prim.Native.Nat.{ℕ}
 use native.Mathlib.Omega.{arith}
 use Rattle.byte_records.proofs.Tests.{and_parts}
-use Rattle.counting_theory.specs.Label.{by_kind, by_label, CountingType}
+use Rattle.counting_theory.specs.Label.{CountingType}
+use Rattle.counting_theory.specs.declared.equivalence.Equivalence.TheVariants.{Kind as by_kind, Label as by_label}
 use Rattle.counting_theory.specs.Encoding.{type_records, encode, type_of}
 use Rattle.counting_theory.specs.Inside.TypeBytes.{Fitting}
 use Rattle.counting_theory.specs.WellFormed.{laid_out, within_limit, obeys, well_formed, IsType}

@@ -9,7 +9,8 @@ use Rattle.value_table.specs.Value.{record_kind}
 use Rattle.byte_records.proofs.Tests.{and_parts}
 use Rattle.counting_theory.specs.Payload.{Payload}
 use Rattle.counting_theory.specs.Trie.{nil, node, reduce_step, reduce_node, reduce, Sorted}
-use Rattle.counting_theory.specs.Label.{by_kind, by_label, Label, field_label, Counting, CountingType}
+use Rattle.counting_theory.specs.Label.{Label, field_label, Counting, CountingType}
+use Rattle.counting_theory.specs.declared.equivalence.Equivalence.TheVariants.{Kind as by_kind, Label as by_label}
 use Rattle.counting_theory.specs.Place.{FieldTotals}
 use Rattle.counting_theory.specs.Encoding.{Tagged}
 use Rattle.counting_theory.specs.WellFormed.{fields_of}

@@ -5,7 +5,8 @@ use mathlib.Core.List.{[]}
 use Rattle.counting_theory.specs.Payload.{Payload}
 use Rattle.counting_theory.specs.Trie.{nil, node, insert, add, profile, reduce, Sorted}
 use Rattle.counting_theory.specs.Inside.TrieLaws.{append}
-use Rattle.counting_theory.specs.Label.{by_kind, by_label, Label, listed, Counting, CountingType}
+use Rattle.counting_theory.specs.Label.{Label, listed, Counting, CountingType}
+use Rattle.counting_theory.specs.declared.equivalence.Equivalence.TheVariants.{Kind as by_kind, Label as by_label}
 use Rattle.counting_theory.specs.Encoding.{Tagged}
 use Rattle.folding.specs.Fold.{relabel, kind_label, kind_type}
 use Rattle.counting_theory.proofs.Trie.Sorted.{sorted-profile}

@@ -8,7 +8,8 @@ use Rattle.value_table.specs.Value.{record_kind, Values, none, value}
 use Rattle.counting_theory.specs.Payload.{Payload}
 use Rattle.counting_theory.specs.Trie.{nil, node, size, insert, add, profile, reduce, Sorted, total, largest_below, largest_total}
 use Rattle.counting_theory.specs.Inside.TrieLaws.{append, NoLarger}
-use Rattle.counting_theory.specs.Label.{by_kind, by_label, Label, listed, Counting, CountingType}
+use Rattle.counting_theory.specs.Label.{Label, listed, Counting, CountingType}
+use Rattle.counting_theory.specs.declared.equivalence.Equivalence.TheVariants.{Kind as by_kind, Label as by_label}
 use Rattle.counting_theory.specs.Raw.{raw, profile_of}
 use Rattle.counting_theory.specs.WellFormed.{max_total}
 use Rattle.folding.specs.Fold.{relabel, kind_label, kind_type, JoinsPlaces}

@@ -2,7 +2,7 @@
 -- that means.
 use Rattle.std.specs.Prelude.{◌≡◌, Bool, false, cond, not, ◌||◌, List, ℕ, ◌≤◌, eqb, length}
 use Rattle.byte_records.specs.Number.{Bytes}
-use Rattle.counting_theory.specs.Label.{by_kind, by_label}
+use Rattle.counting_theory.specs.declared.equivalence.Equivalence.TheVariants.{Kind as by_kind, Label as by_label}
 use Rattle.counting_theory.specs.Encoding.{type_records, type_of}
 use Rattle.counting_theory.specs.WellFormed.{well_formed, bad_type_length}
 use Rattle.counting_theory.specs.Answers.{equivalence_number, Written, turned_down, judged_type, inferred, merged_types, merged, largest_arena}

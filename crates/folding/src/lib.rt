@@ -5,7 +5,7 @@ mod pass;
 
 ghost use Rattle.std.specs.Prelude.{◌≡◌, ◌≤◌, length};
 ghost use Rattle.value_table.specs.Value.{max_length};
-ghost use Rattle.counting_theory.specs.Label.{by_label};
+ghost use Rattle.counting_theory.specs.declared.equivalence.Equivalence.TheVariants.{Label as by_label};
 ghost use Rattle.counting_theory.specs.Encoding.{type_of};
 ghost use Rattle.counting_theory.specs.WellFormed.{within_limit, IsType};
 ghost use Rattle.counting_theory.specs.Answers.{leaves, merged_types};
@@ -15,9 +15,11 @@ ghost use Rattle.folding.specs.Fold.{kind_type};
 ghost use Rattle.folding.specs.Folded.{bad_fold_lengths, folded};
 ghost use Rattle.folding.specs.Inside.Folding.{FoldedFront};
 
-use answers::{Answered, Refusal, bytes_written};
+use answers::Refusal;
 use byte_records::clearing::clear_from;
-use pass::{Folded, fold_run};
+use counting_theory::equivalence::Equivalence;
+use pass::fold_run;
+use type_arena::record_store::NoRoom;
 use type_arena::type_record;
 use type_arena::type_record::bad_length;
 use type_check::well_formed;
@@ -26,13 +28,7 @@ use type_check::well_formed;
 fn bad_lengths(bytes: usize, arena: usize, work: usize) -> bool
     ensures { result ≡ bad_fold_lengths bytes arena work }
 {
-    if bad_length(bytes) {
-        return true;
-    }
-    if bad_length(arena) {
-        return true;
-    }
-    work != arena
+    bad_length(bytes) || bad_length(arena) || work != arena
 }
 
 // Whether the folded type in the first n records of an arena keeps the limit on totals: then it is well formed, and else not.
@@ -41,62 +37,51 @@ fn limit_kept(bytes: &[u8], arena: &[u8], n: usize) -> bool
     ensures { result ≡ within_limit (kind_type (type_of by_label bytes.now)) }
 {
     let end = type_record::SIZE * n;
-    well_formed(&arena[..end], false)
+    well_formed(&arena[..end], Equivalence::Kind)
 }
 
 // The same where the arena is too small: the type is folded into a buffer that has room for every type.
-fn limit_kept_apart(bytes: &[u8], work: &[u8]) -> bool
+fn limit_kept_apart(bytes: &[u8]) -> bool
     requires { IsType by_label bytes.now (type_of by_label bytes.now) }
     ensures { result ≡ within_limit (kind_type (type_of by_label bytes.now)) }
 {
     let mut spare = [0u8; type_record::LARGEST_ARENA];
-    match fold_run(&mut spare, 0, 0, 0, bytes, false, work) {
-        Folded::Records(n, _) => limit_kept(bytes, &spare, n),
-        Folded::Full => true,
-    }
+    let run = fold_run(&mut spare, 0, 0, 0, bytes, false);
+    run.is_ok_and(|folded| limit_kept(bytes, &spare, folded.records))
 }
 
 // The folded type of a well-formed one, in the front of the arena.
-fn fold_checked(bytes: &[u8], arena: &mut [u8], work: &[u8]) -> Answered
+fn fold_checked(bytes: &[u8], arena: &mut [u8]) -> Result<usize, Refusal>
     requires { IsType by_label bytes.now (type_of by_label bytes.now) × (length arena.old ≤ max_length) }
     ensures { WrittenInFront (merged_types (kind_type (type_of by_label bytes.now)) (length arena.old)) result arena.new }
 {
-    match fold_run(arena, 0, 0, 0, bytes, false, work) {
-        Folded::Records(n, _) => {
-            if limit_kept(bytes, arena, n) {
-                return Answered::Accepted(n);
-            }
-            Answered::Refused(Refusal::Total, 0)
-        }
-        Folded::Full => {
-            if !limit_kept_apart(bytes, work) {
-                return Answered::Refused(Refusal::Total, 0);
-            }
-            Answered::Refused(Refusal::Room, 0)
-        }
+    match fold_run(arena, 0, 0, 0, bytes, false) {
+        Ok(folded) if limit_kept(bytes, arena, folded.records) => Ok(folded.records),
+        Err(NoRoom) if limit_kept_apart(bytes) => Err(Refusal::Room),
+        _ => Err(Refusal::Total),
     }
 }
 
-// The same for any inputs.
-fn fold_front(bytes: &[u8], arena: &mut [u8], work: &[u8]) -> Answered
-    ensures { WrittenInFront (folded bytes.now (length arena.old) (length work.now)) result arena.new }
+// The same for any inputs, with a working buffer of `work` bytes.
+fn fold_front(bytes: &[u8], arena: &mut [u8], work: usize) -> Result<usize, Refusal>
+    ensures { WrittenInFront (folded bytes.now (length arena.old) work) result arena.new }
 {
-    if bad_lengths(bytes.len(), arena.len(), work.len()) {
-        return Answered::Refused(Refusal::Length, 0);
+    if bad_lengths(bytes.len(), arena.len(), work) {
+        return Err(Refusal::Length);
     }
-    if !well_formed(bytes, true) {
-        return Answered::Refused(Refusal::First, 0);
+    if !well_formed(bytes, Equivalence::Label) {
+        return Err(Refusal::First);
     }
-    fold_checked(bytes, arena, work)
+    fold_checked(bytes, arena)
 }
 
 // Call 9: folds a type under label into the arena, as the type under kind, with a working buffer of the same length.
-pub fn fold(bytes: &[u8], arena: &mut [u8], work: &mut [u8]) -> Answered
+pub fn fold(bytes: &[u8], arena: &mut [u8], work: &mut [u8]) -> Result<usize, Refusal>
     ensures { left_by result arena.new work.new
         ≡ leaves (folded bytes.now (length arena.old) (length work.old)) arena.old work.old }
 {
-    let answered = fold_front(bytes, arena, work);
-    clear_from(arena, bytes_written(answered));
+    let answered = fold_front(bytes, arena, work.len());
+    clear_from(arena, type_record::SIZE * answered.unwrap_or(0));
     clear_from(work, 0);
     answered
 }

@@ -3,20 +3,21 @@
 
 mod slots;
 
-ghost use Rattle.std.specs.Prelude.{◌≡◌, true, false, ◌↔◌, List, [], ℕ, ◌+◌, ◌*◌, ◌≤◌, ◌<◌, length, replicate};
+ghost use Rattle.std.specs.Prelude.{◌≡◌, true, false, ◌↔◌, List, [], ℕ, ◌+◌, ◌*◌, ◌/◌, ◌≤◌, ◌<◌, length, replicate};
 ghost use Rattle.value_table.specs.Value.{max_length, record_size, records, span_at};
 ghost use Rattle.value_table.specs.Judged.{messages};
 ghost use Rattle.counting_theory.specs.Trie.{add};
 ghost use Rattle.counting_theory.specs.Label.{Counting, CountingType};
 ghost use Rattle.counting_theory.specs.Raw.{profile_of};
 ghost use Rattle.counting_theory.specs.Encoding.{type_size};
-ghost use Rattle.type_arena.specs.Inside.Arena.{by_flag};
-ghost use Rattle.inference.specs.Inside.Inferring.{AcceptedTable, KeysFit, ArenaHolds, HeldRun, Added};
-ghost use Rattle.gathering.specs.Inside.Gathering.{slots_of, slot_raw, SameMessage, Slot, Roomy, Gathering, GatheredTo};
+ghost use Rattle.inference.specs.Inside.Inferring.{keys_per_record, AcceptedTable, KeysFit, ArenaHolds, HeldRun, Added};
+ghost use Rattle.gathering.specs.Inside.Gathering.{slot_size, slots_of, slot_raw, SameMessage, Slot, Roomy, Gathering, GatheredTo};
 
-use inference::inferring::{Inferred, add_run};
+use counting_theory::equivalence::Equivalence;
+use inference::inferring::add_run;
 use inference::repeats::equal_records;
-use slots::{clear_slots, key_part, put_slot, read_slot};
+use slots::{SLOT_SIZE, put_slot, read_slot};
+use type_arena::record_store::NoRoom;
 use type_arena::type_record;
 use value_table::record;
 use value_table::record::{front_at, span_at};
@@ -42,17 +43,7 @@ fn same_message(t: &[u8], j: usize, i: usize) -> bool
     ensures { (result ≡ true) ↔ SameMessage t.now j i }
 {
     let span = span_at(t, i);
-    if span_at(t, j) != span {
-        return false;
-    }
-    span <= equal_records(t, j, i, i + span)
-}
-
-// As many of a message's records as its slot is told from.
-fn first_records(span: usize) -> usize
-    ensures { result ≤ span }
-{
-    if span < HASHED { span } else { HASHED }
+    span_at(t, j) == span && span <= equal_records(t, j, i, i + span)
 }
 
 // The slot of a message, from the kinds and keys of records i to end.
@@ -61,151 +52,139 @@ fn slot_of(t: &[u8], i: usize, end: usize, slots: usize) -> usize
     ensures { result < slots }
 {
     let mut hash = 0;
-    let mut j = i;
-    while j < end {
+    for j in i..end {
         hash = (hash * BASE + front_at(t, j)) % HASHES;
-        j += 1;
     }
     hash * SCATTER / 65536 % 65536 * slots / 65536
 }
 
-// Adds what waits in a slot to m records of messages' types. The slots stay as they are.
-fn add_waiting(
-    a: &mut [u8],
-    m: usize,
-    t: &[u8],
-    slot: usize,
-    label: bool,
+// A table whose messages are added, and how: under an equivalence, with key lists from words where `words` says so.
+#[derive(Clone, Copy)]
+struct Source<'a> {
+    table: &'a [u8],
+    equivalence: Equivalence,
     words: bool,
-    work: &mut [u8],
-) -> Inferred
-    requires { HeldRun (by_flag label) false a.old m 0 × Slot t.now (records t.now) slot × (length t.now ≤ max_length) ×
-        (length a.old ≤ length work.old) × KeysFit words t.now }
-    ensures { ((f : CountingType) (free : List ℕ) → ArenaHolds (by_flag label) false a.old m 0 f [] free →
-        Added (add Counting (slot_raw (by_flag label) t.now slot) f) [] 0 result a.new) ×
-        ((n : ℕ) → slots_of n work.new ≡ slots_of n work.old) }
-{
-    if slot < ONE {
-        return Inferred::Records(m);
-    }
-    let start = slot % ONE;
-    let from = record::SIZE * start;
-    let stop = record::SIZE * (start + span_at(t, start));
-    let half = key_part(work.len());
-    add_run(
-        a,
-        m,
-        0,
-        slot / ONE,
-        &t[from..stop],
-        false,
-        label,
-        words,
-        &mut work[..half],
-    )
 }
 
-// Takes the message at record i into its slot. Other messages that waited there are added.
-fn take_message(
-    a: &mut [u8],
-    m: usize,
-    t: &[u8],
-    i: usize,
-    slots: usize,
-    label: bool,
-    words: bool,
-    work: &mut [u8],
-) -> Inferred
-    requires { Gathering (by_flag label) t.now a.old m i (slots_of slots work.old) × (record_size * i < length t.now) ×
-        (length t.now ≤ max_length) × Roomy slots a.old work.old × KeysFit words t.now }
-    ensures { GatheredTo (by_flag label) t.now (i + span_at t.now i) result a.new (slots_of slots work.new) }
-{
-    let k = slot_of(t, i, i + first_records(span_at(t, i)), slots);
-    let slot = read_slot(work, k);
-    if same_message(t, slot % ONE, i) {
-        put_slot(work, k, slot + ONE);
-        return Inferred::Records(m);
+impl Source<'_> {
+    // Adds what waits in a slot to m records of messages' types.
+    fn add_waiting(
+        &self,
+        a: &mut [u8],
+        m: usize,
+        slot: usize,
+        keys: &mut [u8],
+    ) -> Result<usize, NoRoom>
+        requires { HeldRun self.now.equivalence false a.old m 0 × Slot self.now.table.now (records self.now.table.now) slot ×
+            (length self.now.table.now ≤ max_length) × (length a.old ≤ keys_per_record * length keys.old) × KeysFit self.now.words self.now.table.now }
+        ensures { (f : CountingType) (free : List ℕ) → ArenaHolds self.now.equivalence false a.old m 0 f [] free →
+            Added (add Counting (slot_raw self.now.equivalence self.now.table.now slot) f) [] 0 result a.new }
+    {
+        if slot < ONE {
+            return Ok(m);
+        }
+        let start = slot % ONE;
+        let from = record::SIZE * start;
+        let stop = record::SIZE * (start + span_at(self.table, start));
+        add_run(
+            a,
+            m,
+            0,
+            slot / ONE,
+            &self.table[from..stop],
+            false,
+            self.equivalence,
+            self.words,
+            keys,
+        )
     }
-    put_slot(work, k, i + ONE);
-    add_waiting(a, m, t, slot, label, words, work)
-}
 
-// Takes all messages of a table into slots.
-fn gather(
-    a: &mut [u8],
-    t: &[u8],
-    slots: usize,
-    label: bool,
-    words: bool,
-    work: &mut [u8],
-) -> Inferred
-    requires { AcceptedTable t.now × (length a.old ≤ max_length) × Roomy slots a.old work.old × (slots_of slots work.old ≡ replicate slots 0) ×
-        KeysFit words t.now }
-    ensures { GatheredTo (by_flag label) t.now (records t.now) result a.new (slots_of slots work.new) }
-{
-    let end = t.len() / record::SIZE;
-    let mut m = 0;
-    let mut i = 0;
-    while i < end {
-        let Inferred::Records(size) = take_message(a, m, t, i, slots, label, words, work) else {
-            return Inferred::Full;
-        };
-        m = size;
-        i += span_at(t, i);
+    // Takes the message at record i into its slot. Other messages that waited there are added.
+    fn take_message(
+        &self,
+        a: &mut [u8],
+        m: usize,
+        i: usize,
+        slots: &mut [u8],
+        keys: &mut [u8],
+    ) -> Result<usize, NoRoom>
+        requires { Gathering self.now.equivalence self.now.table.now a.old m i (slots_of slots.old) × (record_size * i < length self.now.table.now) ×
+            (length self.now.table.now ≤ max_length) × Roomy a.old slots.old keys.old × KeysFit self.now.words self.now.table.now }
+        ensures { GatheredTo self.now.equivalence self.now.table.now (i + span_at self.now.table.now i) result a.new (slots_of slots.new) }
+    {
+        let end = i + span_at(self.table, i).min(HASHED);
+        let k = slot_of(self.table, i, end, slots.len() / SLOT_SIZE);
+        let slot = read_slot(slots, k);
+        if same_message(self.table, slot % ONE, i) {
+            put_slot(slots, k, slot + ONE);
+            return Ok(m);
+        }
+        put_slot(slots, k, i + ONE);
+        self.add_waiting(a, m, slot, keys)
     }
-    Inferred::Records(m)
-}
 
-// Adds what waits in all slots.
-fn settle(
-    a: &mut [u8],
-    m: usize,
-    t: &[u8],
-    slots: usize,
-    label: bool,
-    words: bool,
-    work: &mut [u8],
-) -> Inferred
-    requires { AcceptedTable t.now × Gathering (by_flag label) t.now a.old m (records t.now) (slots_of slots work.old) ×
-        Roomy slots a.old work.old × KeysFit words t.now }
-    ensures { Added (profile_of (by_flag label) (messages t.now)) [] 0 result a.new }
-{
-    let mut n = m;
-    let mut k = 0;
-    while k < slots {
-        let slot = read_slot(work, k);
-        let Inferred::Records(size) = add_waiting(a, n, t, slot, label, words, work) else {
-            return Inferred::Full;
-        };
-        n = size;
-        k += 1;
+    // Takes all messages of the table into slots.
+    fn gather(&self, a: &mut [u8], slots: &mut [u8], keys: &mut [u8]) -> Result<usize, NoRoom>
+        requires { AcceptedTable self.now.table.now × (length a.old ≤ max_length) × Roomy a.old slots.old keys.old ×
+            (slots_of slots.old ≡ replicate (length slots.old / slot_size) 0) × KeysFit self.now.words self.now.table.now }
+        ensures { GatheredTo self.now.equivalence self.now.table.now (records self.now.table.now) result a.new (slots_of slots.new) }
+    {
+        let end = self.table.len() / record::SIZE;
+        let mut m = 0;
+        let mut i = 0;
+        while i < end {
+            m = self.take_message(a, m, i, slots, keys)?;
+            i += span_at(self.table, i);
+        }
+        Ok(m)
     }
-    Inferred::Records(n)
+
+    // Adds what waits in all slots.
+    fn settle(&self, a: &mut [u8], m: usize, slots: &[u8], keys: &mut [u8]) -> Result<usize, NoRoom>
+        requires { AcceptedTable self.now.table.now × Gathering self.now.equivalence self.now.table.now a.old m (records self.now.table.now) (slots_of slots.now) ×
+            Roomy a.old slots.now keys.old × KeysFit self.now.words self.now.table.now }
+        ensures { Added (profile_of self.now.equivalence (messages self.now.table.now)) [] 0 result a.new }
+    {
+        let mut n = m;
+        for k in 0..slots.len() / SLOT_SIZE {
+            n = self.add_waiting(a, n, read_slot(slots, k), keys)?;
+        }
+        Ok(n)
+    }
 }
 
 // How many slots there are: as many as an arena of this length has records, but no more than the table has.
 fn slots_for(arena: usize, table: usize) -> usize
     ensures { type_size * result ≤ arena }
 {
-    let most = arena / type_record::SIZE;
-    let records = table / record::SIZE;
-    if records < most { records } else { most }
+    (table / record::SIZE).min(arena / type_record::SIZE)
 }
 
 // Adds the messages of an accepted table to an empty arena. Without slots they are added one by one. Key lists come from words where
-// `words` says so.
+// `words` says so. The upper half of the working buffer is for the slots, the rest for key lists.
 // The contract leaves free what a full arena, the bytes behind the type and the working buffer hold: `infer` clears them.
-pub fn add_messages(a: &mut [u8], t: &[u8], label: bool, words: bool, work: &mut [u8]) -> Inferred
+pub fn add_messages(
+    a: &mut [u8],
+    t: &[u8],
+    equivalence: Equivalence,
+    words: bool,
+    work: &mut [u8],
+) -> Result<usize, NoRoom>
     requires { AcceptedTable t.now × (length a.old ≤ max_length) × (length a.old ≤ length work.old) × KeysFit words t.now }
-    ensures { Added (profile_of (by_flag label) (messages t.now)) [] 0 result a.new }
+    ensures { Added (profile_of equivalence (messages t.now)) [] 0 result a.new }
 {
-    let slots = slots_for(a.len(), t.len());
-    if slots == 0 {
-        return add_run(a, 0, 0, 1, t, false, label, words, work);
+    let number = slots_for(a.len(), t.len());
+    if number == 0 {
+        return add_run(a, 0, 0, 1, t, false, equivalence, words, work);
     }
-    clear_slots(work);
-    let Inferred::Records(m) = gather(a, t, slots, label, words, work) else {
-        return Inferred::Full;
+    let (keys, rest) = work.split_at_mut(work.len().div_ceil(2));
+    let slots = &mut rest[..SLOT_SIZE * number];
+    slots.fill(0);
+    let source = Source {
+        table: t,
+        equivalence,
+        words,
     };
-    settle(a, m, t, slots, label, words, work)
+    let m = source.gather(a, slots, keys)?;
+    source.settle(a, m, slots, keys)
 }

@@ -1,42 +1,25 @@
-// The slots in which messages wait: numbers of eight bytes in the working buffer, behind the part for the keys.
-ghost use Rattle.std.specs.Prelude.{◌≡◌, ℕ, ◌+◌, ◌<◌, get_or, set, replicate};
-ghost use Rattle.gathering.specs.Inside.Gathering.{key_part, slots_of, HasSlots};
+// The slots in which messages wait: numbers of eight bytes, one after the other.
+ghost use Rattle.std.specs.Prelude.{◌≡◌, ◌+◌, ◌*◌, ◌≤◌, length, get_or, set};
+ghost use Rattle.gathering.specs.Inside.Gathering.{slot_size, slots_of};
 
-use byte_records::clearing::clear_from;
-use byte_records::little_endian::number64;
-use byte_records::store::store64;
+use byte_records::little_endian::number;
+use byte_records::store::store_number;
 
 // The bytes of a slot.
-const SIZE: usize = 8;
-
-// How many of the n bytes of a working buffer are for the keys: the first half.
-pub fn key_part(n: usize) -> usize
-    ensures { result ≡ key_part n }
-{
-    n - n / 2
-}
+pub const SLOT_SIZE: usize = 8;
 
 // The number in slot k.
-pub fn read_slot(work: &[u8], k: usize) -> usize
-    requires { HasSlots (k + 1) work.now }
-    ensures { (n : ℕ) → k < n → result ≡ get_or (slots_of n work.now) k 0 }
+pub fn read_slot(slots: &[u8], k: usize) -> usize
+    requires { slot_size * (k + 1) ≤ length slots.now }
+    ensures { result ≡ get_or (slots_of slots.now) k 0 }
 {
-    number64(work, key_part(work.len()) + SIZE * k)
+    number::<SLOT_SIZE>(slots, SLOT_SIZE * k)
 }
 
 // Puts a number into slot k.
-pub fn put_slot(work: &mut [u8], k: usize, v: usize)
-    requires { HasSlots (k + 1) work.old }
-    ensures { (n : ℕ) → k < n → HasSlots n work.old → slots_of n work.new ≡ set (slots_of n work.old) k v }
+pub fn put_slot(slots: &mut [u8], k: usize, v: usize)
+    requires { slot_size * (k + 1) ≤ length slots.old }
+    ensures { slots_of slots.new ≡ set (slots_of slots.old) k v }
 {
-    let o = key_part(work.len()) + SIZE * k;
-    store64(work, o, v);
-}
-
-// Puts 0 into all slots.
-pub fn clear_slots(work: &mut [u8])
-    ensures { (n : ℕ) → slots_of n work.new ≡ replicate n 0 }
-{
-    let from = key_part(work.len());
-    clear_from(work, from);
+    store_number::<SLOT_SIZE>(slots, SLOT_SIZE * k, v);
 }

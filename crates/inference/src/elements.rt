@@ -12,9 +12,10 @@ pub fn step_at(t: &[u8], i: usize) -> usize
     ensures { result ≡ step_at t.now i }
 {
     if kind_at(t, i) <= record::LAST_SCALAR {
-        return 1;
+        1
+    } else {
+        span_at(t, i)
     }
-    span_at(t, i)
 }
 
 // How many values a run has that are no fields.
@@ -37,8 +38,9 @@ pub fn elements_in(t: &[u8], kind: u8) -> usize
     requires { SomeRun (eqb kind record_kind) t.now }
     ensures { (vs : Values) → TableRun (eqb kind record_kind) t.now vs → kind ≡ array_kind → result ≡ count vs }
 {
-    if kind != record::ARRAY {
-        return 0;
+    if kind == record::ARRAY {
+        count_values(t)
+    } else {
+        0
     }
-    count_values(t)
 }

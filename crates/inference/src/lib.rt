@@ -9,3 +9,4 @@ pub mod placing;
 pub mod repeats;
 pub mod scalar_fields;
 mod search;
+pub mod wanted;

@@ -3,23 +3,23 @@ ghost use Rattle.std.specs.Prelude.{Bool, List, ℕ, ◌+◌, ◌*◌, ◌≤◌
 ghost use Rattle.value_table.specs.Value.{record_kind, Values};
 ghost use Rattle.counting_theory.specs.Trie.{size};
 ghost use Rattle.counting_theory.specs.Label.{CountingType};
-ghost use Rattle.type_arena.specs.Inside.Arena.{by_flag};
 ghost use Rattle.type_arena.specs.Inside.Payload.{payload_of, item_payload};
-ghost use Rattle.inference.specs.Inside.Inferring.{key_size, keys_per_record, TableRun, SomeRun, KeysFit, wanted, ArenaHolds, Starts, HeldFrom, split, CountedWithin, PlacedAt, label_for, with_item};
+ghost use Rattle.inference.specs.Inside.Inferring.{keys_per_record, TableRun, SomeRun, KeysFit, label_of_wanted, ArenaHolds, Starts, HeldFrom, split, CountedWithin, PlacedAt, label_for, with_item, OfHeld, KeyRoom};
 
 use crate::elements::elements_in;
 use crate::finding::find;
-use crate::key_list::{Listed, list_label};
-use crate::search::Found;
-use type_arena::payload::{Payload, given};
-use type_arena::record_store::{insert_record, join_payload};
+use crate::key_list::{KEY_SIZE, list_label};
+use crate::wanted::Wanted;
+use counting_theory::equivalence::Equivalence;
+use type_arena::payload::Payload;
+use type_arena::record_store::{NoRoom, insert_record, join_payload};
 use type_arena::type_record;
 
-// The record where a label stands, and the number of records of its siblings; or that there is no room.
-#[derive(Clone, Copy)]
-pub enum Put {
-    At(usize, usize),
-    NoRoom,
+// The record where a label stands now, and the number of records of its siblings.
+#[derive(Clone, Copy, Debug, PartialEq, Eq)]
+pub struct Put {
+    pub at: usize,
+    pub records: usize,
 }
 
 // Adds a payload at a label among n records of siblings, with `rest` records in use behind them.
@@ -28,60 +28,68 @@ pub fn place(
     from: usize,
     n: usize,
     rest: usize,
-    kind: u8,
-    key: usize,
+    wanted: &Wanted<'_>,
     more: Payload,
-    work: &[u8],
-    keys: usize,
-    label: bool,
-) -> Put
-    requires { HeldFrom (by_flag label) a.old n rest from × (key_size * keys ≤ length work.now) }
-    ensures { (field : Bool) (f : CountingType) (q free : List ℕ) → ArenaHolds (by_flag label) field a.old n rest f q free → Starts from f →
-        PlacedAt (wanted (by_flag label) kind key keys work.now) (payload_of more) f q rest result a.new }
+) -> Result<Put, NoRoom>
+    requires { HeldFrom wanted.now.equivalence a.old n rest from }
+    ensures { OfHeld wanted.now.equivalence a.old n rest from (λ f q.
+        PlacedAt (label_of_wanted wanted.now) (payload_of more) f q rest result a.new) }
 {
-    match find(a, from, n, kind, key, work, keys, label) {
-        Found::Here(p) => {
+    match find(a, from, n, wanted) {
+        Ok(p) => {
             join_payload(a, p, more);
-            Put::At(p, n)
+            Ok(Put { at: p, records: n })
         }
-        Found::Missing(p) => {
+        Err(p) => {
             let used = type_record::SIZE * (n + rest);
             if a.len() - used < type_record::SIZE {
-                return Put::NoRoom;
+                return Err(NoRoom);
             }
             let o = type_record::SIZE * p;
-            insert_record(&mut a[o..], used - o, kind, key, more);
-            Put::At(p, n + 1)
+            insert_record(&mut a[o..], used - o, wanted.kind, wanted.key, more);
+            Ok(Put {
+                at: p,
+                records: n + 1,
+            })
         }
     }
 }
 
-// Adds what an item gives, `weight` times, at its label. It has t below it.
+// An item that is to be added `weight` times, and the run below it.
+#[derive(Clone, Copy)]
+pub struct WeightedItem<'a> {
+    pub kind: u8,
+    pub key: usize,
+    pub weight: usize,
+    pub below: &'a [u8],
+}
+
+// Adds what an item gives at its label.
 pub fn locate(
     a: &mut [u8],
     from: usize,
     n: usize,
     rest: usize,
-    kind: u8,
-    key: usize,
-    weight: usize,
-    t: &[u8],
-    label: bool,
+    item: &WeightedItem<'_>,
+    equivalence: Equivalence,
     words: bool,
     work: &mut [u8],
-) -> Put
-    requires { HeldFrom (by_flag label) a.old n rest from × SomeRun (eqb kind record_kind) t.now ×
-        (length a.old ≤ keys_per_record * length work.old) × (1 ≤ weight) × KeysFit words t.now }
-    ensures { (field : Bool) (f : CountingType) (q free : List ℕ) (vs : Values) →
-        ArenaHolds (by_flag label) field a.old n rest f q free → Starts from f → TableRun (eqb kind record_kind) t.now vs →
-        CountedWithin (size (with_item (by_flag label) kind key weight vs f) + rest) (split (label_for (by_flag label) kind key vs) f)
-        (label_for (by_flag label) kind key vs) (item_payload weight kind vs) q result a.new }
+) -> Result<Put, NoRoom>
+    requires { HeldFrom equivalence a.old n rest from × SomeRun (eqb item.now.kind record_kind) item.now.below.now ×
+        KeyRoom a.old work.old × (1 ≤ item.now.weight) × KeysFit words item.now.below.now }
+    ensures { OfHeld equivalence a.old n rest from (λ f q. (vs : Values) → TableRun (eqb item.now.kind record_kind) item.now.below.now vs →
+        CountedWithin (size (with_item equivalence item.now.kind item.now.key item.now.weight vs f) + rest)
+        (split (label_for equivalence item.now.kind item.now.key vs) f) (label_for equivalence item.now.kind item.now.key vs)
+        (item_payload item.now.weight item.now.kind vs) q result a.new) }
 {
-    match list_label(t, kind, label, words, work) {
-        Listed::TooMany => Put::NoRoom,
-        Listed::Keys(keys) => {
-            let more = given(kind, weight, elements_in(t, kind));
-            place(a, from, n, rest, kind, key, more, work, keys, label)
-        }
-    }
+    let keys = list_label(item.below, item.kind, equivalence, words, work)?;
+    let wanted = Wanted {
+        kind: item.kind,
+        key: item.key,
+        keys: &work[..KEY_SIZE * keys],
+        equivalence,
+    };
+    let elements = elements_in(item.below, item.kind);
+    let more = Payload::given(item.kind, item.weight, elements);
+    place(a, from, n, rest, &wanted, more)
 }

@@ -11,14 +11,12 @@ pub fn equal_records(t: &[u8], i: usize, j: usize, end: usize) -> usize
     requires { (i ≤ j) × (j ≤ end) × (record_size * end ≤ length t.now) }
     ensures { MostEqualRecords t.now i j end result }
 {
-    let mut n = 0;
-    while j + n < end {
+    for n in 0..end - j {
         if !same_record(t, i + n, j + n) {
             return n;
         }
-        n += 1;
     }
-    n
+    end - j
 }
 
 // How many values that equal the one at record i directly follow it. `next` is the record behind it.
@@ -28,8 +26,6 @@ pub fn equal_values(t: &[u8], i: usize, next: usize) -> usize
 {
     let span = next - i;
     let n = equal_records(t, i, next, t.len() / record::SIZE);
-    if n < span {
-        return 0;
-    }
-    n / span
+    // Mostly none does, and a division takes long.
+    if n < span { 0 } else { n / span }
 }

@@ -1,84 +1,83 @@
 // The key and the scalar of an item, as the reading of the text meets them.
-ghost use Rattle.std.specs.Prelude.{◌≡◌, false, ℕ, ◌+◌, ◌≤◌, length};
-ghost use Rattle.value_table.specs.Value.{max_length};
+ghost use Rattle.std.specs.Prelude.{◌≡◌, ℕ, ◌+◌};
 ghost use Rattle.json_theory.specs.Parts.{start, plain};
 ghost use Rattle.json_theory.specs.Steps.{Stack, after, in_string};
-ghost use Rattle.json_theory.specs.Book.{bad_book};
 ghost use Rattle.json_theory.specs.Inside.Scanning.{byte_at, PlaceIn};
+ghost use Rattle.json_items.specs.declared.item.KeyError.TheVariants.{Faulty};
 ghost use Rattle.json_items.specs.Inside.Items.{ReadsTo, ScalarIs, NamedIs, ColonIs};
 
-use json_tokens::quoted::string_end;
-use json_tokens::scan::{Quoted, Scan, byte_at, number_end, space_end, word_end};
-use key_book::guesses::HINTS;
-use key_book::search::find_key;
+use json_tokens::quoted::{Quoted, string_end};
+use json_tokens::scan::{BadByte, byte_at, number_end, space_end, word_end};
+use key_book::book::Book;
 
-// A key's number and the place of its closing quote; or where it turns out to be unlisted or faulty.
-#[derive(Clone, Copy)]
-pub enum Named {
-    Found(usize, usize),
+// A listed key: its number, and the place of its closing quote.
+#[derive(Clone, Copy, Debug, PartialEq, Eq)]
+pub struct Named {
+    pub key: usize,
+    pub quote: usize,
+}
+
+// Where a key turns out to be unlisted, or faulty.
+#[derive(Clone, Copy, Debug, PartialEq, Eq)]
+pub enum KeyError {
     Unlisted(usize),
     Faulty(usize),
 }
 
+impl From<BadByte> for KeyError {
+    ghost from_gives = { λ bad error. error ≡ Faulty bad.at };
+
+    fn from(bad: BadByte) -> KeyError {
+        KeyError::Faulty(bad.at)
+    }
+}
+
 // A key behind its opening quote.
-pub fn key_end(text: &[u8], book: &[u8], from: usize, hints: &[u16; HINTS]) -> Named
-    requires { PlaceIn text.now from × (length book.now ≤ max_length) × (bad_book book.now ≡ false) }
+pub fn key_end(text: &[u8], book: &Book, from: usize) -> Result<Named, KeyError>
+    requires { PlaceIn text.now from }
     ensures { NamedIs text.now book.now from result }
 {
-    match string_end(text, from) {
-        Quoted::Broken(fault) => Named::Faulty(fault),
-        Quoted::Escaped(quote) => Named::Unlisted(quote),
-        Quoted::Plain(quote) => {
-            let key = find_key(book, text, from, quote, hints);
-            if key == 0 {
-                return Named::Unlisted(quote);
-            }
-            Named::Found(key, quote)
-        }
+    let Quoted { quote, escaped } = string_end(text, from)?;
+    if escaped {
+        return Err(KeyError::Unlisted(quote));
+    }
+    match book.find(text, from, quote) {
+        Some(key) => Ok(Named { key, quote }),
+        None => Err(KeyError::Unlisted(quote)),
     }
 }
 
 // A string behind its opening quote, with its closing quote.
-fn text_end(text: &[u8], from: usize) -> Scan
+fn text_end(text: &[u8], from: usize) -> Result<usize, BadByte>
     requires { PlaceIn text.now from }
     ensures { (around : Stack) → ReadsTo text.now (in_string plain around) from (after around) result }
 {
-    match string_end(text, from) {
-        Quoted::Plain(quote) => Scan::To(quote + 1),
-        Quoted::Escaped(quote) => Scan::To(quote + 1),
-        Quoted::Broken(fault) => Scan::Bad(fault),
-    }
+    Ok(string_end(text, from)?.quote + 1)
 }
 
 // A scalar whose first byte, at `at`, is c.
-pub fn scalar_end(text: &[u8], at: usize, c: u8) -> Scan
+pub fn scalar_end(text: &[u8], at: usize, c: u8) -> Result<usize, BadByte>
     requires { PlaceIn text.now at × (c ≡ byte_at text.now at) }
     ensures { (key : ℕ) (around : Stack) → ScalarIs text.now (at + 1) (start c) key around result }
 {
-    if c == 0x22 {
-        return text_end(text, at + 1);
+    match c {
+        b'"' => text_end(text, at + 1),
+        b'f' => word_end(text, at + 1, b"alse"),
+        b'n' => word_end(text, at + 1, b"ull"),
+        b't' => word_end(text, at + 1, b"rue"),
+        _ => number_end(text, at),
     }
-    if c == 0x66 {
-        return word_end(text, at + 1, b"alse");
-    }
-    if c == 0x6E {
-        return word_end(text, at + 1, b"ull");
-    }
-    if c == 0x74 {
-        return word_end(text, at + 1, b"rue");
-    }
-    number_end(text, at)
 }
 
 // The colon behind a key, with the white space around it.
-pub fn colon_end(text: &[u8], from: usize) -> Scan
+pub fn colon_end(text: &[u8], from: usize) -> Result<usize, BadByte>
     requires { PlaceIn text.now from }
     ensures { (key : ℕ) (around : Stack) → ColonIs text.now key around from result }
 {
     let at = space_end(text, from);
-    if byte_at(text, at) == 0x3A {
-        Scan::To(space_end(text, at + 1))
+    if byte_at(text, at) == b':' {
+        Ok(space_end(text, at + 1))
     } else {
-        Scan::Bad(at)
+        Err(BadByte { at })
     }
 }

@@ -1,12 +1,13 @@
 -- The laws of numbers and words.
 use mathlib.Core.Path.{◌≡◌, refl, sym, ◌∙◌, ap}
 use mathlib.Core.Bool.{Bool, true, false, cond, ◌||◌}
-use mathlib.Core.List.{List, []}
+use mathlib.Core.Logic.{◌⊎◌, inl, inr}
+use mathlib.Core.List.{List}
 use Prim.Native.Nat.{ℕ, ◌+◌, ◌≤◌, ◌<◌}
 use native.Mathlib.Numerals.{add-one}
 use native.Mathlib.Omega.{arith}
 use lib.Dec.{eqb}
-use lib.ListN.{length, get_or, drop, drop_of_length-le}
+use lib.ListN.{length, get_or, drop}
 use lib.Seq.{drop-cons}
 use borrow.Author.Tests.{eqb-true, eq-eqb, ne_eqb, le-leb}
 use Rattle.json_theory.specs.Rx.{within}
@@ -14,9 +15,9 @@ use Rattle.json_theory.specs.Grammar.{quote, array, object}
 use Rattle.json_theory.specs.Parts.{Turn, go, stuck, go_if, is_digit, is_e, NumberPart, minus, nought, whole, point, decimal, e, signed, power, next_in_number, may_end, Start, letters, number, string, open', nothing, start}
 use Rattle.json_theory.specs.Inside.Scanning.{byte_at, Running, RunTo, Goes, here, Stops}
 use Rattle.json_tokens.specs.Inside.Tokens.{after_int, after_frac, after_sign, no_more, PartTo, NumberTo, PartIs, NumberIs, BehindIs}
-use Rattle.json_tokens.specs.Inside.Tokens.{is_sign, DigitsIs, next_letter}
-use Rattle.json_tokens.specs.declared.scan.Scan.{Scan}
-use Rattle.json_tokens.specs.declared.scan.Scan.TheVariants.{To, Bad}
+use Rattle.json_tokens.specs.Inside.Tokens.{DigitsIs, next_letter}
+use Rattle.std.specs.Prelude.{Result, Ok, Err}
+use Rattle.json_tokens.specs.declared.scan.BadByte.{BadByte}
 use Rattle.json_theory.proofs.Rx.{false-true}
 use Rattle.json_theory.proofs.Scanning.{goes_one, goes_on, goes-run, stops-here, stops-on}
 use Rattle.json_tokens.proofs.Tokens.{test-inside, goes-inside, goes-upto}
@@ -40,6 +41,9 @@ number-inside = goes-inside next_in_number number-zero
 pub number-upto : {text : List ℕ} {a b : NumberPart} {p q : ℕ} → Goes next_in_number text a p b q → p ≤ length text → q ≤ length text
 number-upto = goes-upto next_in_number number-zero
 
+abbrev is_sign : ℕ → Bool
+is_sign c = eqb c 0x2B || eqb c 0x2D
+
 -- a sign is no digit
 sign-digit : (c : ℕ) → is_sign c ≡ true → is_digit c ≡ false
 sign-digit c h = look (eqb c 0x2B) refl h
@@ -48,9 +52,33 @@ sign-digit c h = look (eqb c 0x2B) refl h
     look true q r = rw (eqb-true c 0x2B q) refl
     look false q r = rw (eqb-true c 0x2D r) refl
 
-minus-turn : (c : ℕ) → (c ≡ 0x30 → ⊥) → next_in_number minus c ≡ go_if (within 0x31 0x39 c) whole
+or-true : (t : Bool) → (t || true) ≡ true
+or-true true = refl
+or-true false = refl
+
+-- a byte that is one of two, or none of them
+pub either-byte : (k j x c : ℕ) → x ≡ c → (x ≡ k) ⊎ (x ≡ j) → (eqb c k || eqb c j) ≡ true
+either-byte k j x c f (inl h) = rw (← f, eq-eqb x k h) refl
+either-byte k j x c f (inr h) = rw (← f, eq-eqb x j h) (or-true (eqb x k))
+
+pub neither-byte : (k j x c : ℕ) → x ≡ c → ((x ≡ k) ⊎ (x ≡ j) → ⊥) → (eqb c k || eqb c j) ≡ false
+neither-byte k j x c f h = rw (← f, ne_eqb x k (λ z. h (inl z)), ne_eqb x j (λ z. h (inr z))) refl
+
+-- the byte that an int begins with
+pub nought-first : (x c : ℕ) → x ≡ c → x ≡ 0x30 → next_in_number minus c ≡ go nought
 unfolding next_in_number
-minus-turn c h = rw (ne_eqb c 0x30 h) refl
+nought-first x c f h = rw (← f, h) refl
+
+pub whole-first : (x c : ℕ) → x ≡ c → 0x31 ≤ x → x ≤ 0x39 → next_in_number minus c ≡ go whole
+unfolding next_in_number
+whole-first x c f l m = rw (← f, ne_eqb x 0x30 (λ z. omega arith), le-leb 0x31 x l, le-leb x 0x39 m) refl
+
+pub none_first : (x c : ℕ) → x ≡ c → (x ≡ 0x30 → ⊥) → within 0x31 0x39 x ≡ false → next_in_number minus c ≡ stuck
+unfolding next_in_number
+none_first x c f h i = rw (← f, ne_eqb x 0x30 h, i) refl
+
+pub no-first : (c : ℕ) (a : NumberPart) {A : Type 0} → next_in_number minus c ≡ stuck → next_in_number minus c ≡ go a → A
+no-first c a h k = absurd (let x : ◌≡◌ {A = ℕ} 0 1 = cc in omega arith)
 
 module _ {text : List ℕ} {turn : ℕ → Turn NumberPart} where
   pub part-here : {a : NumberPart} {p : ℕ} {t : Bool} → may_end a ≡ t → next_in_number a (byte_at text p) ≡ turn (byte_at text p) → PartTo turn text a p p t
@@ -60,12 +88,12 @@ module _ {text : List ℕ} {turn : ℕ → Turn NumberPart} where
   to-on g h = record { part = h.part; goes = goes_on g h.goes; stays = h.stays; end = h.end }
 
 module _ (text : List ℕ) (turn : ℕ → Turn NumberPart) where
-  part-on : {a b : NumberPart} {p q : ℕ} → Goes next_in_number text a p b q → (r : Scan) → PartIs turn text b q r → PartIs turn text a p r
-  part-on g (To r) h = to-on g h
-  part-on g (Bad r) h = to-on g h
+  part-on : {a b : NumberPart} {p q : ℕ} → Goes next_in_number text a p b q → (r : Result ℕ BadByte) → PartIs turn text b q r → PartIs turn text a p r
+  part-on g (Ok r) h = to-on g h
+  part-on g (Err r) h = to-on g h
 
   -- one part of a number, then the next
-  pub part_then : (next : ℕ → Turn NumberPart) {a : NumberPart} {p q : ℕ} → PartTo next text a p q true → (r : Scan) → BehindIs next turn text q r →
+  pub part_then : (next : ℕ → Turn NumberPart) {a : NumberPart} {p q : ℕ} → PartTo next text a p q true → (r : Result ℕ BadByte) → BehindIs next turn text q r →
       PartIs turn text a p r
   part_then next h r k = part-on h.goes r (k h.part h.end h.stays)
 
@@ -76,12 +104,12 @@ module _ (text : List ℕ) (turn : ℕ → Turn NumberPart) where
         record { part = b; goes = goes-run b (λ c h. keeps c ∙ rw h refl) r.running; stays = keeps (byte_at text q) ∙ rw r.fails refl; end = end }
 
     some-digits : (a : NumberPart) (p : ℕ) → next_in_number a (byte_at text p) ≡ go_if (is_digit (byte_at text p)) b → may_end a ≡ false →
-        (r : Scan) → DigitsIs text p r → PartIs turn text a p r
-    some-digits a p h m (To q) d =
+        (r : Result ℕ BadByte) → DigitsIs text p r → PartIs turn text a p r
+    some-digits a p h m (Ok q) d =
         let r = d.0.running in
         let k : Running is_digit text (p + 1) q = record { from = omega arith; upto = r.upto; passes = λ i l n. r.passes i (omega arith) n } in
         to-on (goes_one (h ∙ go-if (is_digit (byte_at text p)) b (r.passes p (omega arith) d.1))) (digits-to (record { running = k; fails = d.0.fails }))
-    some-digits a p h m (Bad q) d = rw d.0 (part-here m (h ∙ stuck-if (is_digit (byte_at text p)) b d.1))
+    some-digits a p h m (Err q) d = rw d.0 (part-here m (h ∙ stuck-if (is_digit (byte_at text p)) b d.1))
 
 module _ (text : List ℕ) where
   -- exponents
@@ -94,7 +122,7 @@ module _ (text : List ℕ) where
   without_sign p s = part-here refl (rw s refl)
 
   pub exponent : (a : NumberPart) (p q : ℕ) → next_in_number a (byte_at text p) ≡ after_frac (byte_at text p) → is_e (byte_at text p) ≡ true →
-      PartTo after_sign text e (p + 1) q false → (r : Scan) → DigitsIs text q r → NumberIs text a p r
+      PartTo after_sign text e (p + 1) q false → (r : Result ℕ BadByte) → DigitsIs text q r → NumberIs text a p r
   unfolding next_in_number may_end
   exponent a p q h n s r d =
       part-on text no_more (goes_on (goes_one (h ∙ go-if (is_e (byte_at text p)) e n)) s.goes) r
@@ -102,7 +130,7 @@ module _ (text : List ℕ) where
 
   -- fractions
   pub fraction : (a : NumberPart) (p : ℕ) → next_in_number a (byte_at text p) ≡ after_int (byte_at text p) → byte_at text p ≡ 0x2E →
-      (r : Scan) → DigitsIs text (p + 1) r → PartIs after_frac text a p r
+      (r : Result ℕ BadByte) → DigitsIs text (p + 1) r → PartIs after_frac text a p r
   unfolding next_in_number may_end
   fraction a p h n r d =
       part-on text after_frac (goes_one (rw (eq-eqb (byte_at text p) 0x2E n) at h)) r
@@ -117,18 +145,17 @@ module _ (text : List ℕ) where
   unfolding next_in_number may_end
   after-whole r = digits-to text after_int whole (λ c. refl) refl r
 
-  pub nought-int : (p : ℕ) → byte_at text p ≡ 0x30 → PartTo after_int text minus p (p + 1) true
-  unfolding next_in_number
-  nought-int p h = to-on (goes_one (ap (next_in_number minus) h)) (after-nought (p + 1))
-
-  pub whole-int : (p q : ℕ) → 0x31 ≤ byte_at text p → byte_at text p ≤ 0x39 → RunTo is_digit text (p + 1) q → PartTo after_int text minus p q true
-  whole-int p q l m r =
-      let c = byte_at text p in
-      to-on (goes_one (minus-turn c (λ z. omega arith) ∙ go-if (within 0x31 0x39 c) whole (rw (le-leb 0x31 c l, le-leb c 0x39 m) refl))) (after-whole r)
-
-  pub no-int : (p c : ℕ) → c ≡ byte_at text p → (c ≡ 0x30 → ⊥) → within 0x31 0x39 c ≡ false → NumberTo text minus p p false
+  pub no-int : (p : ℕ) → next_in_number minus (byte_at text p) ≡ stuck → NumberTo text minus p p false
   unfolding may_end
-  no-int p c z n h = part-here refl (ap (next_in_number minus) (sym z) ∙ minus-turn c n ∙ stuck-if (within 0x31 0x39 c) whole h)
+  no-int p h = part-here refl h
+
+  -- an int that begins with part b
+  module _ {b : NumberPart} (p : ℕ) (g : next_in_number minus (byte_at text p) ≡ go b) {q : ℕ} (h : PartTo after_int text b (p + 1) q true) where
+    pub behind-minus : PartTo after_int text minus p q true
+    behind-minus = to-on (goes_one g) h
+
+    pub first-part : (a : NumberPart) → next_in_number minus (byte_at text p) ≡ go a → PartTo after_int text a (p + 1) q true
+    first-part a k = let z : a ≡ b = cc in rw z h
 
 -- the first byte
 is_number : Start → Bool
@@ -152,19 +179,23 @@ pub start-inside : (text : List ℕ) (p : ℕ) (a : NumberPart) → start (byte_
 unfolding start is_number
 start-inside text p a h = test-inside (λ c. is_number (start c)) text p refl (ap is_number h)
 
-pub start-at : (k : ℕ) (b : NumberPart) → start k ≡ number b → (c : ℕ) (a : NumberPart) → c ≡ k → start c ≡ number a → a ≡ b
-start-at k b h c a q g = let z : start k ≡ number a = rw q at g in cc
+pub start-minus : (c : ℕ) (a : NumberPart) → c ≡ 0x2D → start c ≡ number a → a ≡ minus
+unfolding start
+start-minus c a q h = let z : start 0x2D ≡ number a = rw q at h in cc
 
-pub start-whole : (c : ℕ) (a : NumberPart) → (c ≡ 0x2D → ⊥) → (c ≡ 0x30 → ⊥) → start c ≡ number a → a ≡ whole
-unfolding start is_number
-start-whole c a m n h =
-    look (eqb c quote) (within 0x31 0x39 c) _ (others (eqb c 0x5B) (eqb c 0x7B) (eqb c 0x6E) (eqb c 0x66) (eqb c 0x74) _ _ _ refl refl refl)
-    (rw (ne_eqb c 0x2D m, ne_eqb c 0x30 n) at h)
+-- any other part that a number starts with follows a minus too
+pub start-int : (c : ℕ) (a : NumberPart) → (c ≡ 0x2D → ⊥) → start c ≡ number a → next_in_number minus c ≡ go a
+unfolding start next_in_number is_number
+start-int c a m h =
+    look (eqb c quote) (eqb c 0x30) (within 0x31 0x39 c) _ (others (eqb c 0x5B) (eqb c 0x7B) (eqb c 0x6E) (eqb c 0x66) (eqb c 0x74) _ _ _ refl refl refl)
+    (rw (ne_eqb c 0x2D m) at h)
   where
-    look : (q w : Bool) (s : Start) → is_number s ≡ false → cond q string (cond w (number whole) s) ≡ number a → a ≡ whole
-    look true w s f k = absurd (let x : ◌≡◌ {A = ℕ} 0 1 = cc in omega arith)
-    look false true s f k = cc
-    look false false s f k = false-true (sym f ∙ ap is_number k)
+    look : (q n w : Bool) (s : Start) → is_number s ≡ false → cond q string (cond n (number nought) (cond w (number whole) s)) ≡ number a →
+        cond n (go nought) (go_if w whole) ≡ go a
+    look true n w s f k = absurd (let x : ◌≡◌ {A = ℕ} 0 1 = cc in omega arith)
+    look false true w s f k = cc
+    look false false true s f k = cc
+    look false false false s f k = false-true (sym f ∙ ap is_number k)
 
 -- words
 pub word-start : (text word : List ℕ) (p : ℕ) → Goes next_letter text word p (drop 0 word) (p + 0)
@@ -183,6 +214,3 @@ module _ (text word : List ℕ) (p k : ℕ) (g : Goes next_letter text word p (d
   pub word-stop : k < length word → (byte_at text (p + k) ≡ get_or word k 0 → ⊥) → Stops next_letter text word p (p + k)
   word-stop l h =
       stops-on g (stops-here (word-turn (byte_at text (p + k)) l ∙ stuck-if (eqb (byte_at text (p + k)) (get_or word k 0)) (drop (k + 1) word) (ne_eqb (byte_at text (p + k)) (get_or word k 0) h)))
-
-  pub word-done : length word ≤ k → Goes next_letter text word p [] (p + k)
-  word-done l = rw (drop_of_length-le word {i = k} l) at g

@@ -1,25 +1,24 @@
 -- The laws of strings.
-use mathlib.Core.Path.{◌≡◌, refl, sym, ◌∙◌, ap, subst}
+use mathlib.Core.Path.{◌≡◌, refl, sym, ◌∙◌, ap}
 use mathlib.Core.Bool.{Bool, true, false, cond, not, ◌&&◌, ◌||◌}
-use mathlib.Core.List.{List}
-use Prim.Native.Nat.{ℕ, zero, suc, ◌+◌, ◌≤◌, ◌<◌}
+use mathlib.Core.List.{List, [], ◌∷◌}
+use Prim.Native.Nat.{ℕ, zero, suc, ◌+◌, ◌-◌, ◌≤◌, ◌<◌}
 use native.Mathlib.Omega.{arith}
 use lib.Dec.{eqb, leb, ltb}
 use lib.ListN.{length}
-use borrow.Author.Tests.{eqb-true, eqb-false, eq-eqb, ne_eqb, ltb-true, ltb-false, le-ltb, leb-true, leb-false, le-leb, lt-leb, not-true}
+use borrow.Author.Tests.{eqb-true, eqb-false, eq-eqb, ne_eqb, ltb-true, ltb-false, le-ltb, leb-true, leb-false, le-leb, not-true}
+use types.Run.{OneOf}
 use Rattle.json_theory.specs.Rx.{within}
 use Rattle.json_theory.specs.Grammar.{quote}
 use Rattle.json_theory.specs.Parts.{Turn, go, ended, stuck, go_if, StringPart, plain, escape, hexes4, hexes3, hexes2, hexes1, tails3, tails2, tails1, behind_e0, behind_ed, behind_f0, behind_f4, is_hex, is_escape, next_in_string}
 use Rattle.json_theory.specs.Inside.Scanning.{byte_at, Running, Goes, here, on, Stops}
-use Rattle.json_tokens.specs.Inside.Tokens.{is_plain, is_other, lowest_behind, highest_behind, width_of, TailFits, ScanIs, TailTo, TailIs, CharTo, CharIs, CharsTo, StringTo, QuotedIs, quoted_of}
-use Rattle.json_tokens.specs.declared.scan.Scan.{Scan}
-use Rattle.json_tokens.specs.declared.scan.Scan.TheVariants.{To, Bad}
-use Rattle.json_tokens.specs.declared.scan.Quoted.{Quoted}
-use Rattle.json_tokens.specs.declared.scan.Quoted.TheVariants.{Plain, Escaped, Broken}
+use Rattle.json_tokens.specs.Inside.Tokens.{is_plain, is_other, lowest_behind, highest_behind, width_of, TailFits, ScanIs, CharTo, CharIs, CharsTo}
+use Rattle.std.specs.Prelude.{Result, Ok, Err}
+use Rattle.json_tokens.specs.declared.scan.BadByte.{BadByte}
 use Rattle.byte_records.proofs.Tests.{and_parts}
 use Rattle.json_theory.proofs.Parts.{every, every-at}
-use Rattle.json_theory.proofs.Scanning.{byte_inside, running-start, running-one, running-to, running-weaker, goes_one, goes_on, goes-run, stops-here, stops-on, goes-up}
-use Rattle.json_tokens.proofs.Tokens.{goes-inside, goes-upto, or-second}
+use Rattle.json_theory.proofs.Scanning.{byte_inside, running-on, running-one, running-to, running-weaker, goes_one, goes_on, goes-run, stops-here, stops-on, goes-up}
+use Rattle.json_tokens.proofs.Tokens.{goes-inside, goes-upto, or-second, all_of, one_of, escapes, no-escape}
 
 -- the parts of a string as numbers
 abbrev part_code : StringPart → ℕ
@@ -149,14 +148,20 @@ go-if t b h = rw h refl
 pub stuck-if : {P : Type 0} (t : Bool) (b : P) → t ≡ false → go_if t b ≡ stuck
 stuck-if t b h = rw h refl
 
--- escapes behind the u
-pub escape-turn : (c : ℕ) → (c ≡ 0x75 → ⊥) → next_in_string escape c ≡ go_if (is_escape c) plain
-unfolding next_in_string
-escape-turn c h = rw (ne_eqb c 0x75 h) refl
-
+-- escapes
 pub escape-u : (c : ℕ) → c ≡ 0x75 → next_in_string escape c ≡ go hexes4
 unfolding next_in_string
 escape-u c h = rw (eq-eqb c 0x75 h) refl
+
+pub escape-goes : (x c : ℕ) → x ≡ c → OneOf escapes x → next_in_string escape c ≡ go plain
+unfolding next_in_string all_of
+escape-goes x c e h =
+    let f : ℕ → Bool = λ x. eqb (turn_code (next_in_string escape x)) (turn_code (go plain)) in
+    rw (← e) (same_turn (next_in_string escape x) (go plain) (sym (one_of f 0x22 (0x2F ∷ 0x5C ∷ 0x62 ∷ 0x66 ∷ 0x6E ∷ 0x72 ∷ 0x74 ∷ []) x h refl)))
+
+pub escape-stuck : (x c : ℕ) → x ≡ c → (x ≡ 0x75 → ⊥) → (OneOf escapes x → ⊥) → next_in_string escape c ≡ stuck
+unfolding next_in_string
+escape-stuck x c e h k = rw (← e, ne_eqb x 0x75 h) (stuck-if (is_escape x) plain (sym (no-escape x k)))
 
 -- tails
 pub within-inside : (text : List ℕ) (p low high : ℕ) → 0x80 ≤ low → within low high (byte_at text p) ≡ true → (0x80 ≤ byte_at text p) × (p < length text)
@@ -166,23 +171,10 @@ within-inside text p low high l h =
     (b, byte_inside text p (omega arith))
 
 module _ (text : List ℕ) where
-  pub tail-done : {p : ℕ} → p ≤ length text → TailTo text plain p p
-  tail-done l = record { goes = here; clean = running-start l }
-
-  pub tail-on : (a b : StringPart) (p : ℕ) → next_in_string a (byte_at text p) ≡ go b → 0x80 ≤ byte_at text p → (r : Scan) → TailIs text b (p + 1) r → TailIs text a p r
-  tail-on a b p e l (To q) h = record { goes = on e h.goes; clean = running-to (running-one (byte_inside text p (omega arith)) (high-other (byte_at text p) l)) h.clean }
-  tail-on a b p e l (Bad q) h = stops-on (goes_one e) h
-
-  pub lead-on : (b : StringPart) (p : ℕ) → next_in_string plain (byte_at text p) ≡ go b → 0x80 ≤ byte_at text p → (r : Scan) → TailIs text b (p + 1) r → CharIs text p r
-  lead-on b p e l (To q) h =
-      let t = tail-on plain b p e l (To q) h in
-      record { goes = t.goes; some = omega (arith, h.clean.from); clean = λ n. t.clean }
-  lead-on b p e l (Bad q) h = stops-on (goes_one e) h
-
-  pub escaped-char : (p : ℕ) → byte_at text p ≡ 0x5C → (r : Scan) → ScanIs next_in_string text escape (p + 1) plain r → CharIs text p r
+  pub escaped-char : (p : ℕ) → byte_at text p ≡ 0x5C → (r : Result ℕ BadByte) → ScanIs next_in_string text escape (p + 1) plain r → CharIs text p r
   unfolding next_in_string
-  escaped-char p e (To q) h = record { goes = on (ap (next_in_string plain) e) h; some = omega (arith, goes-up h); clean = λ n. absurd (n e) }
-  escaped-char p e (Bad q) h = stops-on (goes_one (ap (next_in_string plain) e)) h
+  escaped-char p e (Ok q) h = record { goes = on (ap (next_in_string plain) e) h; some = omega (arith, goes-up h); clean = λ n. absurd (n e) }
+  escaped-char p e (Err q) h = stops-on (goes_one (ap (next_in_string plain) e)) h
 
   pub plain-char : (p : ℕ) → is_plain (byte_at text p) ≡ true → CharTo text p (p + 1)
   plain-char p e =
@@ -191,83 +183,43 @@ module _ (text : List ℕ) where
 
 -- chars in a row
 module _ {text : List ℕ} where
-  pub chars-start : {p : ℕ} → p ≤ length text → CharsTo text p p false
-  chars-start l = record { goes = here; escapes = running-start l }
-
-  pub chars-on : (p q r : ℕ) (t : Bool) → CharsTo text p q t → CharTo text q r → CharsTo text p r (t || eqb (byte_at text q) 0x5C)
-  chars-on p q r true h k =
+  pub chars-on : (p q r c : ℕ) (t : Bool) → c ≡ byte_at text q → CharsTo text p q t → CharTo text q r → CharsTo text p r (t || eqb c 0x5C)
+  chars-on p q r c true e h k =
       let z = h.escapes in
       record { goes = goes_on h.goes k.goes; escapes = record { place = z.place; low = z.low; high = omega (arith, z.high, k.some); is = z.is } }
-  chars-on p q r false h k = look (eqb (byte_at text q) 0x5C) refl
+  chars-on p q r c false e h k = look (eqb c 0x5C) refl
     where
-      look : (u : Bool) → eqb (byte_at text q) 0x5C ≡ u → CharsTo text p r u
-      look true e =
+      look : (u : Bool) → eqb c 0x5C ≡ u → CharsTo text p r u
+      look true f =
           record {
             goes = goes_on h.goes k.goes;
-            escapes = record { place = q; low = h.escapes.from; high = k.some; is = eqb-true (byte_at text q) 0x5C e };
+            escapes = record { place = q; low = h.escapes.from; high = k.some; is = sym e ∙ eqb-true c 0x5C f };
           }
-      look false e = record { goes = goes_on h.goes k.goes; escapes = running-to h.escapes (k.clean (eqb-false (byte_at text q) 0x5C e)) }
-
-  pub chars-shut : (p q : ℕ) (t : Bool) → CharsTo text p q t → byte_at text q ≡ quote → QuotedIs text p (quoted_of q t)
-  chars-shut p q true h e = record { chars = h; shut = e }
-  chars-shut p q false h e = record { chars = h; shut = e }
+      look false f = record { goes = goes_on h.goes k.goes; escapes = running-to h.escapes (k.clean (λ z. eqb-false c 0x5C f (e ∙ z))) }
 
   -- a run of plain chars
   pub chars-plain : {p q : ℕ} → Running is_plain text p q → CharsTo text p q false
   chars-plain r = record { goes = goes-run plain plain-goes r; escapes = running-weaker plain_other r }
 
-  string-on : {p q r : ℕ} (t : Bool) → CharsTo text p q false → StringTo text q r t → StringTo text p r t
-  string-on false h k =
-      record { chars = record { goes = goes_on h.goes k.chars.goes; escapes = running-to h.escapes k.chars.escapes }; shut = k.shut }
-  string-on true h k =
-      let z = k.chars.escapes in
-      record {
-        chars = record { goes = goes_on h.goes k.chars.goes; escapes = record { place = z.place; low = omega (arith, z.low, h.escapes.from); high = z.high; is = z.is } };
-        shut = k.shut;
-      }
-
-  pub quoted-on : {p q : ℕ} → CharsTo text p q false → (r : Quoted) → QuotedIs text q r → QuotedIs text p r
-  quoted-on h (Plain r) k = string-on false h k
-  quoted-on h (Escaped r) k = string-on true h k
-  quoted-on h (Broken r) k = stops-on h.goes k
-
 -- the parts of a char, as its functions go
-pub hex-start : (text : List ℕ) (p : ℕ) → Goes next_in_string text hexes4 p (hex_after 0) (p + 0)
+pub hex-start : (text : List ℕ) (p : ℕ) → Goes next_in_string text hexes4 p (hex_after (p - p)) p
 unfolding hex_after
-hex-start text p = let z : p + 0 ≡ p = omega arith in rw z here
+hex-start text p = let z : p - p ≡ 0 = omega arith in rw z here
 
-pub hex-on : {text : List ℕ} {p k : ℕ} → Goes next_in_string text hexes4 p (hex_after k) (p + k) → k < 4 → is_hex (byte_at text (p + k)) ≡ true →
-    Goes next_in_string text hexes4 p (hex_after (k + 1)) (p + (k + 1))
-hex-on {text} {p} {k} h l e =
-    let z : p + (k + 1) ≡ p + k + 1 = omega arith in
-    rw z (goes_on h (goes_one (hex-turn k (byte_at text (p + k)) l ∙ go-if (is_hex (byte_at text (p + k))) (hex_after (k + 1)) e)))
+module _ {text : List ℕ} {p q : ℕ} (h : Goes next_in_string text hexes4 p (hex_after (q - p)) q) where
+  pub hex-on : p ≤ q → q < p + 4 → is_hex (byte_at text q) ≡ true → Goes next_in_string text hexes4 p (hex_after (q + 1 - p)) (q + 1)
+  hex-on l m e =
+      let z : q + 1 - p ≡ q - p + 1 = omega arith in
+      rw z (goes_on h (goes_one (hex-turn (q - p) (byte_at text q) (omega arith) ∙ go-if (is_hex (byte_at text q)) (hex_after (q - p + 1)) e)))
 
-pub hex-stop : {text : List ℕ} {p k : ℕ} → Goes next_in_string text hexes4 p (hex_after k) (p + k) → k < 4 → is_hex (byte_at text (p + k)) ≡ false →
-    Stops next_in_string text hexes4 p (p + k)
-hex-stop {text} {p} {k} h l e =
-    stops-on h (stops-here (hex-turn k (byte_at text (p + k)) l ∙ stuck-if (is_hex (byte_at text (p + k))) (hex_after (k + 1)) e))
+  pub hex-stop : q < p + 4 → is_hex (byte_at text q) ≡ false → Stops next_in_string text hexes4 p q
+  hex-stop m e = stops-on h (stops-here (hex-turn (q - p) (byte_at text q) (omega arith) ∙ stuck-if (is_hex (byte_at text q)) (hex_after (q - p + 1)) e))
 
-pub hex-done : {text : List ℕ} {p k : ℕ} → Goes next_in_string text hexes4 p (hex_after k) (p + k) → 4 ≤ k → k ≤ 4 → Goes next_in_string text hexes4 p plain (p + k)
-unfolding hex_after
-hex-done {text} {p} {k} h l m =
-    let z : k ≡ 4 = omega arith in
-    subst (λ (j : ℕ). Goes next_in_string text hexes4 p (hex_after j) (p + j) → Goes next_in_string text hexes4 p plain (p + j)) (sym z) (λ g. g) h
-
-module _ (text : List ℕ) (p low high : ℕ) (a b : StringPart) (e : (c : ℕ) → next_in_string a c ≡ go_if (within low high c) b) where
-  pub within_on : 0x80 ≤ low → within low high (byte_at text p) ≡ true → (r : Scan) → TailIs text b (p + 1) r → TailIs text a p r
-  within_on l h = tail-on text a b p (e (byte_at text p) ∙ go-if (within low high (byte_at text p)) b h) (within-inside text p low high l h).0
-
-  pub within-stop : within low high (byte_at text p) ≡ false → Stops next_in_string text a p p
-  within-stop h = stops-here (e (byte_at text p) ∙ stuck-if (within low high (byte_at text p)) b h)
-
-pub tail-last : (text : List ℕ) (p : ℕ) → within 0x80 0xBF (byte_at text p) ≡ true → TailTo text tails1 p (p + 1)
-unfolding next_in_string
-tail-last text p h =
-    within_on text p 0x80 0xBF tails1 plain (λ c. refl) (omega arith) h (To (p + 1)) (tail-done text (omega (arith, (within-inside text p 0x80 0xBF (omega arith) h).1)))
-
-pub tail-stop : (text : List ℕ) (p : ℕ) → within 0x80 0xBF (byte_at text p) ≡ false → Stops next_in_string text tails1 p p
-unfolding next_in_string
-tail-stop text p h = within-stop text p 0x80 0xBF tails1 plain (λ c. refl) h
+  pub hex-done : q ≡ p + 4 → Goes next_in_string text hexes4 p plain (p + 4)
+  unfolding hex_after
+  hex-done e =
+      let z : q - p ≡ 4 = omega arith in
+      let g : Goes next_in_string text hexes4 p (hex_after 4) q = rw z at h in rw e at g
 
 -- no char begins so
 pub low-stuck : (c : ℕ) → c < 0xC2 → (0x20 ≤ c → 0x80 ≤ c) → next_in_string plain c ≡ stuck
@@ -286,40 +238,42 @@ high-stuck c l m = first_byte (λ c. stuck) 0xF5 0xFF refl c l (omega arith)
 pub in-plain : (c : ℕ) → (c ≡ quote → ⊥) → (c ≡ 0x5C → ⊥) → 0x20 ≤ c → c ≤ 0x7F → is_plain c ≡ true
 in-plain c h k l m = rw (ne_eqb c quote h, ne_eqb c 0x5C k, le-leb 0x20 c l, le-leb c 0x7F m) refl
 
--- lead bytes: of two bytes; and of three or four, behind which the next is from lowest_behind to highest_behind
-pub lead-two : (c : ℕ) → 0xC2 ≤ c → c ≤ 0xDF → next_in_string plain c ≡ go tails1
-unfolding every next_in_string
-lead-two c l m = first_byte (λ c. go tails1) 0xC2 0xDF refl c l m
+-- the bytes behind a lead byte and the one after it
+unfoldable pub tails_left : ℕ → StringPart
+tails_left zero = plain
+tails_left (suc zero) = tails1
+tails_left (suc (suc n)) = tails2
+
+tails-turn : (n c : ℕ) → n < 2 → next_in_string (tails_left (n + 1)) c ≡ go_if (within 0x80 0xBF c) (tails_left n)
+unfolding next_in_string tails_left
+tails-turn zero c l = refl
+tails-turn (suc zero) c l = refl
+tails-turn (suc (suc n)) c l = absurd (omega arith)
 
 record Lead (c : ℕ) : Type 0 where
   pub part : StringPart
   pub leads : next_in_string plain c ≡ go part
-  pub goes : (x : ℕ) → next_in_string part x ≡ go_if (within (lowest_behind c) (highest_behind c) x) (cond (leb c 0xEF) tails1 tails2)
+  pub goes : (x : ℕ) → next_in_string part x ≡ go_if (within (lowest_behind c) (highest_behind c) x) (tails_left (width_of c - 2))
 
-lead : (c : ℕ) → 0xE0 ≤ c → c ≤ 0xF4 → Lead c
-unfolding every next_in_string
-lead c l m = look (eqb c 0xE0) (eqb c 0xED) (eqb c 0xF0) (eqb c 0xF4) (leb c 0xEF) refl refl refl refl refl
+lead : (c : ℕ) → 0xC2 ≤ c → c ≤ 0xF4 → Lead c
+unfolding every next_in_string tails_left
+lead c l m = look (eqb c 0xE0) (eqb c 0xED) (eqb c 0xF0) (eqb c 0xF4) (leb c 0xDF) (leb c 0xEF) refl refl refl refl refl refl
   where
-    three : leb c 0xEF ≡ true → next_in_string plain c ≡ cond (eqb c 0xE0) (go behind_e0) (cond (eqb c 0xED) (go behind_ed) (go tails2))
-    three i = first_byte (λ c. cond (eqb c 0xE0) (go behind_e0) (cond (eqb c 0xED) (go behind_ed) (go tails2))) 0xE0 0xEF refl c l (leb-true c 0xEF i)
+    three : leb c 0xDF ≡ false → leb c 0xEF ≡ true → next_in_string plain c ≡ cond (eqb c 0xE0) (go behind_e0) (cond (eqb c 0xED) (go behind_ed) (go tails2))
+    three h i = first_byte (λ c. cond (eqb c 0xE0) (go behind_e0) (cond (eqb c 0xED) (go behind_ed) (go tails2))) 0xE0 0xEF refl c (leb-false c 0xDF h) (leb-true c 0xEF i)
 
     four : leb c 0xEF ≡ false → next_in_string plain c ≡ cond (eqb c 0xF0) (go behind_f0) (cond (eqb c 0xF4) (go behind_f4) (go tails3))
     four i = first_byte (λ c. cond (eqb c 0xF0) (go behind_f0) (cond (eqb c 0xF4) (go behind_f4) (go tails3))) 0xF0 0xF4 refl c (leb-false c 0xEF i) m
 
-    look : (s t u v w : Bool) → eqb c 0xE0 ≡ s → eqb c 0xED ≡ t → eqb c 0xF0 ≡ u → eqb c 0xF4 ≡ v → leb c 0xEF ≡ w → Lead c
-    look true t u v w e f g h i = rw (eqb-true c 0xE0 e) (record { part = behind_e0; leads = refl; goes = λ x. refl })
-    look false true u v w e f g h i = rw (eqb-true c 0xED f) (record { part = behind_ed; leads = refl; goes = λ x. refl })
-    look false false true v w e f g h i = rw (eqb-true c 0xF0 g) (record { part = behind_f0; leads = refl; goes = λ x. refl })
-    look false false false true w e f g h i = rw (eqb-true c 0xF4 h) (record { part = behind_f4; leads = refl; goes = λ x. refl })
-    look false false false false true e f g h i = record { part = tails2; leads = three i ∙ rw (e, f) refl; goes = λ x. rw (e, f, g, h, i) refl }
-    look false false false false false e f g h i = record { part = tails3; leads = four i ∙ rw (g, h) refl; goes = λ x. rw (e, f, g, h, i) refl }
-
-pub lead-end : (text : List ℕ) (p c low high : ℕ) (b : StringPart) → c ≡ byte_at text p → 0xE0 ≤ c → c ≤ 0xF4 →
-    low ≡ lowest_behind c → high ≡ highest_behind c → cond (leb c 0xEF) tails1 tails2 ≡ b →
-    (r : Scan) → ((a : StringPart) → ((x : ℕ) → next_in_string a x ≡ go_if (within low high x) b) → TailIs text a (p + 1) r) → CharIs text p r
-lead-end text p c low high b e l m f g h r k =
-    let z = lead c l m in
-    lead-on text z.part p (ap (next_in_string plain) (sym e) ∙ z.leads) (omega arith) r (k z.part (λ x. rw (f, g, ← h) (z.goes x)))
+    look : (s t u v w z : Bool) → eqb c 0xE0 ≡ s → eqb c 0xED ≡ t → eqb c 0xF0 ≡ u → eqb c 0xF4 ≡ v → leb c 0xDF ≡ w → leb c 0xEF ≡ z → Lead c
+    look true t u v w z e f g h i j = rw (eqb-true c 0xE0 e) (record { part = behind_e0; leads = refl; goes = λ x. refl })
+    look false true u v w z e f g h i j = rw (eqb-true c 0xED f) (record { part = behind_ed; leads = refl; goes = λ x. refl })
+    look false false true v w z e f g h i j = rw (eqb-true c 0xF0 g) (record { part = behind_f0; leads = refl; goes = λ x. refl })
+    look false false false true w z e f g h i j = rw (eqb-true c 0xF4 h) (record { part = behind_f4; leads = refl; goes = λ x. refl })
+    look false false false false true z e f g h i j =
+        record { part = tails1; leads = first_byte (λ c. go tails1) 0xC2 0xDF refl c l (leb-true c 0xDF i); goes = λ x. rw (e, f, g, h, i) refl }
+    look false false false false false true e f g h i j = record { part = tails2; leads = three i j ∙ rw (e, f) refl; goes = λ x. rw (e, f, g, h, i, j) refl }
+    look false false false false false false e f g h i j = record { part = tails3; leads = four j ∙ rw (g, h) refl; goes = λ x. rw (e, f, g, h, i, j) refl }
 
 low-behind : (c : ℕ) → 0x80 ≤ lowest_behind c
 low-behind c = look (eqb c 0xE0) (eqb c 0xF0)
@@ -329,39 +283,75 @@ low-behind c = look (eqb c 0xE0) (eqb c 0xF0)
     look false true = omega arith
     look false false = omega arith
 
--- a character whose tail fits
-module _ (text : List ℕ) (p c : ℕ) (e : c ≡ byte_at text p) (t : TailFits text p c) where
-  whole-two : 0xC2 ≤ c → c ≤ 0xDF → CharTo text p (p + 2)
-  whole-two l m =
-      let low = ne_eqb c 0xE0 (λ f. omega arith) in
-      let second : within 0x80 0xBF (byte_at text (p + 1)) ≡ true =
-      rw (low, ne_eqb c 0xF0 (λ f. omega arith), ne_eqb c 0xED (λ f. omega arith), ne_eqb c 0xF4 (λ f. omega arith)) at t.second in
-      let z : p + 1 + 1 ≡ p + 2 = omega arith in
-      lead-on text tails1 p (ap (next_in_string plain) (sym e) ∙ lead-two c l m) (omega arith) (To (p + 2)) (rw z at (tail-last text (p + 1) second))
+-- a char from p to q, of which n bytes are to come
+pub record TailsTo (text : List ℕ) (p q n : ℕ) : Type 0 where
+  pub goes : Goes next_in_string text plain p (tails_left n) q
+  pub some : p < q
+  pub clean : Running is_other text p q
 
-  whole-three : 0xE0 ≤ c → c ≤ 0xEF → CharTo text p (p + 3)
-  whole-three l m =
-      let y : p + 1 + 1 ≡ p + 2 = omega arith in
-      let z : p + 2 + 1 ≡ p + 3 = omega arith in
-      lead-end text p c (lowest_behind c) (highest_behind c) tails1 e l (omega arith) refl refl (rw (le-leb c 0xEF m) refl) (To (p + 3))
-      (λ a f. within_on text (p + 1) (lowest_behind c) (highest_behind c) a tails1 f (low-behind c) t.second (To (p + 3))
-      (rw (y, ← z) (tail-last text (p + 2) (t.third l))))
+module _ (text : List ℕ) (p : ℕ) where
+  -- up to its end, m
+  module _ (q m : ℕ) (l : q < m) (k : m ≤ q + 2) (h : TailsTo text p q (m - q)) where
+    left : m - q ≡ m - (q + 1) + 1
+    left = omega arith
 
-  whole_four : 0xF0 ≤ c → c ≤ 0xF4 → CharTo text p (p + 4)
-  unfolding next_in_string
-  whole_four l m =
-      let x : p + 1 + 1 ≡ p + 2 = omega arith in
-      let y : p + 2 + 1 ≡ p + 3 = omega arith in
-      let z : p + 3 + 1 ≡ p + 4 = omega arith in
-      let last = rw z at (tail-last text (p + 3) (t.fourth l)) in
-      let third = within_on text (p + 2) 0x80 0xBF tails2 tails1 (λ b. refl) (omega arith) (t.third (omega arith)) (To (p + 4)) (rw y last) in
-      lead-end text p c (lowest_behind c) (highest_behind c) tails2 e (omega arith) m refl refl (rw (lt-leb c 0xEF (omega arith)) refl) (To (p + 4))
-      (λ a f. within_on text (p + 1) (lowest_behind c) (highest_behind c) a tails2 f (low-behind c) t.second (To (p + 4)) (rw x third))
+    step : next_in_string (tails_left (m - q)) (byte_at text q) ≡ go_if (within 0x80 0xBF (byte_at text q)) (tails_left (m - (q + 1)))
+    step = rw left (tails-turn (m - (q + 1)) (byte_at text q) (omega arith))
 
-  pub whole-char : 0xC2 ≤ c → c ≤ 0xF4 → CharTo text p (p + width_of c)
-  whole-char l m = look (leb c 0xDF) (leb c 0xEF) refl refl
-    where
-      look : (s u : Bool) → leb c 0xDF ≡ s → leb c 0xEF ≡ u → CharTo text p (p + cond s 2 (cond u 3 4))
-      look true u f g = whole-two l (leb-true c 0xDF f)
-      look false true f g = whole-three (omega (arith, leb-false c 0xDF f)) (leb-true c 0xEF g)
-      look false false f g = whole_four (omega (arith, leb-false c 0xEF g)) m
+    pub tails-on : within 0x80 0xBF (byte_at text q) ≡ true → TailsTo text p (q + 1) (m - (q + 1))
+    tails-on e =
+        let i = within-inside text q 0x80 0xBF (omega arith) e in
+        record {
+          goes = goes_on h.goes (goes_one (step ∙ go-if (within 0x80 0xBF (byte_at text q)) (tails_left (m - (q + 1))) e));
+          some = omega (arith, h.some);
+          clean = running-on h.clean i.1 (high-other (byte_at text q) i.0);
+        }
+
+    pub tails-stop : within 0x80 0xBF (byte_at text q) ≡ false → Stops next_in_string text plain p q
+    tails-stop e = stops-on h.goes (stops-here (step ∙ stuck-if (within 0x80 0xBF (byte_at text q)) (tails_left (m - (q + 1))) e))
+
+  pub tails-done : (q m : ℕ) → q ≡ m → TailsTo text p q (m - q) → CharTo text p m
+  unfolding tails_left
+  tails-done q m e h =
+      let z : m - q ≡ 0 = omega arith in
+      let g : TailsTo text p q 0 = rw z at h in
+      let c : CharTo text p q = record { goes = g.goes; some = g.some; clean = λ n. g.clean } in rw e at c
+
+  -- a lead byte and the byte behind it
+  module _ (c : ℕ) (e : c ≡ byte_at text p) (l : 0xC2 ≤ c) (m : c ≤ 0xF4) where
+    leads : Goes next_in_string text plain p (lead c l m).part (p + 1)
+    leads = goes_one (ap (next_in_string plain) (sym e) ∙ (lead c l m).leads)
+
+    pub tails-start : (w : ℕ) → w ≡ width_of c → within (lowest_behind c) (highest_behind c) (byte_at text (p + 1)) ≡ true → TailsTo text p (p + 2) (p + w - (p + 2))
+    tails-start w f h =
+        let i = within-inside text (p + 1) (lowest_behind c) (highest_behind c) (low-behind c) h in
+        let y : p + w - (p + 2) ≡ w - 2 = omega arith in
+        let z : p + 1 + 1 ≡ p + 2 = omega arith in
+        let first : Running is_other text p (p + 1) = running-one (byte_inside text p (omega arith)) (high-other (byte_at text p) (omega arith)) in
+        let g : TailsTo text p (p + 1 + 1) (width_of c - 2) =
+        record {
+          goes = goes_on leads (goes_one ((lead c l m).goes (byte_at text (p + 1)) ∙ go-if (within (lowest_behind c) (highest_behind c) (byte_at text (p + 1))) (tails_left (width_of c - 2)) h));
+          some = omega arith;
+          clean = running-on first i.1 (high-other (byte_at text (p + 1)) i.0);
+        } in rw (y, f) (rw z at g)
+
+    pub tails-none : within (lowest_behind c) (highest_behind c) (byte_at text (p + 1)) ≡ false → Stops next_in_string text plain p (p + 1)
+    tails-none h =
+        stops-on leads
+        (stops-here ((lead c l m).goes (byte_at text (p + 1)) ∙ stuck-if (within (lowest_behind c) (highest_behind c) (byte_at text (p + 1))) (tails_left (width_of c - 2)) h))
+
+    pub whole-char : TailFits text p c → CharTo text p (p + width_of c)
+    whole-char t = look (leb c 0xDF) (leb c 0xEF) refl refl (tails-start (width_of c) refl t.second)
+      where
+        third : leb c 0xDF ≡ false → within 0x80 0xBF (byte_at text (p + 2)) ≡ true
+        third f = t.third (omega (arith, leb-false c 0xDF f))
+
+        fourth : leb c 0xEF ≡ false → within 0x80 0xBF (byte_at text (p + 2 + 1)) ≡ true
+        fourth g = let z : p + 2 + 1 ≡ p + 3 = omega arith in rw z (t.fourth (omega (arith, leb-false c 0xEF g)))
+
+        look : (s u : Bool) → leb c 0xDF ≡ s → leb c 0xEF ≡ u → TailsTo text p (p + 2) (p + cond s 2 (cond u 3 4) - (p + 2)) → CharTo text p (p + cond s 2 (cond u 3 4))
+        look true u f g h = tails-done (p + 2) (p + 2) refl h
+        look false true f g h = tails-done (p + 2 + 1) (p + 3) (omega arith) (tails-on (p + 2) (p + 3) (omega arith) (omega arith) h (third f))
+        look false false f g h =
+            tails-done (p + 2 + 1 + 1) (p + 4) (omega arith)
+            (tails-on (p + 2 + 1) (p + 4) (omega arith) (omega arith) (tails-on (p + 2) (p + 4) (omega arith) (omega arith) h (third f)) (fourth g))

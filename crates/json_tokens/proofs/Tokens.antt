@@ -1,29 +1,30 @@
 -- The laws of scans and of tests by bytes.
 use mathlib.Core.Path.{◌≡◌, refl, sym, ◌∙◌, ap, subst}
-use mathlib.Core.Bool.{Bool, true, false, not, ◌&&◌, ◌||◌}
+use mathlib.Core.Bool.{Bool, true, false, ◌&&◌, ◌||◌}
 use mathlib.Core.Logic.{inl, inr}
 use mathlib.Core.List.{List, [], ◌∷◌}
-use Prim.Native.Nat.{ℕ, suc, ◌≤◌, ◌<◌}
+use Prim.Native.Nat.{ℕ, ◌+◌, ◌-◌, ◌≤◌, ◌<◌}
 use native.Mathlib.Omega.{arith}
 use lib.Dec.{T, eqb, ltb}
-use lib.ListN.{length}
+use lib.ListN.{length, drop, length-drop}
+use lib.Seq.{get_or-drop}
+use Rattle.std.specs.List.{AllWithin, HoldsAt}
 use types.Run.{OneOf, hit}
 use mir.Val.{has_key}
-use borrow.Author.Tests.{ne_eqb, ltb-true, ltb-false, le-ltb, not-true}
+use borrow.Author.Tests.{ne_eqb, ltb-true, ltb-false}
 use Rattle.json_theory.specs.Parts.{Turn, go, ended, stuck, is_escape}
-use Rattle.json_theory.specs.Inside.Scanning.{byte_at, Goes, here, on}
+use Rattle.json_theory.specs.Inside.Scanning.{byte_at, Running, RunTo, Goes, here, on}
 use Rattle.json_tokens.specs.Inside.Tokens.{ScanIs}
-use Rattle.json_tokens.specs.declared.scan.Scan.{Scan}
-use Rattle.json_tokens.specs.declared.scan.Scan.TheVariants.{To, Bad}
-use Rattle.json_theory.proofs.Parts.{every, every-at}
+use Rattle.std.specs.Prelude.{Result, Ok, Err}
+use Rattle.json_tokens.specs.declared.scan.BadByte.{BadByte}
 use Rattle.json_theory.proofs.Rx.{false-true}
 use Rattle.byte_records.proofs.Tests.{and_parts}
 use Rattle.json_theory.proofs.Scanning.{byte-none, goes_on, stops-on}
 
 module _ {P : Type 0} {next : P → ℕ → Turn P} {text : List ℕ} where
-  pub scan-on : {a b : P} {p q : ℕ} (d : P) → Goes next text a p b q → (r : Scan) → ScanIs next text b q d r → ScanIs next text a p d r
-  scan-on d h (To r) k = goes_on h k
-  scan-on d h (Bad r) k = stops-on h k
+  pub scan-on : {a b : P} {p q : ℕ} (d : P) → Goes next text a p b q → (r : Result ℕ BadByte) → ScanIs next text b q d r → ScanIs next text a p d r
+  scan-on d h (Ok r) k = goes_on h k
+  scan-on d h (Err r) k = stops-on h k
 
 -- a byte that passes a test which 0 fails stands in the text
 pub test-inside : (test : ℕ → Bool) (text : List ℕ) (p : ℕ) → test 0 ≡ false → test (byte_at text p) ≡ true → p < length text
@@ -62,12 +63,8 @@ one_of f k (j ∷ ks) x (inr h) g = one_of f j ks x h (and_parts (f k) (all_of f
 pub none_of : (ks : List ℕ) (x : ℕ) → (OneOf ks x → ⊥) → (k : ℕ) → T (has_key ks k) → eqb x k ≡ false
 none_of ks x h k t = ne_eqb x k (λ e. h (subst (OneOf ks) (sym e) (hit ks k t)))
 
-abbrev escapes : List ℕ
+abbrev pub escapes : List ℕ
 escapes = 0x22 ∷ 0x2F ∷ 0x5C ∷ 0x62 ∷ 0x66 ∷ 0x6E ∷ 0x72 ∷ 0x74 ∷ []
-
-pub an-escape : (x : ℕ) → OneOf escapes x → true ≡ is_escape x
-unfolding all_of
-an-escape x h = one_of is_escape 0x22 (0x2F ∷ 0x5C ∷ 0x62 ∷ 0x66 ∷ 0x6E ∷ 0x72 ∷ 0x74 ∷ []) x h refl
 
 pub no-escape : (x : ℕ) → (OneOf escapes x → ⊥) → false ≡ is_escape x
 no-escape x h =
@@ -82,20 +79,27 @@ no-escape x h =
       none_of escapes x h 0x74 tt,
     ) refl
 
-unfoldable pub same_bool : Bool → Bool → Bool
-same_bool true y = y
-same_bool false y = not y
-
-same_bool_lem : (x y : Bool) → same_bool x y ≡ true → x ≡ y
-unfolding same_bool
-same_bool_lem true y h = sym h
-same_bool_lem false y h = sym (not-true y h)
-
 pub or-second : (a b : Bool) → a ≡ false → (a || b) ≡ true → b ≡ true
 or-second true b e h = false-true (sym e)
 or-second false b e h = h
 
--- from low to high the test is b
-pub tested : (f : ℕ → Bool) (b : Bool) (low high : ℕ) → every (λ c. ltb c low || same_bool b (f c)) (suc high) ≡ true → (c : ℕ) → low ≤ c → c ≤ high → b ≡ f c
-tested f b low high h c l m =
-    same_bool_lem b (f c) (or-second (ltb c low) (same_bool b (f c)) (le-ltb c low l) (every-at (λ c. ltb c low || same_bool b (f c)) (suc high) c h (omega arith)))
+-- a run by the place of its first byte that fails the test, and one to the end of the text
+module _ (test : ℕ → Bool) (text : List ℕ) (p : ℕ) (l : p ≤ length text) where
+  run_of : (n : ℕ) → n ≤ length (drop p text) → AllWithin (λ c. test c ≡ true) (drop p text) 0 n → Running test text p (p + n)
+  run_of n m h =
+      record {
+        from = omega arith;
+        upto = omega (arith, length-drop p text);
+        passes =
+            λ i a b.
+            let z : p + (i - p) ≡ i = omega arith in
+            ap test (ap (byte_at text) (sym z) ∙ sym (get_or-drop p text (i - p) 0)) ∙ h (i - p) 0 (omega arith) (omega arith);
+      }
+
+  pub run-first : (n : ℕ) → (n < length (drop p text)) × HoldsAt (λ c. test c ≡ false) (drop p text) n × AllWithin (λ c. test c ≡ true) (drop p text) 0 n → RunTo test text p (p + n)
+  run-first n h = record { running = run_of n (omega (arith, h.0)) h.2; fails = ap test (sym (get_or-drop p text n 0)) ∙ h.1 0 }
+
+  pub run-whole : test 0 ≡ false → AllWithin (λ c. test c ≡ true) (drop p text) 0 (length (drop p text)) → RunTo test text p (length text)
+  run-whole e h =
+      let z : p + length (drop p text) ≡ length text = omega (arith, length-drop p text) in
+      record { running = rw z at (run_of (length (drop p text)) (omega arith) h); fails = ap test (byte-none text (length text) (omega arith)) ∙ e }

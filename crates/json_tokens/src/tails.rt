@@ -28,7 +28,7 @@ pub fn highest(c: u8) -> u8
 
 // How many bytes a character has by its lead byte.
 pub fn width(c: u8) -> usize
-    ensures { (result ≡ width_of c) × (result ≤ 4) }
+    ensures { (result ≡ width_of c) × (2 ≤ result) × (result ≤ 4) }
 {
     match c {
         0x00..=0xDF => 2,
@@ -37,24 +37,18 @@ pub fn width(c: u8) -> usize
     }
 }
 
-// 0 only if x is from `low` to `high`.
-fn outside(x: u8, low: u8, high: u8) -> u8
-    ensures { (result ≤ 1) × (result ≡ 0 → within low high x ≡ true) }
+// Whether x is from `low` to `high`.
+pub fn within(low: u8, x: u8, high: u8) -> bool
+    ensures { result ≡ within low high x }
 {
-    if x < low {
-        return 1;
-    }
-    if high < x { 1 } else { 0 }
+    low <= x && x <= high
 }
 
-// 0 only if x is a tail byte, or the lead byte c is below `first` and needs none there.
-fn outside_from(first: u8, c: u8, x: u8) -> u8
-    ensures { (result ≤ 1) × (result ≡ 0 → first ≤ c → within 0x80 0xBF x ≡ true) }
+// Whether x may be the third or the fourth byte of a character.
+pub fn is_tail(x: u8) -> bool
+    ensures { result ≡ within 0x80 0xBF x }
 {
-    if c < first {
-        return 0;
-    }
-    outside(x, 0x80, 0xBF)
+    within(0x80, x, 0xBF)
 }
 
 // Whether the bytes behind a lead byte c, at `from`, are those that it asks for. Near the end of the text it may say no.
@@ -65,8 +59,8 @@ pub fn tail_fits(text: &[u8], from: usize, c: u8) -> bool
     if text.len() < from + 4 {
         return false;
     }
-    let second = outside(text[from + 1], lowest(c), highest(c));
-    let third = outside_from(0xE0, c, text[from + 2]);
-    let fourth = outside_from(0xF0, c, text[from + 3]);
-    second + third + fourth == 0
+    let second = within(lowest(c), text[from + 1], highest(c));
+    let third = (c < 0xE0) | is_tail(text[from + 2]);
+    let fourth = (c < 0xF0) | is_tail(text[from + 3]);
+    second & third & fourth
 }

@@ -6,13 +6,28 @@ use Prim.Native.Nat.{ℕ, zero, suc, ◌+◌, ◌*◌, ◌≤◌, ◌<◌}
 use native.Mathlib.Numerals.{add-one}
 use native.Mathlib.Omega.{arith}
 use lib.Dec.{eqb}
-use lib.ListN.{length, get_or, take, drop, drop_of_length-le, length-take, length-drop}
+use lib.ListN.{length, get_or, take, drop, length-take, length-drop}
 use lib.Seq.{drop-cons, drop-drop, get_or-take, get_or-drop}
-use borrow.Author.Tests.{eqb-true, eqb-false, eq-eqb, ne_eqb, lt-ltb, le-ltb, not-false}
+use borrow.Author.Tests.{eq-eqb, ne_eqb, not-false}
 use Rattle.json_theory.specs.Book.{book_size, key_of, all_zero, padded, filled, good_record, before, book_records, keys_from, good_from, precedes, ascending, book_keys, bad_book}
-use Rattle.key_book.specs.Inside.Records.{book_record, HasRecord, GapIs, Fine, GoodAt}
+use Rattle.key_book.specs.Inside.Records.{book_record, Fine, GoodAt}
+use Rattle.std.proofs.Common.{Option}
+use Rattle.std.specs.Option.{MatchOption, unwrap_or}
+use Rattle.std.specs.List.{list_all, range_with_len, AllWithin, HoldsAt}
+use Rattle.std.specs.Bool.{MatchBool}
+use Rattle.std.proofs.lemmas.List.FromFn.{length-range_with_len, get_or-range_with_len}
+use native.Mathlib.Nat.{zero-add}
+use Rattle.std.specs.Ordering.{nat_cmp, is_lt}
+use Rattle.std.specs.Cmp.Lexicographic.{slice_cmp}
+use Rattle.std.proofs.lemmas.Iterator.{index_from_first}
+use Rattle.std.specs.declared.cmp.Ordering.{Ordering}
+use Rattle.std.proofs.lemmas.Cmp.{same_from_slice_cmp}
+use Rattle.std.proofs.lemmas.Bool.Decides.{nat_tests}
 use Rattle.byte_records.proofs.Tests.{and_parts}
 use Rattle.key_book.proofs.Halving.{before-padded}
+
+abbrev pub is_zero : ℕ → Bool
+is_zero c = eqb c 0
 
 -- the bytes of a record
 pub record-byte : (b : List ℕ) (i k : ℕ) → k < book_size → get_or (book_record b i) k 0 ≡ get_or b (book_size * i + k) 0
@@ -26,91 +41,46 @@ record-length b i l = omega (arith, length-take book_size (drop (book_size * i) 
 pub from_on : (s : List ℕ) (k : ℕ) → k < length s → drop k s ≡ get_or s k 0 ∷ drop (k + 1) s
 from_on s k l = rw add-one (drop-cons s k 0 l)
 
--- a key and zeros
-first-filled : (r : List ℕ) → 1 ≤ length r → (get_or r 0 0 ≡ 0 → ⊥) → filled (key_of r) ≡ true
-unfolding key_of
-first-filled [] l h = absurd (omega arith)
-first-filled (c ∷ r) l h = rw (ne_eqb c 0 h) refl
+zeros : (r : List ℕ) → all_zero r ≡ list_all is_zero r
+unfolding all_zero
+zeros [] = refl
+zeros (c ∷ r) = ap (λ (t : Bool). eqb c 0 && t) (zeros r)
 
-pub unfilled : (r : List ℕ) → get_or r 0 0 ≡ 0 → good_record r ≡ false
-unfolding key_of
-unfilled [] h = refl
-unfilled (c ∷ r) h = rw (eq-eqb c 0 h) refl
-
-pub good_start : (r : List ℕ) → 1 ≤ length r → (get_or r 0 0 ≡ 0 → ⊥) → good_record r ≡ padded (drop 0 r)
-good_start r l h = rw (first-filled r l h) refl
-
-padded-on : (r : List ℕ) (k : ℕ) → k + 1 < length r → (get_or r k 0 ≡ 0 → get_or r (k + 1) 0 ≡ 0) → padded (drop k r) ≡ padded (drop (k + 1) r)
-unfolding padded all_zero
-padded-on r k l h =
-    rw (from_on r k (omega arith), from_on r (k + 1) l) (look (eqb (get_or r k 0) 0) refl)
+-- a key is not empty, and zeros stand behind it
+padded-by : (r : List ℕ) → padded r ≡ list_all is_zero (drop (length (key_of r)) r)
+unfolding padded key_of all_zero
+padded-by [] = refl
+padded-by (c ∷ r) = look (padded-by r) (eqb c 0) refl
   where
-    look : (t : Bool) → eqb (get_or r k 0) 0 ≡ t →
-        cond t (eqb (get_or r (k + 1) 0) 0 && all_zero (drop (k + 1 + 1) r)) (cond (eqb (get_or r (k + 1) 0) 0) (all_zero (drop (k + 1 + 1) r)) (padded (drop (k + 1 + 1) r)))
-        ≡ cond (eqb (get_or r (k + 1) 0) 0) (all_zero (drop (k + 1 + 1) r)) (padded (drop (k + 1 + 1) r))
-    look true e = rw (eq-eqb (get_or r (k + 1) 0) 0 (h (eqb-true (get_or r k 0) 0 e))) refl
-    look false e = refl
+    look : padded r ≡ list_all is_zero (drop (length (key_of r)) r) → (t : Bool) → eqb c 0 ≡ t →
+        cond t (all_zero r) (padded r) ≡ list_all is_zero (drop (length (cond t [] (c ∷ key_of r))) (c ∷ r))
+    look h true e = rw e (zeros r)
+    look h false e = h
 
-pub good-on : (r : List ℕ) (k : ℕ) → good_record r ≡ padded (drop k r) → k + 1 < length r → (get_or r k 0 ≡ 0 → get_or r (k + 1) 0 ≡ 0) → good_record r ≡ padded (drop (k + 1) r)
-good-on r k g l h = g ∙ padded-on r k l h
+filled_by : (k : List ℕ) → filled k ≡ not (eqb (length k) 0)
+filled_by [] = refl
+filled_by (c ∷ k) = rw (ne_eqb (suc (length k)) 0 (λ e. omega arith)) refl
 
-pub good-not : (r : List ℕ) (k : ℕ) → good_record r ≡ padded (drop k r) → k + 1 < length r → get_or r k 0 ≡ 0 → (get_or r (k + 1) 0 ≡ 0 → ⊥) → good_record r ≡ false
-unfolding padded all_zero
-good-not r k g l h n = g ∙ rw (from_on r k (omega arith), from_on r (k + 1) l, eq-eqb (get_or r k 0) 0 h, ne_eqb (get_or r (k + 1) 0) 0 n) refl
+pub good_by : (r : List ℕ) (n : ℕ) → length (key_of r) ≡ n → (n ≡ 0 → ⊥) → list_all is_zero (drop n r) ≡ good_record r
+good_by r n e h = rw (filled_by (key_of r), padded-by r, e, ne_eqb n 0 h) refl
 
-pub good-end : (r : List ℕ) (k : ℕ) → good_record r ≡ padded (drop k r) → k + 1 ≡ length r → good_record r ≡ true
-unfolding padded all_zero
-good-end r k g l = g ∙ rw (from_on r k (omega arith), drop_of_length-le r {i = k + 1} (omega arith)) (look (eqb (get_or r k 0) 0))
-  where
-    look : (t : Bool) → cond t true true ≡ true
-    look true = refl
-    look false = refl
+pub empty-key : (r : List ℕ) → length (key_of r) ≡ 0 → good_record r ≡ false
+empty-key r e = rw (filled_by (key_of r), e) refl
 
--- record i and the next one, which have their first k bytes alike
-pub record Alike (book : List ℕ) (i k : ℕ) : Type 0 where
-  has : HasRecord book (i + 1)
-  same : before (book_record book i) (book_record book (i + 1)) ≡ before (drop k (book_record book i)) (drop k (book_record book (i + 1)))
+-- where the first zero stands, the key ends
+pub key-end : (r : List ℕ) (n : Option ℕ) →
+    MatchOption n (AllWithin (λ c. c ≡ 0 → ⊥) r 0 (length r)) (λ i. (i < length r) × HoldsAt (λ c. c ≡ 0) r i × AllWithin (λ c. c ≡ 0 → ⊥) r 0 i) →
+    length (key_of r) ≡ unwrap_or n (length r)
+unfolding key_of
+key-end =
+    index_from_first (λ (r : List ℕ). length (key_of r)) (λ c. c ≡ 0) (λ c. c ≡ 0 → ⊥) refl
+    (λ c r e. rw (eq-eqb c 0 e) refl) (λ c r e. rw (ne_eqb c 0 e, add-one) refl)
 
-pub alike-start : {book : List ℕ} {i : ℕ} → HasRecord book (i + 1) → Alike book i 0
-alike-start h = record { has = h; same = refl }
-
-module _ {book : List ℕ} {i k : ℕ} (m : Alike book i k) where
-  first_on : k < book_size → drop k (book_record book i) ≡ get_or (book_record book i) k 0 ∷ drop (k + 1) (book_record book i)
-  first_on l = from_on (book_record book i) k (omega (arith, record-length book i (omega (arith, m.has.0))))
-
-  second-on : k < book_size → drop k (book_record book (i + 1)) ≡ get_or (book_record book (i + 1)) k 0 ∷ drop (k + 1) (book_record book (i + 1))
-  second-on l = from_on (book_record book (i + 1)) k (omega (arith, record-length book (i + 1) m.has.0))
-
-  pub alike-on : k < book_size → get_or (book_record book i) k 0 ≡ get_or (book_record book (i + 1)) k 0 → Alike book i (k + 1)
-  unfolding before
-  alike-on l e =
-      let a = get_or (book_record book i) k 0 in
-      let b = get_or (book_record book (i + 1)) k 0 in
-      record { has = m.has; same = m.same ∙ rw (first_on l, second-on l, le-ltb a b (omega arith), eq-eqb a b e) refl }
-
-  pub alike-less : k < book_size → get_or (book_record book i) k 0 < get_or (book_record book (i + 1)) k 0 → true ≡ before (book_record book i) (book_record book (i + 1))
-  unfolding before
-  alike-less l e =
-      let a = get_or (book_record book i) k 0 in
-      let b = get_or (book_record book (i + 1)) k 0 in
-      sym (m.same ∙ rw (first_on l, second-on l, lt-ltb a b e) refl)
-
-  pub alike-more : k < book_size → get_or (book_record book (i + 1)) k 0 < get_or (book_record book i) k 0 → false ≡ before (book_record book i) (book_record book (i + 1))
-  unfolding before
-  alike-more l e =
-      let a = get_or (book_record book i) k 0 in
-      let b = get_or (book_record book (i + 1)) k 0 in
-      sym (m.same ∙ rw (first_on l, second-on l, le-ltb a b (omega arith), ne_eqb a b (λ z. omega arith)) refl)
-
-  pub alike_end : book_size ≤ k → false ≡ before (book_record book i) (book_record book (i + 1))
-  unfolding before
-  alike_end l =
-      let e = record-length book (i + 1) m.has.0 in
-      sym (m.same ∙ rw (drop_of_length-le (book_record book (i + 1)) {i = k} (omega arith)) (none (drop k (book_record book i))))
-    where
-      none : (s : List ℕ) → before s [] ≡ false
-      none [] = refl
-      none (c ∷ s) = refl
+-- whether a record comes before another, as slices compare
+pub before_from_cmp : (r s : List ℕ) (o : Ordering) → o ≡ slice_cmp nat_cmp r s → is_lt o ≡ before r s
+unfolding before
+before_from_cmp =
+    same_from_slice_cmp nat_cmp is_lt before refl (λ _ _. refl) (λ _ _. refl) (λ x y xs ys o h. grind (arith, nat_tests))
 
 -- a whole book
 record-next : (b : List ℕ) (i : ℕ) → book_record (drop book_size b) i ≡ book_record b (suc i)
@@ -197,24 +167,18 @@ book-fine b h =
       ascending-all (book_records b) b (λ j l. keys-before b j (j + 1) (omega arith) l (h j (omega arith)).good (h (j + 1) l).good ∙ (h j (omega arith)).up l),
     ) refl
 
-pub fine_more : (b : List ℕ) (i : ℕ) → ((j : ℕ) → j < i → Fine b j) → Fine b i → (j : ℕ) → j < i + 1 → Fine b j
-fine_more b i h f j l = look (eqb j i) refl
-  where
-    look : (t : Bool) → eqb j i ≡ t → Fine b j
-    look true e = rw (eqb-true j i e) f
-    look false e = h j (omega (arith, eqb-false j i e))
-
 pub book-ascends : (b : List ℕ) → bad_book b ≡ false → ascending (book_keys b) ≡ true
 unfolding bad_book
 book-ascends b h = (and_parts (good_from (book_records b) b) (ascending (book_keys b)) (not-false (good_from (book_records b) b && ascending (book_keys b)) h)).1
 
-pub gap_is : (r : List ℕ) (k x : ℕ) → get_or r k 0 ≡ 0 → x ≡ get_or r (k + 1) 0 → GapIs r k (not (eqb x 0))
-gap_is r k x h e = look (eqb x 0) refl
-  where
-    look : (t : Bool) → eqb x 0 ≡ t → GapIs r k (not t)
-    look true q = λ z. sym e ∙ eqb-true x 0 q
-    look false q = (h, λ z. eqb-false x 0 q (e ∙ z))
-
 pub good-last : (b : List ℕ) (i : ℕ) (t : Bool) → good_record (book_record b i) ≡ true → i + 1 < book_records b → t ≡ before (book_record b i) (book_record b (i + 1)) → GoodAt b i t
 good-last b i true g l e = record { good = g; up = λ m. sym e }
 good-last b i false g l e = bad-order b i l g (sym e)
+
+pub book-judged : (b : List ℕ) (t : Bool) → (let keys = range_with_len 0 (book_records b) in
+    MatchBool t (AllWithin (Fine b) keys 0 (length keys)) ((k : ℕ) × (k < length keys) × HoldsAt (λ i. bad_book b ≡ true) keys k)) → bad_book b ≡ not t
+book-judged b true h =
+    book-fine b (λ j l.
+    let e : get_or (range_with_len 0 (book_records b)) j 0 ≡ j = get_or-range_with_len 0 (book_records b) j 0 l ∙ zero-add j in
+    subst (Fine b) e (h j 0 (omega arith) (omega (arith, length-range_with_len 0 (book_records b)))))
+book-judged b false h = h.2 0

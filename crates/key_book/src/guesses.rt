@@ -6,7 +6,7 @@ ghost use Rattle.key_book.specs.Inside.Records.{HasRecord, places};
 
 use crate::same_key::short_word;
 use crate::validity::SIZE;
-use byte_records::little_endian::number64;
+use byte_records::little_endian::number;
 
 pub const HINTS: usize = 4096;
 
@@ -27,7 +27,7 @@ fn long_slot(s: &[u8], from: usize, to: usize) -> usize
     ensures { result < places }
 {
     let middle = from + (to - from - 8) / 2;
-    spread(number64(s, from) ^ (number64(s, middle) >> 3) ^ (number64(s, to - 8) >> 7))
+    spread(number::<8>(s, from) ^ (number::<8>(s, middle) >> 3) ^ (number::<8>(s, to - 8) >> 7))
 }
 
 // The place for the key that the text has from `from` to `to`.
@@ -54,9 +54,9 @@ fn long_end(book: &[u8], p: usize) -> usize
     ensures { (p + 8 ≤ result) × (result ≤ p + book_size) }
 {
     p + 8
-        + filled(number64(book, p + 8))
-        + filled(number64(book, p + 16))
-        + filled(number64(book, p + 24))
+        + filled(number::<8>(book, p + 8))
+        + filled(number::<8>(book, p + 16))
+        + filled(number::<8>(book, p + 24))
 }
 
 // The place for key i.
@@ -66,7 +66,7 @@ fn slot_of(book: &[u8], i: usize) -> usize
 {
     let p = SIZE * i;
     if book[p + 7] == 0 {
-        return spread(number64(book, p));
+        return spread(number::<8>(book, p));
     }
     long_slot(book, p, long_end(book, p))
 }
@@ -77,13 +77,11 @@ fn free_slot(hints: &[u16; HINTS], slot: usize) -> usize
     ensures { result < places }
 {
     let mut at = slot;
-    let mut tries = 1;
-    while tries < TRIES {
+    for _ in 1..TRIES {
         if hints[at] == 0 {
             return at;
         }
         at = (at + 1) % HINTS;
-        tries += 1;
     }
     at
 }
@@ -92,11 +90,8 @@ fn free_slot(hints: &[u16; HINTS], slot: usize) -> usize
 pub fn guesses(book: &[u8], hints: &mut [u16; HINTS])
     requires { length book.now ≤ max_length }
 {
-    let keys = book.len() / SIZE;
-    let mut i = 0;
-    while i < keys {
+    for i in 0..book.len() / SIZE {
         let at = free_slot(hints, slot_of(book, i));
         hints[at] = (i + 1) as u16;
-        i += 1;
     }
 }

@@ -10,7 +10,7 @@ use lib.ListN.{length}
 use borrow.Author.Tests.{le-ltb}
 use Rattle.byte_records.specs.Number.{Bytes}
 use Rattle.counting_theory.specs.Trie.{reduce}
-use Rattle.counting_theory.specs.Label.{Equivalence}
+use Rattle.counting_theory.specs.declared.equivalence.Equivalence.{Equivalence}
 use Rattle.removal_theory.specs.Label.{Counting, CountingType}
 use Rattle.removal_theory.specs.Encoding.{encode, type_of}
 use Rattle.removal_theory.specs.WellFormed.{field_counts, bad_type_length, IsType}

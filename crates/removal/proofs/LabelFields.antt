@@ -12,7 +12,8 @@ use Rattle.byte_records.proofs.Tests.{and_parts}
 use Rattle.value_table.specs.Value.{record_kind}
 use Rattle.removal_theory.specs.Payload.{Payload}
 use Rattle.counting_theory.specs.Trie.{nil, node}
-use Rattle.counting_theory.specs.Label.{by_label, Label, listed, field_label, compare_label}
+use Rattle.counting_theory.specs.Label.{Label, listed, field_label, compare_label}
+use Rattle.counting_theory.specs.declared.equivalence.Equivalence.TheVariants.{Label as by_label}
 use Rattle.removal_theory.specs.Label.{Counting, CountingType}
 use Rattle.removal_theory.specs.Encoding.{sibling_keys, Tagged}
 use Rattle.removal_theory.specs.WellFormed.{fields_of, field_counts, IsType}

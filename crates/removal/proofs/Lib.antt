@@ -7,7 +7,6 @@ pub mod RemovedTypes
 pub mod Merges
 pub mod Exact
 pub mod Trials
-pub mod SameBytes
 pub mod CountLimit
 pub mod OnBytes
 pub mod WholeTypes

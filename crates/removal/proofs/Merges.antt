@@ -9,7 +9,7 @@ use lib.ListN.{length}
 use borrow.Author.Tests.{le-ltb}
 use Rattle.byte_records.specs.Number.{Bytes}
 use Rattle.counting_theory.specs.Trie.{size, reduce}
-use Rattle.counting_theory.specs.Label.{Equivalence}
+use Rattle.counting_theory.specs.declared.equivalence.Equivalence.{Equivalence}
 use Rattle.removal_theory.specs.Label.{Counting, CountingType}
 use Rattle.removal_theory.specs.Encoding.{type_records, encode}
 use Rattle.removal_theory.specs.WellFormed.{IsType}

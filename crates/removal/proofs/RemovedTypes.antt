@@ -8,7 +8,9 @@ use lib.Dec.{eqb}
 use Rattle.value_table.specs.Value.{record_kind}
 use Rattle.removal_theory.specs.Payload.{Payload}
 use Rattle.counting_theory.specs.Trie.{nil, Sorted, total}
-use Rattle.counting_theory.specs.Label.{Equivalence, by_kind, by_label, Label, listed}
+use Rattle.counting_theory.specs.Label.{Label, listed}
+use Rattle.counting_theory.specs.declared.equivalence.Equivalence.{Equivalence}
+use Rattle.counting_theory.specs.declared.equivalence.Equivalence.TheVariants.{Kind as by_kind, Label as by_label}
 use Rattle.removal_theory.specs.Label.{Counting, CountingType}
 use Rattle.removal_theory.specs.Place.{FieldTotals}
 use Rattle.removal_theory.specs.Encoding.{sibling_keys, encode, Tagged}

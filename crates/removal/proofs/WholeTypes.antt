@@ -11,16 +11,16 @@ use lib.Seq.{sets}
 use borrow.Author.Tests.{eqb-true, le-leb}
 use Rattle.value_table.specs.Value.{max_depth, record_kind}
 use Rattle.counting_theory.specs.Trie.{nil, node}
-use Rattle.counting_theory.specs.Label.{Equivalence, by_kind, by_label}
+use Rattle.counting_theory.specs.declared.equivalence.Equivalence.{Equivalence}
+use Rattle.counting_theory.specs.declared.equivalence.Equivalence.TheVariants.{Kind as by_kind, Label as by_label}
 use Rattle.removal_theory.specs.Label.{Counting, CountingType}
 use Rattle.removal_theory.specs.Encoding.{type_size, encode, type_of}
 use Rattle.counting_theory.specs.WellFormed.{max_total}
 use Rattle.removal_theory.specs.WellFormed.{fields_of, field_counts, well_formed, bad_type_length, IsType}
 use Rattle.counting_theory.specs.Answers.{equivalence_of, turned_down}
-use Rattle.answers.specs.declared.Answered.TheVariants.{Accepted, Refused}
+use Rattle.std.proofs.Common.{Ok, Err}
 use Rattle.answers.specs.declared.Refusal.TheVariants.{NotPart, Room}
-use Rattle.removal_check.specs.Inside.Front.{WrittenInFront}
-use Rattle.removal_arena.specs.Inside.Arena.{by_flag}
+use Rattle.answers.specs.Inside.Front.{WrittenInFront}
 use Rattle.removal.specs.Difference.{difference}
 use Rattle.removal.specs.Removed.{taken, keeping_fields, removed_type, removed_types, removed_under, removed}
 use Rattle.removal.specs.Inside.Removing.{WholeRun, bytes_left, run_left, placed}
@@ -32,7 +32,8 @@ use Rattle.removal_theory.proofs.WellFormed.Nodes.{field_counts-parts}
 use Rattle.removal_arena.proofs.FirstAddend.{type-coded}
 use Rattle.removal_arena.proofs.Runs.{type-run}
 use Rattle.removal_check.proofs.Exact.{Exact, exact-cond, exact-stored}
-use Rattle.removal_check.proofs.Fronts.{front-refused, front-room, front_bytes, sets-front}
+use Rattle.answers.proofs.Fronts.{front-refused, sets-front}
+use Rattle.removal_check.proofs.Fronts.{front-room, front_bytes}
 use Rattle.removal.proofs.Difference.{steps}
 use Rattle.removal.proofs.Taken.{taken-laws}
 use Rattle.removal.proofs.LabelFields.{fields_out}
@@ -59,8 +60,8 @@ by-kind by_kind f h = h
 by-kind by_label f h = label-kind f h
 
 -- a whole type is a run of the whole, at the first level
-pub type-whole : (label : Bool) (x : List ℕ) → IsType (by_flag label) x (type_of (by_flag label) x) → WholeRun (record { left = max_depth; field = false; label = label }) max_total x
-type-whole label x t = record { run = type-run label x t; fields = by-kind (by_flag label) (type_of (by_flag label) x) t.fields; limited = λ z. refl }
+pub type-whole : (e : Equivalence) (x : List ℕ) → IsType e x (type_of e x) → WholeRun (record { left = max_depth; field = false; equivalence = e }) max_total x
+type-whole e x t = record { run = type-run e x t; fields = by-kind e (type_of e x) t.fields; limited = λ z. refl }
 
 -- the bytes of a type that is there
 unfoldable encoded : Option CountingType → Option (List ℕ)
@@ -94,12 +95,12 @@ module _ (e : Equivalence) (whole part : List ℕ) (t : IsType e whole (type_of 
           rw (limit-left max_total (steps counting-laws taken-laws (type_of e whole) (type_of e part) f z) (run-limit e whole (type-coded t) t.limit), same-rule f z)
           (pick (field_counts e f) f)
 
-  pub front-not-part : (out arena : List ℕ) (n : ℕ) → none ≡ placed out 0 (run_left e max_total whole part) → WrittenInFront (removed_types result n) (Refused NotPart 0) arena
+  pub front-not-part : (out arena : List ℕ) (n : ℕ) → none ≡ placed out 0 (run_left e max_total whole part) → WrittenInFront (removed_types result n) (Err NotPart) arena
   unfolding encoded
   front-not-part out arena n h = go result (sym left-encoded ∙ lost out 0 (run_left e max_total whole part) h)
     where
-      go : (o : Option CountingType) → encoded o ≡ none → WrittenInFront (removed_types o n) (Refused NotPart 0) arena
-      go none z = front-refused NotPart 0 arena refl
+      go : (o : Option CountingType) → encoded o ≡ none → WrittenInFront (removed_types o n) (Err NotPart) arena
+      go none z = front-refused NotPart arena refl
       go (some f) z = absurd (some-none z)
 
   -- the type of which n bytes are left, which are stored as far as there is room
@@ -120,17 +121,17 @@ module _ (e : Equivalence) (whole part : List ℕ) (t : IsType e whole (type_of 
       go b s l (some f) z i = let k : b ≡ encode f = cc in record { type = f; is = z; long = l ∙ ap length k; stored = s ∙ ap (sets out 0) k }
 
   pub front-no-room : (out arena : List ℕ) (n : ℕ) → some (arena, 0 + n) ≡ placed out 0 (run_left e max_total whole part) → length out < n →
-      WrittenInFront (removed_types result (length out)) (Refused Room 0) arena
+      WrittenInFront (removed_types result (length out)) (Err Room) arena
   front-no-room out arena n h r = let g = given out arena n h in rw g.is (front-room g.type (length out) arena (omega (arith, g.long)))
 
   stored-front : (out arena : List ℕ) (n : ℕ) (f : CountingType) → result ≡ some f → n ≡ length (encode f) → arena ≡ sets out 0 (encode f) → n ≤ length out →
-      WrittenInFront (removed_types result (length out)) (Accepted (n / type_size)) arena
+      WrittenInFront (removed_types result (length out)) (Ok (n / type_size)) arena
   stored-front out arena n f a b c r =
       let fits : length (encode f) ≤ length out = omega arith in
       rw (a, b, c) (front_bytes f (length out) (sets out 0 (encode f)) fits (sets-front out (encode f) fits))
 
   pub front-removed : (out arena : List ℕ) (n : ℕ) → some (arena, 0 + n) ≡ placed out 0 (run_left e max_total whole part) → n ≤ length out →
-      WrittenInFront (removed_types result (length out)) (Accepted (n / type_size)) arena
+      WrittenInFront (removed_types result (length out)) (Ok (n / type_size)) arena
   front-removed out arena n h r = let g = given out arena n h in stored-front out arena n g.type g.is g.long g.stored r
 
 pub exact-removed : (whole part : List ℕ) (equivalence n : ℕ) → Exact (removed whole part equivalence n)

@@ -8,7 +8,7 @@ use Prim.Native.Nat.{ℕ, ◌-◌, ◌≤◌, compare, Ordering}
 use Rattle.byte_records.specs.Number.{Bytes}
 use Rattle.value_table.specs.Outcome.{accepted}
 use Rattle.removal_theory.specs.Payload.{Payload}
-use Rattle.counting_theory.specs.Label.{Equivalence}
+use Rattle.counting_theory.specs.declared.equivalence.Equivalence.{Equivalence}
 use Rattle.removal_theory.specs.Label.{Counting, CountingType}
 use Rattle.removal_theory.specs.Encoding.{type_records, type_of}
 use Rattle.removal_theory.specs.WellFormed.{field_counts, well_formed, bad_type_length}

@@ -10,7 +10,8 @@ use lib.Seq.{take_at, drop_at, drop-length, take_all}
 use Rattle.value_table.specs.Value.{record_kind}
 use Rattle.removal_theory.specs.Payload.{Payload}
 use Rattle.counting_theory.specs.Trie.{nil, node, size}
-use Rattle.counting_theory.specs.Label.{Equivalence, Label}
+use Rattle.counting_theory.specs.Label.{Label}
+use Rattle.counting_theory.specs.declared.equivalence.Equivalence.{Equivalence}
 use Rattle.removal_theory.specs.Label.{CountingType}
 use Rattle.removal_theory.specs.Encoding.{type_size, type_kind, type_key, type_span, type_payload, header, encode, decode, type_of}
 use Rattle.removal_theory.specs.Inside.TypeBytes.{Fitting}
@@ -25,6 +26,7 @@ use Rattle.removal_theory.proofs.Encoding.Node.{NodeAt, node-read}
 use Rattle.removal_theory.proofs.Encoding.Decode.{decode-encode}
 use Rattle.removal_arena.proofs.Nodes.{fitting-heads, NodeIn, node_in}
 use Rattle.removal_arena.proofs.RecordBytes.{length-header}
+use Rattle.type_arena.specs.Inside.Layout.{label_by}
 
 -- the header of a label, and that of its kind and key
 header-parts : (l : Label) (span : ℕ) (a : Payload) → header l span a ≡ header_of l.kind l.key span a
@@ -32,7 +34,7 @@ unfolding header
 header-parts l span a = refl
 
 pub header-first : (e : Equivalence) (x : List ℕ) (span : ℕ) (a : Payload) → header (label_at e x 0) span a ≡ header_of (type_kind x 0) (type_key x 0) span a
-unfolding label_at header
+unfolding label_by header
 header-first e x span a = refl
 
 -- whether fields stand inside, by the kind

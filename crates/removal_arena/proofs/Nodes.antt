@@ -8,7 +8,8 @@ use lib.ListN.{length, drop, length-append, length-drop}
 use Rattle.byte_records.specs.Inside.Chain.{Chain, done, next}
 use Rattle.removal_theory.specs.Payload.{Payload}
 use Rattle.counting_theory.specs.Trie.{nil, node, size}
-use Rattle.counting_theory.specs.Label.{Equivalence, Label}
+use Rattle.counting_theory.specs.Label.{Label}
+use Rattle.counting_theory.specs.declared.equivalence.Equivalence.{Equivalence}
 use Rattle.removal_theory.specs.Label.{CountingType}
 use Rattle.removal_theory.specs.Encoding.{type_size, type_kind, type_key, type_span, sibling_keys, encode, Tagged}
 use Rattle.removal_theory.specs.Inside.TypeBytes.{Fitting}
@@ -16,7 +17,8 @@ use Rattle.removal_arena.specs.Inside.Arena.{label_at, FieldsInside, Labelled}
 use Rattle.removal_theory.proofs.Tagged.Parts.{tagged-parts, shape-label}
 use Rattle.removal_theory.proofs.Encoding.Header.{length-encode}
 use Rattle.removal_theory.proofs.Encoding.Node.{NodeFront, node-front}
-use Rattle.removal_arena.proofs.Fields.{inside-keys}
+use Rattle.type_arena.proofs.Fields.{inside-keys}
+use Rattle.type_arena.specs.Inside.Layout.{label_by}
 
 -- each kind, key and span fits its bytes
 abbrev pub HeadsFit : CountingType → Type 0
@@ -53,7 +55,7 @@ module _ (b : List ℕ) where
 
   pub node_in : (i : ℕ) (l : Label) (a : Payload) (c s : CountingType) (q : List ℕ) → HeadsFit (node l a c s) → drop (type_size * i) b ≡ encode (node l a c s) ++ q →
       NodeIn b i l a c s q
-  unfolding size label_at
+  unfolding size label_by
   node_in i l a c s q h e =
       let x = front i l a c s q h e in
       let n : length b - type_size * i ≡ type_size * (1 + (size c + size s)) + length q =

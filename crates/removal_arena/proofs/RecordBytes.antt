@@ -13,7 +13,6 @@ use Rattle.removal_theory.specs.Payload.{Payload, numbers}
 use Rattle.counting_theory.specs.Label.{Label}
 use Rattle.removal_theory.specs.Encoding.{type_format, type_size, header}
 use Rattle.removal_arena.specs.Inside.Arena.{span_offset, header_of}
-use Rattle.removal_arena.specs.Inside.Payload.{payload_offset, payload_bytes}
 
 pub length-header : (l : Label) (span : ℕ) (a : Payload) → length (header l span a) ≡ type_size
 unfolding header
@@ -21,9 +20,9 @@ length-header l span a = length-record type_format _
 
 -- a type record in its parts, the first with the zero byte behind the kind
 pub sets-record : (kind key span : ℕ) (a : Payload) (l : List ℕ) (at : ℕ) → kind < 256 →
-    sets (sets (sets (sets l at (bytes_of 2 kind)) (at + 2) (bytes_of 2 key)) (at + span_offset) (bytes_of 4 span)) (at + payload_offset) (payload_bytes a)
+    sets (sets (sets (sets l at (bytes_of 2 kind)) (at + 2) (bytes_of 2 key)) (at + span_offset) (bytes_of 4 span)) (at + 8) (bytes_of 8 a.count)
     ≡ sets l at (header_of kind key span a)
-unfolding header bytes_of record_bytes numbers payload_bytes
+unfolding header bytes_of record_bytes numbers
 sets-record kind key span a l at h =
     let high : kind / 256 % 256 ≡ 0 = omega arith in
     rw high (simp towards_suc)

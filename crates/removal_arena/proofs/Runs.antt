@@ -10,16 +10,18 @@ use native.Mathlib.Omega.{arith}
 use lib.Dec.{eqb}
 use lib.ListN.{length}
 use Rattle.value_table.specs.Value.{max_length, max_depth, record_kind}
-use Rattle.removal_arena.specs.declared.level.Level.{Level}
+use Rattle.type_arena.specs.declared.level.Level.{Level}
 use Rattle.counting_theory.specs.Trie.{node, total, largest_below, largest_total}
-use Rattle.counting_theory.specs.Label.{Equivalence, Label, compare_label}
+use Rattle.counting_theory.specs.Label.{Label, compare_label}
+use Rattle.counting_theory.specs.declared.equivalence.Equivalence.{Equivalence}
 use Rattle.removal_theory.specs.Label.{Counting, CountingType}
 use Rattle.removal_theory.specs.Encoding.{type_payload, type_kind, type_of}
 use Rattle.counting_theory.specs.WellFormed.{max_total, depth_inside}
 use Rattle.removal_theory.specs.WellFormed.{Shallow, IsType}
-use Rattle.removal_arena.specs.Inside.Arena.{by_flag, label_at}
+use Rattle.removal_arena.specs.Inside.Arena.{label_at}
 use Rattle.removal_arena.specs.Inside.Addend.{body, rest}
-use Rattle.removal_arena.specs.Inside.Runs.{depth_of, TypeRun, inside_of}
+use Rattle.type_arena.specs.Inside.Runs.{depth_of, inside_of}
+use Rattle.removal_arena.specs.Inside.Runs.{TypeRun}
 use Rattle.counting_theory.proofs.Label.{kind-eq, label-order}
 use Rattle.counting_theory.proofs.Tagged.Parts.{holds_fields}
 use Rattle.counting_theory.proofs.WellFormed.Nodes.{KeyOrDepth, depth_under}
@@ -27,17 +29,18 @@ use Rattle.removal_theory.proofs.WellFormed.Nodes.{shallow-parts}
 use Rattle.removal_theory.proofs.Encoding.Header.{length-encode}
 use Rattle.removal_theory.proofs.WellFormed.Limit.{limit-totals, totals-limit}
 use Rattle.removal_arena.proofs.FirstAddend.{Addend, addend, type-coded}
+use Rattle.type_arena.specs.Inside.Layout.{label_by}
 
 -- the equivalence that a level is by
 abbrev pub At : Level → Equivalence
-At level = by_flag level.label
+At level = level.equivalence
 
 -- how the first labels compare
 abbrev pub order : Equivalence → List ℕ → List ℕ → Ordering
 order e x y = compare_label (label_at e x 0) (label_at e y 0)
 
 pub same-kinds : (e : Equivalence) (x y : List ℕ) → eq ≡ order e x y → type_kind x 0 ≡ type_kind y 0
-unfolding label_at
+unfolding label_by
 same-kinds e x y h = kind-eq (label-order.compare-eq (sym h))
 
 -- an addend has a level left
@@ -58,15 +61,15 @@ shallow-inside false left l c low some h = go (eqb l.kind record_kind) h
     go false h = let e : max_depth + 1 - (left + 0) + 1 ≡ max_depth + 1 - (left - 1 + 0) = omega arith in rw e at h
 
 pub record Head (level : Level) (x : List ℕ) : Type 0 where
-  pub first : Addend (by_flag level.label) level.field x
+  pub first : Addend level.equivalence level.field x
   pub level-left : cond level.field 0 1 ≤ level.left
   pub in_body : TypeRun (inside_of level (type_kind x 0)) (body x)
   pub in_rest : TypeRun level (rest x)
 
 pub head : {level : Level} {x : List ℕ} → TypeRun level x → 0 < length x → Head level x
-unfolding label_at largest_total largest_below total
+unfolding label_by largest_total largest_below total
 head {level} {x} p h =
-    let e : Equivalence = by_flag level.label in
+    let e : Equivalence = level.equivalence in
     let l : Label = label_at e x 0 in
     let c : CountingType = type_of e (body x) in
     let s : CountingType = type_of e (rest x) in
@@ -89,8 +92,8 @@ head {level} {x} p h =
     }
 
 -- a whole type is a union at depth 1, and short
-pub type-run : (label : Bool) (x : List ℕ) → IsType (by_flag label) x (type_of (by_flag label) x) → TypeRun (record { left = max_depth; field = false; label = label }) x
-type-run label x t =
+pub type-run : (e : Equivalence) (x : List ℕ) → IsType e x (type_of e x) → TypeRun (record { left = max_depth; field = false; equivalence = e }) x
+type-run e x t =
     record {
       coded = type-coded t;
       shallow = t.shallow;

@@ -2,5 +2,4 @@
 pub mod Arena
 pub mod Addend
 pub mod Runs
-pub mod LabelOrder
-pub mod Payload
+pub mod Places

@@ -1,47 +1,33 @@
 // The first addend or field of a run of 16-byte type records, which removal alone works on, and its store.
 ghost use Rattle.std.specs.Prelude.{◌≡◌, ◌+◌, ◌^◌, ◌<◌, length};
-ghost use Rattle.std.proofs.lemmas.List.Edits.{sets};
 ghost use Rattle.removal_arena.specs.Inside.Addend.{front, body, rest, Headed, Kept};
 
-use crate::type_record;
-use crate::type_record::span_at;
-use byte_records::store::put_bytes;
+use crate::type_record::{Counted, SIZE};
+use type_arena::addend::append;
+use type_arena::layout::span_at;
 
 // The first addend or field of x, with what stands inside it.
-pub fn front_of<'a>(x: &'a [u8]) -> &'a [u8]
+pub fn front_of(x: &[u8]) -> &[u8]
     requires { Headed x.now }
     ensures { result.now ≡ front x.now }
 {
-    let n = type_record::SIZE * span_at(x, 0);
-    &x[..n]
+    &x[..SIZE * span_at::<Counted>(x, 0)]
 }
 
 // What stands inside the first addend or field of x.
-pub fn body_of<'a>(x: &'a [u8]) -> &'a [u8]
+pub fn body_of(x: &[u8]) -> &[u8]
     requires { Headed x.now }
     ensures { result.now ≡ body x.now }
 {
-    let n = type_record::SIZE * span_at(x, 0);
-    &x[type_record::SIZE..n]
+    &x[SIZE..SIZE * span_at::<Counted>(x, 0)]
 }
 
 // What follows the first addend or field of x.
-pub fn rest_of<'a>(x: &'a [u8]) -> &'a [u8]
+pub fn rest_of(x: &[u8]) -> &[u8]
     requires { Headed x.now }
     ensures { result.now ≡ rest x.now }
 {
-    let n = type_record::SIZE * span_at(x, 0);
-    &x[n..]
-}
-
-// Stores src from `at` on, and moves `at` past it.
-pub fn append(src: &[u8], out: &mut [u8], at: &mut usize)
-    requires { at.old + length src.now < 2 ^ 64 }
-    ensures { (out.new ≡ sets out.old at.old src.now)
-        × (at.new ≡ at.old + length src.now) }
-{
-    put_bytes(src, out, *at);
-    *at = *at + src.len();
+    &x[SIZE * span_at::<Counted>(x, 0)..]
 }
 
 // Stores the first addend of x as it is, and returns what follows it.

@@ -1,35 +1,45 @@
-// The store of a whole type record of 16 bytes, which removal alone works on.
+// A type record of 16 bytes, which removal alone works on, and its store.
 ghost use Rattle.std.specs.Prelude.{◌≡◌, ◌+◌, ◌^◌, ◌≤◌, ◌<◌, length};
 ghost use Rattle.std.proofs.lemmas.List.Edits.{sets};
 ghost use Rattle.removal_theory.specs.Encoding.{type_size};
-ghost use Rattle.removal_arena.specs.Inside.Arena.{header_of};
-ghost use Rattle.removal_arena.specs.Inside.Payload.{payload_of};
+ghost use Rattle.removal_arena.specs.Inside.Arena.{record_bytes_of};
 
-use crate::payload::{Payload, store_payload};
-use crate::type_record::{KEY_OFFSET, SIZE, SPAN_OFFSET};
-use byte_records::store::{put_bytes, store16, store32};
+use crate::type_record::SIZE;
+use byte_records::store::{put_bytes, store_number};
+use type_arena::layout::{COUNT_OFFSET, KEY_OFFSET, SPAN_OFFSET};
 
-// Stores a type record where there is room for it.
-pub fn store_record(out: &mut [u8], at: usize, kind: u8, key: usize, span: usize, payload: Payload)
-    requires { at + type_size ≤ length out.old }
-    ensures { out.new ≡ sets out.old at (header_of kind key span (payload_of payload)) }
-{
-    store16(out, at, kind as usize);
-    store16(out, at + KEY_OFFSET, key);
-    store32(out, at + SPAN_OFFSET, span);
-    store_payload(out, at, payload);
+// A type record: its fields, and how many values stand at its place.
+#[derive(Clone, Copy)]
+pub struct TypeRecord {
+    pub kind: u8,
+    pub key: usize,
+    pub span: usize,
+    pub count: usize,
 }
 
-// Stores a type record, as far as there is room.
-pub fn put_record(out: &mut [u8], at: usize, kind: u8, key: usize, span: usize, payload: Payload)
-    requires { at + type_size < 2 ^ 64 }
-    ensures { out.new ≡ sets out.old at (header_of kind key span (payload_of payload)) }
-{
-    if at + SIZE <= out.len() {
-        store_record(out, at, kind, key, span, payload);
-        return;
+impl TypeRecord {
+    // Stores it where there is room for it.
+    pub fn store(self, out: &mut [u8], at: usize)
+        requires { at + type_size ≤ length out.old }
+        ensures { out.new ≡ sets out.old at (record_bytes_of self) }
+    {
+        store_number::<2>(out, at, self.kind as usize);
+        store_number::<2>(out, at + KEY_OFFSET, self.key);
+        store_number::<4>(out, at + SPAN_OFFSET, self.span);
+        store_number::<8>(out, at + COUNT_OFFSET, self.count);
     }
-    let mut bytes = [0u8; SIZE];
-    store_record(&mut bytes, 0, kind, key, span, payload);
-    put_bytes(&bytes, out, at);
+
+    // Stores it as far as there is room.
+    pub fn put(self, out: &mut [u8], at: usize)
+        requires { at + type_size < 2 ^ 64 }
+        ensures { out.new ≡ sets out.old at (record_bytes_of self) }
+    {
+        if at + SIZE <= out.len() {
+            self.store(out, at);
+            return;
+        }
+        let mut bytes = [0u8; SIZE];
+        self.store(&mut bytes, 0);
+        put_bytes(&bytes, out, at);
+    }
 }

@@ -1,4 +1,3 @@
 -- What contracts inside the crate and its proofs, and those of removal, cite, and no public promise.
-pub mod Front
 pub mod Checker
 pub mod Pair

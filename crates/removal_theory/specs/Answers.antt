@@ -4,7 +4,7 @@ use Rattle.std.proofs.Math.Option.{Option, none, some}
 use Rattle.value_table.specs.Value.{max_length}
 use Rattle.value_table.specs.Outcome.{accepted}
 use Rattle.counting_theory.specs.Trie.{size, reduce}
-use Rattle.counting_theory.specs.Label.{Equivalence}
+use Rattle.counting_theory.specs.declared.equivalence.Equivalence.{Equivalence}
 use Rattle.counting_theory.specs.Answers.{equivalence_of, Written, turned_down}
 use Rattle.removal_theory.specs.Label.{Counting, CountingType}
 use Rattle.removal_theory.specs.Encoding.{type_size, encode, type_of}

@@ -6,7 +6,8 @@ use Rattle.value_table.specs.Value.{max_length, max_depth, record_kind, array_ki
 use Rattle.counting_theory.specs.WellFormed.{max_total, depth_inside, is_lt, field_count}
 use Rattle.removal_theory.specs.Payload.{proper}
 use Rattle.counting_theory.specs.Trie.{nil, node, size, reduce, Sorted, total, largest_total}
-use Rattle.counting_theory.specs.Label.{Equivalence, Label, field_kind, compare_label}
+use Rattle.counting_theory.specs.Label.{Label, field_kind, compare_label}
+use Rattle.counting_theory.specs.declared.equivalence.Equivalence.{Equivalence}
 use Rattle.removal_theory.specs.Label.{Counting, CountingType}
 use Rattle.removal_theory.specs.Place.{FieldTotals}
 use Rattle.removal_theory.specs.Encoding.{type_size, type_records, type_kind, type_zero, type_key, type_span, encode, type_of, Tagged}

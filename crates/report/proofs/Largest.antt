@@ -1,11 +1,15 @@
 -- The largest count, by the records of a type one after the other.
+use Rattle.std.specs.Ordering.{ord_max}
+use Rattle.std.proofs.Common.{nat_cmp}
+use Rattle.std.proofs.lemmas.Grind.{common_steps}
 use mathlib.Core.Path.{◌≡◌, refl, ◌∙◌, ap}
 use mathlib.Core.Bool.{Bool}
 use mathlib.Core.List.{List}
 use Prim.Native.Nat.{ℕ, suc, ◌+◌, ◌-◌, ◌≤◌, ◌<◌, max}
 use native.Mathlib.Omega.{arith}
 use Rattle.counting_theory.specs.Trie.{nil, node, size}
-use Rattle.counting_theory.specs.Label.{Equivalence, CountingType}
+use Rattle.counting_theory.specs.Label.{CountingType}
+use Rattle.counting_theory.specs.declared.equivalence.Equivalence.{Equivalence}
 use Rattle.counting_theory.specs.Encoding.{type_span}
 use Rattle.counting_theory.specs.Inside.TypeBytes.{type_count}
 use Rattle.counting_theory.specs.WellFormed.{max_total}
@@ -49,3 +53,7 @@ pub largest-below : (whole : ℕ) (f : CountingType) → Shares whole f → whol
 unfolding largest_count
 largest-below whole nil s h = omega arith
 largest-below whole (node l a c s) sh h = omega (arith, sh.1, largest-below (whole_inside l a.count c) c sh.3 sh.2, largest-below whole s sh.4 h)
+
+-- std's larger of two numbers
+pub larger-of : (x y : ℕ) → ord_max nat_cmp x y ≡ max x y
+larger-of x y = grind (arith, common_steps)

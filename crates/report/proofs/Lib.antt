@@ -1,5 +1,4 @@
 -- The laws behind the statements; a folder for each function's proof.
-pub mod Table
 pub mod Digits
 pub mod Storing
 pub mod Words

@@ -12,9 +12,8 @@ use lib.Seq.{take_at}
 use borrow.Author.Tests.{ltb-false}
 use Rattle.byte_records.specs.Number.{Bytes}
 use Rattle.value_table.specs.Value.{max_length}
-use Rattle.value_table.specs.declared.Answer.{Answer}
 use Rattle.value_table.specs.declared.Fault.TheVariants as faults
-use Rattle.value_table.specs.Outcome.{accepted, outcome_of_answer}
+use Rattle.value_table.specs.Outcome.{Outcome, accepted}
 use Rattle.value_table.specs.Judged.{bad_length, judged, messages}
 use Rattle.value_table.specs.Acceptance as table
 use Rattle.value_table.proofs.TableLayout.{length-fits}
@@ -22,15 +21,15 @@ use Rattle.value_table.proofs.Acceptance.{accepts, placed}
 use Rattle.counting_theory.proofs.WellFormed.Limit.{totals-limit}
 use Rattle.counting_theory.proofs.WellFormed.Profile.{fits-run}
 use Rattle.counting_theory.specs.Trie.{size}
-use Rattle.counting_theory.specs.Label.{Equivalence, CountingType}
+use Rattle.counting_theory.specs.Label.{CountingType}
+use Rattle.counting_theory.specs.declared.equivalence.Equivalence.{Equivalence}
 use Rattle.counting_theory.specs.Raw.{profile_of}
 use Rattle.counting_theory.specs.Encoding.{type_size, encode, type_of}
 use Rattle.counting_theory.specs.WellFormed.{bad_type_length, IsType}
 use Rattle.counting_theory.specs.Answers.{equivalence_number, Written, turned_down, arena_with, stored, inferred_under, inferred, largest_arena}
-use Rattle.answers.specs.declared.Answered.{Answered}
-use Rattle.answers.specs.declared.Answered.TheVariants.{Accepted, Refused}
+use Rattle.answers.specs.declared.Refusal.{Refusal}
 use Rattle.answers.specs.declared.Refusal.TheVariants as refusals
-use Rattle.answers.specs.Outcomes.{outcome_of}
+use Rattle.answers.specs.Outcomes.{refusal_of}
 use Rattle.answers.proofs.Exact.{exact-inferred}
 use Rattle.counting_theory.proofs.WellFormed.Closed.{profile-type}
 use Rattle.counting_theory.proofs.WellFormed.AcceptsExactly.{type-unique}
@@ -84,69 +83,68 @@ printed-profiled b bytes = go (bad_length (length b)) refl
     go true h = printed-refusal 0 0 (omega arith)
     go false h = printed-from program_equivalence b bytes h (judged b).number refl
 
--- the answer of the call as three numbers, and the arena of the largest length that it has left
-pub record Told (b arena : List ℕ) (answer : Answer) : Type 0 where
-  pub outcome : outcome_of_answer answer ≡ (profiled b).outcome
-  pub bytes : take (type_size * answer.count) arena ≡ (profiled b).bytes
-  pub room : type_size * answer.count ≤ length arena
+-- the outcome of the call, and the arena of the largest length that it has left
+pub record Told (b arena : List ℕ) (o : Outcome) : Type 0 where
+  pub outcome : o ≡ (profiled b).outcome
+  pub bytes : take (type_size * o.count) arena ≡ (profiled b).bytes
+  pub room : type_size * o.count ≤ length arena
   pub whole : length arena ≡ largest_arena
 
 abbrev program_number : ℕ
 program_number = equivalence_number program_equivalence
 
-pub told : (b : List ℕ) (n m : ℕ) (arena : List ℕ) (answer : Answer) → largest_arena ≡ n → largest_arena ≡ m → length arena ≡ n →
-    outcome_of_answer answer ≡ (inferred b program_number n m).outcome → arena ≡ arena_with n (inferred b program_number n m) → Told b arena answer
-told b n m arena answer l k whole outcome left =
+pub told : (b : List ℕ) (n m : ℕ) (arena : List ℕ) (o : Outcome) → largest_arena ≡ n → largest_arena ≡ m → length arena ≡ n →
+    o ≡ (inferred b program_number n m).outcome → arena ≡ arena_with n (inferred b program_number n m) → Told b arena o
+told b n m arena o l k whole outcome left =
     let w = profiled b in
-    let o : outcome_of_answer answer ≡ w.outcome = rw (← l, ← k) at outcome in
+    let same : o ≡ w.outcome = rw (← l, ← k) at outcome in
     let a : arena ≡ arena_with largest_arena w = rw (← l, ← k) at left in
-    let e : length w.bytes ≡ type_size * answer.count = exact-inferred b program_number largest_arena largest_arena ∙ ap (λ x. type_size * x.count) (sym o) in
+    let e : length w.bytes ≡ type_size * o.count = exact-inferred b program_number largest_arena largest_arena ∙ ap (λ x. type_size * x.count) (sym same) in
     record {
-      outcome = o;
-      bytes = ap (take (type_size * answer.count)) a ∙ take_at w.bytes _ (type_size * answer.count) e;
+      outcome = same;
+      bytes = ap (take (type_size * o.count)) a ∙ take_at w.bytes _ (type_size * o.count) e;
       room = omega (arith, e, ap length a, length-append w.bytes (replicate (largest_arena - length w.bytes) 0));
       whole = omega arith;
     }
 
-module _ {b arena : List ℕ} {answer : Answer} (t : Told b arena answer) where
-  number_of : (k : ℕ) → answer.number ≡ k → (profiled b).outcome.number ≡ k
-  number_of k z = ap (λ o. o.number) (sym t.outcome) ∙ z
+module _ {b arena : List ℕ} {o : Outcome} (t : Told b arena o) where
+  number_of : (k : ℕ) → o.number ≡ k → (profiled b).outcome.number ≡ k
+  number_of k z = ap (λ x. x.number) (sym t.outcome) ∙ z
 
-  pub told-type : Bytes b → answer.number ≡ 0 → IsType program_equivalence (take (type_size * answer.count) arena) (type_of program_equivalence (take (type_size * answer.count) arena))
+  pub told-type : Bytes b → o.number ≡ 0 → IsType program_equivalence (take (type_size * o.count) arena) (type_of program_equivalence (take (type_size * o.count) arena))
   told-type bytes z = rw t.bytes ((printed-profiled b bytes).formed (number_of 0 z))
 
-  pub told-place : Bytes b → answer.place ≤ max_length
-  told-place bytes = omega (arith, (printed-profiled b bytes).near, ap (λ o. o.place) t.outcome)
+  pub told-place : Bytes b → o.place ≤ max_length
+  told-place bytes = omega (arith, (printed-profiled b bytes).near, ap (λ x. x.place) t.outcome)
 
-  pub told-report : answer.number ≡ 0 → report (type_of program_equivalence (take (type_size * answer.count) arena)) ≡ printed b
+  pub told-report : o.number ≡ 0 → report (type_of program_equivalence (take (type_size * o.count) arena)) ≡ printed b
   unfolding printed
   told-report z = ap (λ x. report (type_of program_equivalence x)) t.bytes ∙ ap (λ k. text_of k (profiled b)) (sym (number_of 0 z))
 
-  pub told-length : type_size * answer.count ≡ length (take (type_size * answer.count) arena)
-  told-length = omega (arith, t.room, length-take (type_size * answer.count) arena)
+  pub told-length : type_size * o.count ≡ length (take (type_size * o.count) arena)
+  told-length = omega (arith, t.room, length-take (type_size * o.count) arena)
 
-  pub told-refusal : (answer.number ≡ 0 → ⊥) → refusal_line answer.number answer.place ≡ printed b
+  pub told-refusal : (o.number ≡ 0 → ⊥) → refusal_line o.number o.place ≡ printed b
   unfolding printed
-  told-refusal h = go answer.number refl
+  told-refusal h = go o.number refl
     where
-      go : (k : ℕ) → answer.number ≡ k → refusal_line answer.number answer.place ≡ text_of (profiled b).outcome.number (profiled b)
+      go : (k : ℕ) → o.number ≡ k → refusal_line o.number o.place ≡ text_of (profiled b).outcome.number (profiled b)
       go zero z = absurd (h z)
       go (suc k) z = (λ i. refusal_line (z i) (t.outcome i).place) ∙ ap (λ j. text_of j (profiled b)) (sym (number_of (suc k) z))
 
--- a refusal number has two digits at most
-pub small-number : (answered : Answered) → (outcome_of answered).number ≤ 17
-small-number (Accepted records) = omega arith
-small-number (Refused refusals.Length place) = omega arith
-small-number (Refused refusals.Equivalence place) = omega arith
-small-number (Refused (refusals.Table faults.Kind) place) = omega arith
-small-number (Refused (refusals.Table faults.Span) place) = omega arith
-small-number (Refused (refusals.Table faults.Key) place) = omega arith
-small-number (Refused (refusals.Table faults.Large) place) = omega arith
-small-number (Refused (refusals.Table faults.Repeat) place) = omega arith
-small-number (Refused (refusals.Table faults.Fields) place) = omega arith
-small-number (Refused (refusals.Table faults.Depth) place) = omega arith
-small-number (Refused refusals.First place) = omega arith
-small-number (Refused refusals.Second place) = omega arith
-small-number (Refused refusals.Total place) = omega arith
-small-number (Refused refusals.NotPart place) = omega arith
-small-number (Refused refusals.Room place) = omega arith
+-- a refusal number is not 0, and has two digits at most
+pub refusal-number : (why : Refusal) → (1 ≤ (refusal_of why).number) × ((refusal_of why).number ≤ 17)
+refusal-number refusals.Length = (omega arith, omega arith)
+refusal-number refusals.Equivalence = (omega arith, omega arith)
+refusal-number (refusals.Table faults.Kind place) = (omega arith, omega arith)
+refusal-number (refusals.Table faults.Span place) = (omega arith, omega arith)
+refusal-number (refusals.Table faults.Key place) = (omega arith, omega arith)
+refusal-number (refusals.Table faults.Large place) = (omega arith, omega arith)
+refusal-number (refusals.Table faults.Repeat place) = (omega arith, omega arith)
+refusal-number (refusals.Table faults.Fields place) = (omega arith, omega arith)
+refusal-number (refusals.Table faults.Depth place) = (omega arith, omega arith)
+refusal-number refusals.First = (omega arith, omega arith)
+refusal-number refusals.Second = (omega arith, omega arith)
+refusal-number refusals.Total = (omega arith, omega arith)
+refusal-number refusals.NotPart = (omega arith, omega arith)
+refusal-number refusals.Room = (omega arith, omega arith)

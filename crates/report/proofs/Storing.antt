@@ -1,11 +1,12 @@
 -- Bytes stored one after the other: by a loop, and by one call after another.
 use mathlib.Core.Path.{◌≡◌, refl, sym, ap, ◌∙◌}
 use mathlib.Core.List.{List, [], ◌∷◌, ◌++◌}
-use Prim.Native.Nat.{ℕ, zero, suc, ◌+◌, ◌≤◌}
+use Prim.Native.Nat.{ℕ, zero, suc, ◌+◌, ◌-◌, ◌≤◌}
 use native.Mathlib.Omega.{arith}
-use lib.ListN.{length, take, drop, replicate, length-append}
+use lib.ListN.{length, take, drop, replicate, length-append, length-take, length-drop, length-replicate}
 use lib.Seq.{sets, length-sets, sets-eq, length-take-le}
-use Rattle.byte_records.proofs.Sets.{sets-append}
+use borrow.Rule.Slice.PartMut.{put_mid}
+use Rattle.byte_records.proofs.Sets.{sets-append, sets-part}
 use Rattle.report.specs.Decimal.{leaves_text, text_left}
 use Rattle.report.specs.Inside.Room.{TextStored}
 
@@ -14,6 +15,15 @@ pub take-replicate : (n m byte : ℕ) → n ≤ m → take n (replicate m byte) 
 take-replicate zero m byte h = refl
 take-replicate (suc n) zero byte h = absurd (omega arith)
 take-replicate (suc n) (suc m) byte h = ap (λ xs. byte ∷ xs) (take-replicate n m byte (omega arith))
+
+-- a part that is filled with one byte
+pub filled-part : (s new : List ℕ) (at n byte : ℕ) → at + n ≤ length s → new ≡ replicate (length (take (at + n - at) (drop at s))) byte →
+    put_mid at (at + n - at) s new ≡ sets s at (replicate n byte)
+filled-part s new at n byte h e =
+    let k : at + n - at ≡ n = omega arith in
+    let l : length (take n (drop at s)) ≡ n = omega (arith, length-take n (drop at s), length-drop at s) in
+    let part = sets-part (replicate n byte) s at at n (omega arith) (omega (arith, length-replicate n byte)) in
+    rw (e, k, l) (rw (take-replicate n n byte (omega arith)) at part)
 
 -- Of xs, to be stored in s from position p on, ys are left, at position q of the buffer s'.
 pub record Storing (s : List ℕ) (p : ℕ) (xs : List ℕ) (s' : List ℕ) (q : ℕ) (ys : List ℕ) : Type 0 where

@@ -12,7 +12,9 @@ use Rattle.byte_records.proofs.Tests.{and_parts}
 use Rattle.counting_theory.proofs.WellFormed.Limit.{limit-totals}
 use Rattle.counting_theory.specs.Payload.{Payload}
 use Rattle.counting_theory.specs.Trie.{nil, node, total, largest_below, largest_total}
-use Rattle.counting_theory.specs.Label.{Equivalence, by_kind, by_label, Label, Counting, CountingType}
+use Rattle.counting_theory.specs.Label.{Label, Counting, CountingType}
+use Rattle.counting_theory.specs.declared.equivalence.Equivalence.{Equivalence}
+use Rattle.counting_theory.specs.declared.equivalence.Equivalence.TheVariants.{Kind as by_kind, Label as by_label}
 use Rattle.counting_theory.specs.Encoding.{type_records, type_of, Tagged}
 use Rattle.counting_theory.specs.WellFormed.{max_total, counted, field_count, fields_of, field_counts, IsType}
 use Rattle.counting_theory.proofs.Tagged.Parts.{Shape, tagged-parts}

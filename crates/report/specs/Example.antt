@@ -4,7 +4,8 @@ use Rattle.std.specs.Prelude.{◌≡◌, List, [], ◌∷◌, ◌++◌, ℕ}
 use Rattle.value_table.specs.Value.{header}
 use Rattle.counting_theory.specs.Payload.{of_numbers}
 use Rattle.counting_theory.specs.Trie.{nil, node}
-use Rattle.counting_theory.specs.Label.{by_kind, label_of, CountingType}
+use Rattle.counting_theory.specs.Label.{label_of, CountingType}
+use Rattle.counting_theory.specs.declared.equivalence.Equivalence.TheVariants.{Kind as by_kind}
 use Rattle.counting_theory.specs.WellFormed.{max_total}
 use Rattle.report.specs.Decimal.{text}
 use Rattle.report.specs.Line.{rounded, share}

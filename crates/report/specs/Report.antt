@@ -3,7 +3,9 @@ use Rattle.std.specs.Prelude.{◌≡◌, cond, List, [], ◌++◌, ℕ, zero, su
 use Rattle.byte_records.specs.Number.{Bytes}
 use Rattle.value_table.specs.Value.{record_kind}
 use Rattle.counting_theory.specs.Trie.{nil, node, total}
-use Rattle.counting_theory.specs.Label.{Equivalence, by_kind, Label, Counting, CountingType}
+use Rattle.counting_theory.specs.Label.{Label, Counting, CountingType}
+use Rattle.counting_theory.specs.declared.equivalence.Equivalence.{Equivalence}
+use Rattle.counting_theory.specs.declared.equivalence.Equivalence.TheVariants.{Kind as by_kind}
 use Rattle.counting_theory.specs.Encoding.{type_of}
 use Rattle.counting_theory.specs.WellFormed.{depth_inside}
 use Rattle.counting_theory.specs.Answers.{equivalence_number, Written, largest_arena, inferred}

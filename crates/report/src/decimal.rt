@@ -9,18 +9,12 @@ use byte_records::store::put_bytes;
 // The most digits of a number that is printed.
 pub const MAX_DIGITS: usize = 16;
 
-// How often n can be divided by ten until nothing is left; 0 has one digit.
+// How many decimal digits n has; 0 has one.
 pub fn digit_count(n: usize) -> usize
     requires { n ≤ max_total }
     ensures { (result ≡ digit_count n) × (1 ≤ result) × (result ≤ max_digits) }
 {
-    let mut rest = n / 10;
-    let mut d = 1;
-    while 0 < rest {
-        rest /= 10;
-        d += 1;
-    }
-    d
+    n.max(1).ilog10() as usize + 1
 }
 
 pub fn put_byte(out: &mut [u8], at: usize, byte: u8) -> usize
@@ -31,20 +25,20 @@ pub fn put_byte(out: &mut [u8], at: usize, byte: u8) -> usize
     at + 1
 }
 
-pub fn put_text(out: &mut [u8], at: usize, text: &[u8]) -> usize
+pub fn put_text(out: &mut [u8], at: usize, text: &str) -> usize
     requires { at + length text.now ≤ length out.old }
     ensures { TextStored out.old at text.now out.new result }
 {
-    put_bytes(text, out, at);
+    put_bytes(text.as_bytes(), out, at);
     at + text.len()
 }
 
 fn put_spaces(out: &mut [u8], at: usize, count: usize) -> usize
-    requires { (at + count ≤ length out.old) × (count ≤ max_digits) }
+    requires { at + count ≤ length out.old }
     ensures { TextStored out.old at (replicate count 32) out.new result }
 {
-    let spaces: &[u8] = b"                ";
-    put_text(out, at, &spaces[..count])
+    out[at..at + count].fill(b' ');
+    at + count
 }
 
 // The last `count` digits of n, stored from behind.
@@ -53,9 +47,7 @@ fn put_digits(out: &mut [u8], at: usize, n: usize, count: usize) -> usize
     ensures { TextStored out.old at (digits count n) out.new result }
 {
     let mut rest = n;
-    let mut d = count;
-    while 0 < d {
-        d -= 1;
+    for d in (0..count).rev() {
         out[at + d] = b'0' + (rest % 10) as u8;
         rest /= 10;
     }
@@ -69,18 +61,12 @@ pub fn put_number(out: &mut [u8], at: usize, n: usize) -> usize
     put_digits(out, at, n, digit_count(n))
 }
 
-fn padding(width: usize, digits: usize) -> usize
-    ensures { result ≡ width - digits }
-{
-    if digits < width { width - digits } else { 0 }
-}
-
 // Padded on the left with spaces to `width` bytes.
 pub fn put_padded(out: &mut [u8], at: usize, width: usize, n: usize) -> usize
     requires { (at + max_digits ≤ length out.old) × (width ≤ max_digits) × (n ≤ max_total) }
     ensures { TextStored out.old at (padded width n) out.new result × (result ≤ at + max_digits) }
 {
     let count = digit_count(n);
-    let p = put_spaces(out, at, padding(width, count));
+    let p = put_spaces(out, at, width.saturating_sub(count));
     put_digits(out, p, n, count)
 }

@@ -7,11 +7,10 @@ ghost use Rattle.report.specs.Line.{kind_word, rounded as rounded_of, without_fa
 
 use crate::decimal::{MAX_DIGITS, put_byte, put_number, put_padded, put_text};
 use type_arena::type_record;
+use value_table::record;
 
-// The most bytes of a word, and the bytes of each kind's word.
+// The most bytes of a word.
 const WORD_LIMIT: usize = 5;
-
-const WORD_LENGTHS: [usize; 8] = [0, 4, 4, 3, 3, 3, 3, 5];
 
 // The most bytes of a line: four numbers, a word, four spaces and the line feed.
 pub const LINE_LIMIT: usize = 4 * MAX_DIGITS + WORD_LIMIT + 5;
@@ -25,6 +24,7 @@ fn rounded(count: usize, whole: usize) -> usize
 }
 
 // Below the whole, 1000 would mean all and 0 none.
+#[tactic(auto, unfolding(crate::specs::Line::without_false_end))]
 fn without_false_end(thousandths: usize) -> usize
     ensures { result ≡ without_false_end thousandths }
 {
@@ -48,18 +48,19 @@ pub fn share(count: usize, whole: usize) -> usize
 }
 
 // The word of a kind; kinds 1 to 7 have one.
-fn put_kind(out: &mut [u8], at: usize, kind: u8) -> usize
-    requires { at + word_limit ≤ length out.old }
-    ensures { TextStored out.old at (kind_word kind) out.new result × (result ≤ at + word_limit) }
+fn kind_word(kind: u8) -> &'static str
+    ensures { (result.now ≡ kind_word kind) × (length result.now ≤ word_limit) }
 {
-    if type_record::FIELD < kind {
-        return at;
+    match kind {
+        1 => "null",
+        2 => "bool",
+        3 => "num",
+        4 => "str",
+        record::RECORD => "rec",
+        record::ARRAY => "arr",
+        type_record::FIELD => "field",
+        _ => "",
     }
-    let words: &[u8] = b"     null bool num  str  rec  arr  field";
-    let k = kind as usize;
-    let from = WORD_LIMIT * k;
-    let to = from + WORD_LENGTHS[k];
-    put_text(out, at, &words[from..to])
 }
 
 // A number and the byte behind it.
@@ -71,26 +72,33 @@ pub fn put_number_and(out: &mut [u8], at: usize, n: usize, byte: u8) -> usize
     put_byte(out, p, byte)
 }
 
-// The line of a type record.
-pub fn put_line(
-    out: &mut [u8],
-    at: usize,
-    depth: usize,
-    kind: u8,
-    key: usize,
-    width: usize,
-    count: usize,
-    share: usize,
-) -> usize
-    requires line_limit_in_bounds { at + line_limit ≤ length out.old }
-    requires depth_le_max_total { (depth ≤ max_total) × (key ≤ max_total) × (width ≤ max_digits) × (count ≤ max_total) × (share ≤ max_total) }
-    ensures { TextStored out.old at (line_of depth kind key width count share) out.new result × (result ≤ at + line_limit) }
-{
-    let word = put_number_and(out, at, depth, b' ');
-    let behind_word = put_kind(out, word, kind);
-    let second = put_byte(out, behind_word, b' ');
-    let third = put_number_and(out, second, key, b' ');
-    let behind_count = put_padded(out, third, width, count);
-    let last = put_byte(out, behind_count, b' ');
-    put_number_and(out, last, share, b'\n')
+// What stands in the line of a type record, its count padded to `width` bytes.
+#[derive(Clone, Copy)]
+pub struct Line {
+    pub depth: usize,
+    pub kind: u8,
+    pub key: usize,
+    pub width: usize,
+    pub count: usize,
+    pub share: usize,
+}
+
+impl Line {
+    pub fn put(self, out: &mut [u8], at: usize) -> usize
+        requires room { at + line_limit ≤ length out.old }
+        requires depth { self.depth ≤ max_total }
+        requires key { self.key ≤ max_total }
+        requires width { self.width ≤ max_digits }
+        requires count { self.count ≤ max_total }
+        requires share { self.share ≤ max_total }
+        ensures { TextStored out.old at (line_of self.depth self.kind self.key self.width self.count self.share) out.new result × (result ≤ at + line_limit) }
+    {
+        let word = put_number_and(out, at, self.depth, b' ');
+        let behind_word = put_text(out, word, kind_word(self.kind));
+        let second = put_byte(out, behind_word, b' ');
+        let third = put_number_and(out, second, self.key, b' ');
+        let behind_count = put_padded(out, third, self.width, self.count);
+        let last = put_byte(out, behind_count, b' ');
+        put_number_and(out, last, self.share, b'\n')
+    }
 }

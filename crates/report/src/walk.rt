@@ -7,17 +7,11 @@ ghost use Rattle.report.specs.Inside.Room.{max_digits, TextStored, line_limit};
 ghost use Rattle.report.specs.Report.{lines_of, program_equivalence};
 ghost use Rattle.report.specs.Inside.Walk.{type_in, line_at, depth_in, whole_in, largest_from, Inside, PrintedRun, Printable};
 
-use crate::line::{put_line, share};
+use crate::line::{Line, share};
 use type_arena::addend::union_total;
 use type_arena::type_record;
 use type_arena::type_record::{count_at, key_at, kind_at, span_at};
 use value_table::record;
-
-fn larger(x: usize, y: usize) -> usize
-    ensures { result ≡ max x y }
-{
-    if x < y { y } else { x }
-}
 
 // The largest count in the first n records.
 pub fn largest_count(b: &[u8], n: usize) -> usize
@@ -26,7 +20,7 @@ pub fn largest_count(b: &[u8], n: usize) -> usize
 {
     let mut largest = 0;
     for i in 0..n {
-        largest = larger(largest, count_at(b, i));
+        largest = largest.max(count_at(b, i));
     }
     largest
 }
@@ -57,57 +51,60 @@ fn depth_inside(b: &[u8], p: usize, depth: usize) -> usize
     }
 }
 
-// The line of record p.
-fn put_record(
-    b: &[u8],
-    p: usize,
-    depth: usize,
-    whole: usize,
-    width: usize,
-    out: &mut [u8],
-    at: usize,
-) -> usize
-    requires { Printable b.now p whole × (depth ≤ max_total) × (width ≤ max_digits) × (at + line_limit ≤ length out.old) }
-    ensures { TextStored out.old at (line_at b.now p depth whole width) out.new result × (result ≤ at + line_limit) }
-{
-    let count = count_at(b, p);
-    let thousandths = share(count, whole);
-    put_line(
-        out,
-        at,
-        depth,
-        kind_at(b, p),
-        key_at(b, p),
-        width,
-        count,
-        thousandths,
-    )
+// What the lines of a union, or of the fields of a record, have in common: their depth, what their shares are against, and the width of
+// their counts.
+#[derive(Clone, Copy)]
+pub struct Run {
+    pub depth: usize,
+    pub whole: usize,
+    pub width: usize,
 }
 
-// The lines of records i to end.
-pub fn put_run(
-    b: &[u8],
-    i: usize,
-    end: usize,
-    depth: usize,
-    whole: usize,
-    width: usize,
-    out: &mut [u8],
-    at: usize,
-) -> usize
-    requires { PrintedRun program_equivalence b.now i end depth whole × (width ≤ max_digits) × (at + line_limit * (end - i) ≤ length out.old) }
-    ensures { TextStored out.old at (lines_of width depth whole (type_in program_equivalence b.now i end)) out.new result
-        × (result ≤ at + line_limit * (end - i)) }
-{
-    let mut p = i;
-    let mut to = at;
-    while p < end {
-        let inside = put_record(b, p, depth, whole, width, out, to);
-        let next = p + span_at(b, p);
-        let depth_in = depth_inside(b, p, depth);
-        let whole_in = whole_inside(b, p, next);
-        to = put_run(b, p + 1, next, depth_in, whole_in, width, out, inside);
-        p = next;
+impl Run {
+    // The same of the records inside record p, which end at `end`.
+    fn inside(self, b: &[u8], p: usize, end: usize) -> Run
+        requires inside { Inside program_equivalence b.now p end }
+        requires depth { self.depth ≤ max_total }
+        ensures { result ≡ record { depth = depth_in b.now p self.depth; whole = whole_in program_equivalence b.now p; width = self.width } }
+    {
+        Run {
+            depth: depth_inside(b, p, self.depth),
+            whole: whole_inside(b, p, end),
+            width: self.width,
+        }
     }
-    to
+
+    // The line of record p.
+    fn put_record(self, b: &[u8], p: usize, out: &mut [u8], at: usize) -> usize
+        requires { Printable b.now p self.whole × (self.depth ≤ max_total) × (self.width ≤ max_digits) × (at + line_limit ≤ length out.old) }
+        ensures { TextStored out.old at (line_at b.now p self.depth self.whole self.width) out.new result × (result ≤ at + line_limit) }
+    {
+        let count = count_at(b, p);
+        let line = Line {
+            depth: self.depth,
+            kind: kind_at(b, p),
+            key: key_at(b, p),
+            width: self.width,
+            count,
+            share: share(count, self.whole),
+        };
+        line.put(out, at)
+    }
+
+    // The lines of records i to end.
+    pub fn put(self, b: &[u8], i: usize, end: usize, out: &mut [u8], at: usize) -> usize
+        requires { PrintedRun program_equivalence b.now i end self.depth self.whole × (self.width ≤ max_digits) × (at + line_limit * (end - i) ≤ length out.old) }
+        ensures { TextStored out.old at (lines_of self.width self.depth self.whole (type_in program_equivalence b.now i end)) out.new result
+            × (result ≤ at + line_limit * (end - i)) }
+    {
+        let mut p = i;
+        let mut to = at;
+        while p < end {
+            let inside = self.put_record(b, p, out, to);
+            let next = p + span_at(b, p);
+            to = self.inside(b, p, next).put(b, p + 1, next, out, inside);
+            p = next;
+        }
+        to
+    }
 }

@@ -6,8 +6,8 @@ use std::env::{Env, FillError};
 use std::fs::File;
 use std::io;
 use std::io::Read;
-use text_reader::call;
-use value_table::record;
+use text_reader::call::read_text;
+use value_table::{answer_of, record};
 
 // One byte more than a text or a book may have, so that longer input is seen to be too long.
 const INPUT_LENGTH: usize = record::MAX_LENGTH + 1;
@@ -18,7 +18,7 @@ fn print_refusal(rt: &HostRuntime, number: u64, place: u64) -> io::Result<()> {
 
 fn write_table(rt: &HostRuntime, text: &[u8], book: &[u8]) -> io::Result<()> {
     let mut table = [0u8; record::MAX_LENGTH];
-    let answer = call::answer_of(call::read_text(text, book, &mut table));
+    let answer = answer_of(read_text(text, book, &mut table));
     if answer.number != 0 {
         return print_refusal(rt, answer.number, answer.place);
     }

@@ -16,7 +16,8 @@ use Rattle.value_table.specs.Acceptance.{Table}
 use Rattle.value_table.proofs.Acceptance.{accepts, placed-up-to}
 use Rattle.value_table.proofs.LargestKey.{judges-alike, accepts-up-to}
 use Rattle.counting_theory.specs.Trie.{size}
-use Rattle.counting_theory.specs.Label.{by_label, CountingType}
+use Rattle.counting_theory.specs.Label.{CountingType}
+use Rattle.counting_theory.specs.declared.equivalence.Equivalence.TheVariants.{Label as by_label}
 use Rattle.counting_theory.specs.Raw.{profile_of}
 use Rattle.counting_theory.specs.Encoding.{type_size, encode}
 use Rattle.counting_theory.specs.Answers.{turned_down, stored, bad_buffers, inferred_from, inferred}

@@ -12,7 +12,8 @@ use borrow.Author.Tests.{eqb-true, eq-eqb}
 use Rattle.value_table.specs.Value.{record_kind}
 use Rattle.counting_theory.specs.Payload.{Payload}
 use Rattle.counting_theory.specs.Trie.{nil, node, size}
-use Rattle.counting_theory.specs.Label.{by_label, Label, listed, CountingType}
+use Rattle.counting_theory.specs.Label.{Label, listed, CountingType}
+use Rattle.counting_theory.specs.declared.equivalence.Equivalence.TheVariants.{Label as by_label}
 use Rattle.counting_theory.specs.Encoding.{type_size, type_kind, encode, sibling_keys, Tagged}
 use Rattle.counting_theory.proofs.Label.{keys-eq}
 use Rattle.counting_theory.proofs.Tagged.Parts.{holds_fields, tagged-parts}

@@ -11,39 +11,45 @@ use borrow.Author.Tests.{lt-ltb, le-ltb}
 use Rattle.byte_records.specs.Number.{zeros}
 use Rattle.byte_records.proofs.Clear.{cleared_from}
 use Rattle.value_table.specs.Value.{max_length, KeysUpTo}
-use Rattle.value_table.specs.declared.Fault.{Fault}
-use Rattle.value_table.specs.Outcome.{Outcome, accepted, refused}
+use Rattle.value_table.specs.declared.Fault.TheVariants as faults
+use Rattle.value_table.specs.declared.TableError.{TableError}
+use Rattle.value_table.specs.declared.TableError.TheVariants.{Length as BadLength, Faulty}
+use Rattle.value_table.specs.Outcome.{Outcome, accepted}
 use Rattle.value_table.specs.Outcome as table
 use Rattle.value_table.specs.Judged.{judged_up_to, messages}
 use Rattle.counting_theory.specs.Trie.{size}
-use Rattle.counting_theory.specs.Label.{by_label, CountingType}
+use Rattle.counting_theory.specs.Label.{CountingType}
+use Rattle.counting_theory.specs.declared.equivalence.Equivalence.TheVariants.{Label as by_label}
 use Rattle.counting_theory.specs.Raw.{profile_of}
 use Rattle.counting_theory.specs.Encoding.{type_size, encode}
 use Rattle.counting_theory.specs.Answers.{bad_buffers}
 use Rattle.counting_theory.proofs.Encoding.Header.{length-encode}
 use Rattle.counting_theory.proofs.Tagged.Profile.{tagged-profile}
-use Rattle.answers.specs.declared.Answered.TheVariants.{Accepted, Refused}
+use Rattle.std.specs.Prelude.{Result, Ok, Err}
+use Rattle.std.specs.Result.{result_unwrap_or}
 use Rattle.answers.specs.declared.Refusal.{Refusal}
-use Rattle.answers.specs.Outcomes.{number_of_refusal, outcome_of}
+use Rattle.answers.specs.Outcomes.{refusal_of_table}
 use Rattle.answers.proofs.Exact.{Exact}
-use Rattle.answers.proofs.Fronts.{front-refused, fault-suc, front-cleared, sets-front}
+use Rattle.answers.proofs.Fronts.{refused_by, front-refused, front-cleared, sets-front}
 use Rattle.inference.specs.Inside.Inferring.{AcceptedTable, Grown}
 use Rattle.key_word.specs.Word.{word_bits}
 use Rattle.tag_bus.specs.declared.Filled.{Filled}
 use Rattle.tag_bus.specs.Entries.{entry_size, entries, entry_count}
 use Rattle.tag_bus.specs.TagBus.{TagBus, no_tag_bus, bad_entries_length, stored_with_entries, tag_bus_from, inferred_tag_bus, left_with_entries, leaves_tag_bus}
 use Rattle.tag_bus.specs.Inside.Flat.{entries_from, WordRecords}
-use Rattle.tag_bus.specs.Inside.Front.{FilledInFront}
+use Rattle.tag_bus.specs.Inside.Front.{records_of, entries_of, FilledInFront}
 use Rattle.tag_bus.proofs.Labels.{labels-profile, labels-fit}
 use Rattle.tag_bus.proofs.Worded.{worded-profile}
 use Rattle.tag_bus.proofs.Exact.{entries-length}
 use Rattle.tag_bus.proofs.TableKeys.{table-keys}
 use Rattle.tag_bus.proofs.Flat.{Held, entries-flat, word-records}
 
-pub filled-refused : {t : TagBus} (why : Refusal) (place : ℕ) {filled : Filled} (arena entries : List ℕ) → t ≡ no_tag_bus (number_of_refusal why) place →
-    (filled.answered ≡ Refused why place) × (filled.used ≡ 0) → FilledInFront t filled arena entries
-filled-refused why place arena entries e r =
-    rw e (record { written = rw r.0 (front-refused why place arena refl); told = r.1; bytes = refl })
+-- what a call writes that is refused
+abbrev pub nothing_filled : Refusal → TagBus
+nothing_filled why = record { written = refused_by why; entries = [] }
+
+pub filled-refused : {t : TagBus} (why : Refusal) (arena entries : List ℕ) → t ≡ nothing_filled why → FilledInFront t (Err why) arena entries
+filled-refused why arena entries e = rw e (record { written = front-refused why arena refl; told = refl; bytes = refl })
 
 module _ (f : CountingType) (arena room : ℕ) where
   abbrev both : TagBus
@@ -88,7 +94,7 @@ module _ (t : List ℕ) (table : AcceptedTable t) (keys : KeysUpTo word_bits t) 
   grown-entries = rw grown.count (sym (entries-flat b 0 false type grown.free held))
 
   pub filled-stored : (before : List ℕ) {arena k : ℕ} {es : List ℕ} → length b ≡ arena → k ≡ length (entries_from b n 0) → k ≤ length before → es ≡ sets before 0 (entries_from b n 0) →
-      FilledInFront (stored_with_entries arena (length before) type) (record { answered = Accepted n; used = k }) b es
+      FilledInFront (stored_with_entries arena (length before) type) (Ok (record { records = n; entries = k })) b es
   filled-stored before {arena} l c h e =
       let m : length (entries type) ≤ length before = omega (arith, c, ap length grown-entries) in
       rw (stored-both type arena (length before) (omega (arith, long)) m)
@@ -98,10 +104,16 @@ module _ (t : List ℕ) (table : AcceptedTable t) (keys : KeysUpTo word_bits t) 
         bytes = ap (take (length (entries type))) (e ∙ ap (sets before 0) grown-entries) ∙ sets-front before (entries type) m;
       })
 
--- a table with a fault is refused to the call
-pub fault-refused : (fault : Fault) (place : ℕ) (t : List ℕ) (arena room : ℕ) →
-    tag_bus_from (refused (table.number_of_fault fault) place) t arena room ≡ no_tag_bus (table.number_of_fault fault) place
-fault-refused fault place t arena room = rw (fault-suc fault) refl
+-- a table that is refused is refused to the call
+pub table-refused : (error : TableError) (t : List ℕ) (arena room : ℕ) → tag_bus_from (table.refusal_of error) t arena room ≡ nothing_filled (refusal_of_table error)
+table-refused BadLength t arena room = refl
+table-refused (Faulty faults.Kind place) t arena room = refl
+table-refused (Faulty faults.Span place) t arena room = refl
+table-refused (Faulty faults.Key place) t arena room = refl
+table-refused (Faulty faults.Large place) t arena room = refl
+table-refused (Faulty faults.Repeat place) t arena room = refl
+table-refused (Faulty faults.Fields place) t arena room = refl
+table-refused (Faulty faults.Depth place) t arena room = refl
 
 -- the answer tells how many records the type's bytes have
 exact-choice : (t : Bool) (v w : TagBus) → Exact v.written → Exact w.written → Exact (cond t v w).written
@@ -125,17 +137,29 @@ unfolding inferred_tag_bus
 exact-tag-bus t arena work room =
     exact-choice (bad_buffers (length t) arena work || bad_entries_length room) (no_tag_bus 1 0) _ refl (exact-from (judged_up_to word_bits t) t arena room)
 
-module _ {t : TagBus} {filled : Filled} {arena entries : List ℕ} (h : FilledInFront t filled arena entries) where
-  pub filled-room : filled.used ≤ length entries
+-- what the code reads of the fronts
+abbrev pub nothing : Filled
+nothing = record { records = 0; entries = 0 }
+
+pub records-read : (filled : Result Filled Refusal) {front : Filled} → front ≡ result_unwrap_or filled nothing → front.records ≡ result_unwrap_or (records_of filled) 0
+records-read (Ok filled) e = ap (λ front. front.records) e
+records-read (Err why) e = ap (λ front. front.records) e
+
+pub entries-read : (filled : Result Filled Refusal) {front : Filled} → front ≡ result_unwrap_or filled nothing → front.entries ≡ entries_of filled
+entries-read (Ok filled) e = ap (λ front. front.entries) e
+entries-read (Err why) e = ap (λ front. front.entries) e
+
+module _ {t : TagBus} {filled : Result Filled Refusal} {arena entries : List ℕ} (h : FilledInFront t filled arena entries) where
+  pub filled-room : entries_of filled ≤ length entries
   filled-room =
       let e : length (take (length t.entries) entries) ≡ length t.entries = ap length h.bytes in
       omega (arith, h.told, e, length-take (length t.entries) entries)
 
   -- both cleared behind what was written, and a working buffer of zeros
   pub filled-cleared : Exact t.written → (before cleared work zeroed room emptied : List ℕ) →
-      length arena ≡ length before → cleared ≡ cleared_from arena (type_size * (outcome_of filled.answered).count) → zeroed ≡ zeros (length work) →
-      length entries ≡ length room → emptied ≡ cleared_from entries filled.used →
-      left_with_entries filled.answered cleared zeroed emptied ≡ leaves_tag_bus t before work room
+      length arena ≡ length before → cleared ≡ cleared_from arena (type_size * result_unwrap_or (records_of filled) 0) → zeroed ≡ zeros (length work) →
+      length entries ≡ length room → emptied ≡ cleared_from entries (entries_of filled) →
+      left_with_entries (records_of filled) cleared zeroed emptied ≡ leaves_tag_bus t before work room
   filled-cleared exact before cleared work zeroed room emptied l e z m k =
       let left = front-cleared exact h.written before cleared work zeroed l e z in
       let es : emptied ≡ t.entries ++ zeros (length room - length t.entries) = k ∙ rw (h.told, h.bytes, m) refl in

@@ -10,7 +10,8 @@ use lib.Dec.{eqb}
 use Rattle.value_table.specs.Value.{Head, record_kind, Values, none, value, Proper, ValidAt, Valid}
 use Rattle.counting_theory.specs.Payload.{Payload, one}
 use Rattle.counting_theory.specs.Trie.{nil, node, size, insert_step, insert, add}
-use Rattle.counting_theory.specs.Label.{by_label, Label, field_kind, compare_label, Counting, CountingType}
+use Rattle.counting_theory.specs.Label.{Label, field_kind, compare_label, Counting, CountingType}
+use Rattle.counting_theory.specs.declared.equivalence.Equivalence.TheVariants.{Label as by_label}
 use Rattle.counting_theory.specs.Raw.{class_of, addend, raw, profile_of}
 use Rattle.type_arena.proofs.Nodes.{HeadsFit}
 

@@ -8,7 +8,8 @@ use native.Mathlib.Omega.{arith}
 use borrow.Author.Tests.{eq-eqb, ne_eqb, le-leb}
 use Rattle.value_table.specs.Value.{record_kind, Values, member, Distinct, Valid}
 use Rattle.counting_theory.specs.Trie.{nil, node, Before, Sorted}
-use Rattle.counting_theory.specs.Label.{by_label, Label, listed, field_label, Counting, CountingType}
+use Rattle.counting_theory.specs.Label.{Label, listed, field_label, Counting, CountingType}
+use Rattle.counting_theory.specs.declared.equivalence.Equivalence.TheVariants.{Label as by_label}
 use Rattle.counting_theory.specs.Raw.{insert_key, ascending, raw, profile_of}
 use Rattle.counting_theory.specs.Encoding.{sibling_keys, Tagged}
 use Rattle.counting_theory.proofs.Label.{counting-laws, compare-fields, kind-eq}

@@ -1,16 +1,17 @@
 -- Change 6 of document 02: the tag-bus inference, always under label and with keys 1 to 64. What it answers and leaves, for every input,
 -- and that its type is that of call 2.
-use Rattle.std.specs.Prelude.{◌≡◌, Bool, false, cond, not, ◌||◌, List, [], ◌++◌, ℕ, zero, suc, ◌-◌, ◌*◌, ◌%◌, ◌≤◌, eqb, ltb, length}
+use Rattle.std.specs.Prelude.{Result, ◌≡◌, Bool, false, cond, not, ◌||◌, List, [], ◌++◌, ℕ, zero, suc, ◌-◌, ◌*◌, ◌%◌, ◌≤◌, eqb, ltb, length}
 use Rattle.byte_records.specs.Number.{Bytes, zeros}
 use Rattle.value_table.specs.Value.{max_length, KeysUpTo}
 use Rattle.value_table.specs.Outcome.{Outcome, accepted}
 use Rattle.value_table.specs.Judged.{judged_up_to, messages}
 use Rattle.counting_theory.specs.Trie.{size}
-use Rattle.counting_theory.specs.Label.{by_label, CountingType}
+use Rattle.counting_theory.specs.Label.{CountingType}
+use Rattle.counting_theory.specs.declared.equivalence.Equivalence.TheVariants.{Label as by_label}
 use Rattle.counting_theory.specs.Raw.{profile_of}
 use Rattle.counting_theory.specs.Encoding.{type_size, encode}
 use Rattle.counting_theory.specs.Answers.{equivalence_number, Written, turned_down, Left, leaves, bad_buffers, inferred}
-use Rattle.answers.specs.declared.Answered.{Answered}
+use Rattle.answers.specs.declared.Refusal.{Refusal}
 use Rattle.answers.specs.Outcomes.{left_by}
 use Rattle.key_word.specs.Word.{word_bits}
 use Rattle.tag_bus.specs.Entries.{entry_size, entries, entry_count, Exact}
@@ -47,7 +48,7 @@ pub record LeftWithEntries : Type 0 where
   pub left : Left
   pub entries : List ℕ
 
-abbrev pub left_with_entries : Answered → List ℕ → List ℕ → List ℕ → LeftWithEntries
+abbrev pub left_with_entries : Result ℕ Refusal → List ℕ → List ℕ → List ℕ → LeftWithEntries
 left_with_entries answered arena work entries = record { left = left_by answered arena work; entries = entries }
 
 -- behind the last entry are zeros

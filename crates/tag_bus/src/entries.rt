@@ -6,8 +6,9 @@ ghost use Rattle.key_word.specs.Word.{word};
 ghost use Rattle.tag_bus.specs.Entries.{entry_size, entry_of};
 ghost use Rattle.tag_bus.specs.Inside.Flat.{entries_from, WordRecord, WordRecords, EntriesPut};
 
-use byte_records::store::store64;
+use byte_records::store::store_number;
 use key_word::{number_of_keys, with_key};
+use type_arena::record_store::NoRoom;
 use type_arena::type_record::{key_at, kind_at, span_at};
 use value_table::record;
 
@@ -15,13 +16,6 @@ use value_table::record;
 pub const ENTRY_SIZE: usize = 16;
 
 const NUMBER_OFFSET: usize = 8;
-
-// The bytes of the entries that were written, or that there was no room for them.
-#[derive(Clone, Copy)]
-pub enum Entries {
-    Written(usize),
-    Full,
-}
 
 // The keys of the fields inside record i as a word.
 fn word_at(arena: &[u8], i: usize) -> u64
@@ -43,26 +37,24 @@ fn put_entry(entries: &mut [u8], at: usize, w: u64)
     requires { at + entry_size ≤ length entries.old }
     ensures { entries.new ≡ sets entries.old at (entry_of w) }
 {
-    store64(entries, at, w as usize);
-    store64(entries, at + NUMBER_OFFSET, number_of_keys(w));
+    store_number::<8>(entries, at, w as usize);
+    store_number::<8>(entries, at + NUMBER_OFFSET, number_of_keys(w));
 }
 
-// Stores the entries of the first n records, as long as there is room.
-pub fn put_entries(arena: &[u8], n: usize, entries: &mut [u8]) -> Entries
+// Stores the entries of the first n records, as long as there is room, and answers their bytes.
+pub fn put_entries(arena: &[u8], n: usize, entries: &mut [u8]) -> Result<usize, NoRoom>
     requires { WordRecords arena.now n }
     ensures { EntriesPut (entries_from arena.now n 0) entries.old result entries.new }
 {
     let mut at = 0;
-    let mut i = 0;
-    while i < n {
+    for i in 0..n {
         if kind_at(arena, i) == record::RECORD {
             if entries.len() - at < ENTRY_SIZE {
-                return Entries::Full;
+                return Err(NoRoom);
             }
             put_entry(entries, at, word_at(arena, i));
             at += ENTRY_SIZE;
         }
-        i += 1;
     }
-    Entries::Written(at)
+    Ok(at)
 }

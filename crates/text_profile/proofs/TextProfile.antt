@@ -15,7 +15,8 @@ use Rattle.value_table.proofs.TableLayout.{length-encode, length-fits}
 use Rattle.value_table.proofs.Acceptance.{unique}
 use Rattle.json_theory.specs.Reader.{read_of, fine}
 use Rattle.json_theory.proofs.Promises.{reads-text, reads-only-text, reads-tables, one-reading}
-use Rattle.counting_theory.specs.Label.{Equivalence, by_kind, by_label}
+use Rattle.counting_theory.specs.declared.equivalence.Equivalence.{Equivalence}
+use Rattle.counting_theory.specs.declared.equivalence.Equivalence.TheVariants.{Kind as by_kind, Label as by_label}
 use Rattle.counting_theory.specs.Raw.{profile_of}
 use Rattle.counting_theory.specs.WellFormed.{bad_type_length}
 use Rattle.counting_theory.specs.Answers.{equivalence_of, equivalence_number, inferred_under, inferred, stored}

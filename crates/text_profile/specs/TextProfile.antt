@@ -5,7 +5,7 @@ use Rattle.value_table.specs.Value.{Values, record_size}
 use Rattle.json_theory.specs.Grammar.{Text}
 use Rattle.json_theory.specs.Book.{key_number}
 use Rattle.json_theory.specs.Reader.{Read, read}
-use Rattle.counting_theory.specs.Label.{Equivalence}
+use Rattle.counting_theory.specs.declared.equivalence.Equivalence.{Equivalence}
 use Rattle.counting_theory.specs.Raw.{profile_of}
 use Rattle.counting_theory.specs.WellFormed.{bad_type_length}
 use Rattle.counting_theory.specs.Answers.{equivalence_number, inferred, stored}

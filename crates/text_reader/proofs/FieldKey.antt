@@ -9,17 +9,16 @@ use lib.ListN.{length, get_or, set}
 use Rattle.value_table.specs.Value.{max_fields, Values, none, count, keys, member}
 use Rattle.json_theory.specs.Grammar.{object, is_space}
 use Rattle.json_theory.specs.Parts.{plain}
-use Rattle.json_theory.specs.Steps.{Stack, base, level, State, first, next_key, in_key, colon, item, step}
+use Rattle.json_theory.specs.Steps.{Stack, level, State, first, next_key, in_key, colon, item, step}
 use Rattle.json_theory.specs.Book.{book_records, key_number}
 use Rattle.json_theory.specs.Reader.{depth, written, listed_fault, fault_at, limit_fault}
-use Rattle.json_items.specs.Inside.Items.{KeyTo}
+use Rattle.json_items.specs.Inside.Items.{KeyTo, ColonTo}
 use Rattle.text_reader.specs.Inside.Marks.{marks_of, slot_of, Slot, MarksHold}
-use Rattle.text_reader.specs.Inside.Progress.{reads_from, AwaitsItem, first_item, field, Ready}
-use Rattle.text_reader.specs.Inside.Items.{KeyRead, LevelIs, LevelFits, BehindColon, FieldKeyIs, KeyPlace}
+use Rattle.text_reader.specs.Inside.Progress.{reads_from, AwaitsItem, first_item, field, Ready, LevelIs}
+use Rattle.text_reader.specs.Inside.Items.{KeyRead, LevelFits, FieldKeyIs}
 use Rattle.text_reader.specs.declared.Level.{Level}
-use Rattle.text_reader.specs.declared.field.Key.{Key}
-use Rattle.text_reader.specs.declared.field.Key.TheVariants.{Found, Wrong}
-use Rattle.json_theory.specs.Inside.Scanning.{byte_at}
+use Rattle.std.proofs.Common.{Ok}
+use Rattle.json_theory.specs.Inside.Scanning.{byte_at, Breaks}
 use Rattle.json_theory.proofs.Scanning.{byte_inside}
 use Rattle.json_items.proofs.Leads.{reads_on, reads-fault, reads_end, either_way}
 use borrow.Author.Tests.{ne_eqb, le-leb, lt-leb}
@@ -86,13 +85,9 @@ module _ (text book : List ℕ) (room p : ℕ) where
       (λ l. reads_end text p (key_number book) room (next_key (level object key done outer)) l)
 
 -- a key that was read, and its colon
-pub key-colon : (text book seen : List ℕ) (room p : ℕ) (σ : State) (around : Stack) (k q : ℕ) (r : Key) → KeyRead text book seen room σ p around k (colon k around) q →
-    BehindColon text k around q r → FieldKeyIs text book seen room σ p around r
-key-colon text book seen room p σ around k q (Found j n) h b =
-    let e = b.0 in
-    (record { reads = h.reads ∙ b.1.leads (key_number book) room ∙ rw (sym e) refl; marks = rw e h.marks }, b.1.byte)
-key-colon text book seen room p σ around k q (Wrong why n) h b = h.reads ∙ b.1 (key_number book) room ∙ rw b.0 refl
+module _ (text book seen : List ℕ) (room p : ℕ) (σ : State) (around : Stack) (k q : ℕ) (h : KeyRead text book seen room σ p around k (colon k around) q) where
+  pub key-colon : (n : ℕ) → ColonTo text k around q n → FieldKeyIs text book seen room σ p around (Ok (record { number = k; end = n }))
+  key-colon n t = (record { reads = h.reads ∙ t.leads (key_number book) room; marks = h.marks }, t.byte)
 
-pub colon-place : (text : List ℕ) (k p q : ℕ) → p + 1 ≤ q → (r : Key) → ((around : Stack) → BehindColon text k around q r) → KeyPlace text p r
-colon-place text k p q l (Found j n) h = let t = (h (base none)).1 in (omega (arith, t.from), t.upto)
-colon-place text k p q l (Wrong why n) h = tt
+  pub no_colon : (n : ℕ) → Breaks text (colon k around) q n → reads_from text book room σ p ≡ fault_at 12 n
+  no_colon n b = h.reads ∙ b (key_number book) room

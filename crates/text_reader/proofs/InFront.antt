@@ -21,11 +21,14 @@ use Rattle.json_theory.specs.Reader.{Read, Reading, fine, refused_read, read_of,
 use Rattle.text_reader.specs.Answer.{outcome_of_text, read_by}
 use Rattle.text_reader.specs.Inside.Laid.{laid}
 use Rattle.text_reader.specs.Inside.Items.{AllRead, ReadInFront}
-use Rattle.text_reader.specs.declared.call.TextAnswer.{TextAnswer}
-use Rattle.text_reader.specs.declared.call.TextAnswer.TheVariants.{Read as Taken}
+use Rattle.std.proofs.Common.{Option, Some, None, Result, Ok, Err}
+use Rattle.std.specs.Option.{ok_or}
+use Rattle.key_book.specs.Inside.Records.{MadeOf}
+use Rattle.text_reader.specs.declared.call.TextError.{TextError}
+use Rattle.text_reader.specs.declared.call.TextError.TheVariants.{Book}
 
 -- a refusal leaves nothing in front
-pub refused-front : (r : Read) (number place : ℕ) (answer : TextAnswer) (table : List ℕ) (n : ℕ) → length table ≡ n → r ≡ refused_read number place n →
+pub refused-front : (r : Read) (number place : ℕ) (answer : Result ℕ TextError) (table : List ℕ) (n : ℕ) → length table ≡ n → r ≡ refused_read number place n →
     outcome_of_text answer ≡ (refused_read number place n).outcome → ReadInFront r answer table
 refused-front r number place answer table n len e o =
     let z : n ≡ length table - 0 = omega arith in
@@ -33,7 +36,7 @@ refused-front r number place answer table n len e o =
 
 -- the messages stand in front
 pub taken-front : (r : Read) (n : ℕ) (text book table : List ℕ) (room count : ℕ) (a : AllRead text book table room count) → length table ≡ n →
-    r ≡ read_of n (fine a.messages) → ReadInFront r (Taken count) table
+    r ≡ read_of n (fine a.messages) → ReadInFront r (Ok count) table
 unfolding laid
 taken-front r n text book table room count a len e =
     let ms = a.messages in
@@ -47,7 +50,7 @@ taken-front r n text book table room count a len e =
     })
 
 -- clearing the rest gives the table
-pub front_read : (r : Read) (answer : TextAnswer) (table table' : List ℕ) → ReadInFront r answer table →
+pub front_read : (r : Read) (answer : Result ℕ TextError) (table table' : List ℕ) → ReadInFront r answer table →
     table' ≡ take (record_size * r.outcome.count) table ++ zeros (length table - record_size * r.outcome.count) → read_by answer table' ≡ r
 front_read r answer table table' h e =
     let k = record_size * r.outcome.count in
@@ -75,3 +78,12 @@ lengths-low text book n h =
     let q = or_parts (ltb max_length (length text)) (bad_book_length (length book)) p.0 in
     let b = or_parts (not (eqb (length book % book_size) 0)) (ltb max_length (length book)) q.1 in
     (ltb-false max_length (length text) q.0, ltb-false max_length (length book) b.1, ((length-fits n).0 p.1).1)
+
+-- a book that is made is good, and one that is not is bad
+pub made : (b : List ℕ) (found : Option (List ℕ)) (book : List ℕ) → MadeOf b found → found ≡ Some book → (book ≡ b) × (bad_book b ≡ false)
+made b None book m e = absurd (cc)
+made b (Some x) book m e = let z : x ≡ book = cc in rw z at m
+
+pub not-made : (b : List ℕ) (found : Option (List ℕ)) (error : TextError) → MadeOf b found → ok_or found Book ≡ Err error → (bad_book b ≡ true) × (error ≡ Book)
+not-made b None error m e = let z : Book ≡ error = cc in (m, sym z)
+not-made b (Some x) error m e = absurd (cc)

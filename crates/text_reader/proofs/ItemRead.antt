@@ -2,8 +2,7 @@
 use mathlib.Core.Path.{◌≡◌, refl, sym, ◌∙◌}
 use mathlib.Core.Bool.{true, false, true≢false}
 use mathlib.Core.List.{List, []}
-use Prim.Native.Nat.{ℕ, ◌≤◌}
-use native.Mathlib.Omega.{arith}
+use Prim.Native.Nat.{ℕ}
 use Rattle.value_table.specs.Value.{Values, none}
 use Rattle.json_theory.specs.Grammar.{array, object, is_space}
 use Rattle.json_theory.specs.Steps.{Stack, base, level, State, need}
@@ -11,11 +10,12 @@ use Rattle.json_theory.specs.Book.{book_records}
 use Rattle.json_theory.specs.Inside.Scanning.{byte_at}
 use Rattle.text_reader.specs.Inside.Marks.{MarksHold}
 use Rattle.text_reader.specs.Inside.Progress.{AwaitsItem, message, first_item, element, field, AwaitsValue, message_value, first_element, needed, Ready, in_object}
-use Rattle.text_reader.specs.Inside.Items.{FieldKeyIs, ItemKey, ItemKeyIs, ValueIs, ValuePlace, ItemIs}
+use Rattle.text_reader.specs.Inside.Items.{FieldKeyIs, ItemKey, ItemKeyIs, ValueIs, ItemIs}
+use Rattle.std.proofs.Common.{Result, Ok, Err}
+use Rattle.text_reader.specs.declared.fault.Faulty.{Faulty}
 use Rattle.text_reader.specs.declared.field.Key.{Key}
-use Rattle.text_reader.specs.declared.field.Key.TheVariants.{Found, Wrong}
-use Rattle.text_reader.specs.declared.value.Value.{Value}
-use Rattle.text_reader.specs.declared.value.Value.TheVariants.{Scalar, Opened, Refused}
+use Rattle.text_reader.specs.declared.value.Begun.{Begun}
+use Rattle.text_reader.specs.declared.value.Begun.TheVariants.{Scalar, Opened}
 use Rattle.text_reader.proofs.MarksHold.{marks-none, marks-scalar, marks-open}
 
 -- outside objects an item is a value with key 0
@@ -45,29 +45,24 @@ module _ (text book seen : List ℕ) (room : ℕ) (σ : State) (p : ℕ) (around
   no_key w o a r m = record { state = σ; awaits = value-item σ around w o; read = record { reads = refl; marks = marks-none m }; byte = a; ready = r }
 
   -- the key of a field
-  pub field-item : (b : Object around) (r : Key) → FieldKeyIs text book seen room σ p (level object b.key b.done b.outer) r →
+  pub field-item : (b : Object around) (r : Result Key Faulty) → FieldKeyIs text book seen room σ p (level object b.key b.done b.outer) r →
       ItemKeyIs text book seen room σ p around r
-  field-item b (Found k q) h = record { state = need k around; awaits = needed; read = rw b.is h.0; byte = h.1; ready = tt }
-  field-item b (Wrong why q) h = h
+  field-item b (Ok k) h = record { state = need k.number around; awaits = needed; read = rw b.is h.0; byte = h.1; ready = tt }
+  field-item b (Err faulty) h = h
 
   -- a key, or none, and its value
-  pub keyed-item : (table : List ℕ) {k q : ℕ} (i : ItemKey text book seen room σ p around k q) (v : Value) → ValueIs text book table room i.state q k around v →
+  pub keyed-item : (table : List ℕ) {k q : ℕ} (i : ItemKey text book seen room σ p around k q) (v : Result Begun Faulty) → ValueIs text book table room i.state q k around v →
       ItemIs text book table seen room σ p around v
-  keyed-item table {k = k} i (Scalar n) h =
+  keyed-item table {k = k} i (Ok (Scalar n)) h =
       record {
         key = k;
         read = record { head = h.head; reads = i.read.reads ∙ h.reads; holds = h.holds };
         marks = marks-scalar h.head k i.read.marks;
       }
-  keyed-item table {k = k} i (Opened n is_obj) h =
+  keyed-item table {k = k} i (Ok (Opened n is_obj)) h =
       record {
         key = k;
         read = record { container = h.container; is-object = h.is-object; reads = i.read.reads ∙ h.reads; holds = h.holds; shallow = h.shallow };
         marks = marks-open h.container k i.read.marks;
       }
-  keyed-item table i (Refused why n) h = i.read.reads ∙ h
-
-pub value-place : (text : List ℕ) {p q : ℕ} → p ≤ q → (v : Value) → ValuePlace text q v → ValuePlace text p v
-value-place text l (Scalar n) h = (omega (arith, h.0), h.1)
-value-place text l (Opened n is_obj) h = (omega (arith, h.0), h.1)
-value-place text l (Refused why n) h = tt
+  keyed-item table i (Err faulty) h = i.read.reads ∙ h

@@ -2,48 +2,21 @@
 use mathlib.Core.Path.{◌≡◌, refl, sym, ◌∙◌, ap}
 use mathlib.Core.Bool.{Bool, true, false, cond, true≢false}
 use mathlib.Core.List.{List, []}
-use Prim.Native.Nat.{ℕ, ◌+◌, ◌*◌, ◌-◌, ◌≤◌, ◌<◌}
+use Prim.Native.Nat.{ℕ, ◌+◌, ◌*◌, ◌-◌, ◌≤◌}
 use native.Mathlib.Omega.{arith}
 use lib.Dec.{eqb}
 use lib.ListN.{length, get_or, length-append}
-use borrow.Author.Tests.{eqb-true, eq-eqb, ne_eqb}
-use Rattle.json_theory.specs.Inside.Scanning.{byte_at}
-use Rattle.json_theory.proofs.Scanning.{byte_inside}
+use borrow.Author.Tests.{eq-eqb, ne_eqb}
 use Rattle.value_table.specs.Value.{record_size, max_length, max_depth, Values, none, value, size, count}
 use Rattle.json_theory.specs.Grammar.{array, object}
 use Rattle.json_theory.specs.Steps.{Stack, base, level}
 use Rattle.json_theory.specs.Reader.{depth, written, items_in}
 use Rattle.text_reader.specs.Inside.Laid.{laid, TableHolds}
-use Rattle.text_reader.specs.Inside.Progress.{LevelsHold, StaysOpen, in_object, own_record, shuts}
+use Rattle.text_reader.specs.Inside.Progress.{no_level, LevelIs, LevelsHold, StaysOpen, in_object, own_record, shuts}
 use Rattle.text_reader.specs.Inside.Marks.{MarksHold}
-use Rattle.text_reader.specs.Inside.Items.{InnermostIs, LevelIs, LevelFits}
+use Rattle.text_reader.specs.Inside.Items.{LevelFits}
 use Rattle.text_reader.specs.declared.Level.{Level}
 use Rattle.text_reader.proofs.Laid.{laid-length}
-
-module _ (records : List ℕ) (objects : List Bool) (before : List ℕ) where
-  own_is : (around : Stack) (d : ℕ) → LevelsHold records objects before around → depth around ≡ d → cond (eqb d 0) 0 (get_or records (d - 1) 0) ≡ own_record around
-  unfolding depth
-  own_is (base ms) d h e = rw (eq-eqb d 0 (sym e)) refl
-  own_is (level o key done outer) d h e =
-      let z : d - 1 ≡ depth outer = omega arith in
-      rw (ne_eqb d 0 (λ f. omega arith), z) h.0
-
-  object-is : (around : Stack) (d : ℕ) → LevelsHold records objects before around → depth around ≡ d → cond (eqb d 0) false (get_or objects (d - 1) false) ≡ in_object around
-  unfolding depth
-  object-is (base ms) d h e = rw (eq-eqb d 0 (sym e)) refl
-  object-is (level o key done outer) d h e =
-      let z : d - 1 ≡ depth outer = omega arith in
-      rw (ne_eqb d 0 (λ f. omega arith), z) h.1
-
-  pub level-is : (around : Stack) (d items : ℕ) (lv : Level) → LevelsHold records objects before around → depth around ≡ d → items_in around ≡ items →
-      InnermostIs records objects d items lv → LevelIs around lv
-  level-is around d items lv h e n i =
-      record {
-        depth_is = e ∙ sym i.depth_is;
-        record_is = sym (i.record_is ∙ own_is around d h e);
-        object-is = sym (i.object-is ∙ object-is around d h e);
-        items-are = n ∙ sym i.items-are;
-      }
 
 pub own-low : (around : Stack) → own_record around ≤ written around
 unfolding written
@@ -95,25 +68,11 @@ stays_open (base ms) d c e h = tt
 stays_open (level array key done outer) d c e h = rw (ne_eqb d 0 (λ f. omega arith)) at h
 stays_open (level object key done outer) d c e h = rw (ne_eqb d 0 (λ f. omega arith)) at h
 
-pub shut-deep : (around : Stack) (d c : ℕ) → depth around ≡ d → shuts d (in_object around) c ≡ true → 1 ≤ d
-unfolding depth
-shut-deep (base ms) d c e h = absurd (true≢false (sym h ∙ rw (eq-eqb d 0 (sym e)) refl))
-shut-deep (level o key done outer) d c e h = omega arith
-
 -- the items before a level that is shut are records
-pub before-low : (records : List ℕ) (objects : List Bool) (before : List ℕ) (around : Stack) (d c : ℕ) → depth around ≡ d → shuts d (in_object around) c ≡ true →
-    LevelsHold records objects before around → get_or before (d - 1) 0 ≤ written around
+pub before-low : (levels : List Level) (around : Stack) (d c : ℕ) → depth around ≡ d → shuts d (in_object around) c ≡ true →
+    LevelsHold levels around → (get_or levels (d - 1) no_level).items ≤ written around
 unfolding depth written
-before-low records objects before (base ms) d c e h l = absurd (true≢false (sym h ∙ rw (eq-eqb d 0 (sym e)) refl))
-before-low records objects before (level o key done outer) d c e h l =
+before-low levels (base ms) d c e h l = absurd (true≢false (sym h ∙ rw (eq-eqb d 0 (sym e)) refl))
+before-low levels (level o key done outer) d c e h l =
     let z : d - 1 ≡ depth outer = omega arith in
-    rw (z, l.2) (omega (arith, items-low outer))
-
--- behind the text nothing is shut
-pub shut-inside : (text : List ℕ) (p d : ℕ) (is_obj : Bool) → shuts d is_obj (byte_at text p) ≡ true → p < length text
-shut-inside text p d is_obj h = byte_inside text p (go (eqb d 0) is_obj h)
-  where
-    go : (b t : Bool) → cond b false (eqb (byte_at text p) (cond t 0x7D 0x5D)) ≡ true → 1 ≤ byte_at text p
-    go true t e = absurd (true≢false (sym e))
-    go false true e = omega (arith, eqb-true (byte_at text p) 0x7D e)
-    go false false e = omega (arith, eqb-true (byte_at text p) 0x5D e)
+    rw z (omega (arith, items-low outer, l.0.items-are))

@@ -14,8 +14,9 @@ use Rattle.json_theory.specs.Reader.{depth, limit_fault, is_wrong}
 use Rattle.json_theory.specs.Inside.Scanning.{byte_at, RunTo, Leads, Breaks}
 use Rattle.json_items.proofs.Leads.{space-leads, loose-gap, loose-after, loose-need, loose-first, loose-next_key, space-behind, reads_on, reads-fault, reads_end, either_way}
 use Rattle.text_reader.specs.Inside.Progress.{Between, at_start, opened, behind, message, first_item, element, field, StaysOpen, ItemAt}
-use Rattle.text_reader.specs.Inside.Items.{EndsFine, NextIs, message_or_end}
-use Rattle.text_reader.specs.declared.between.Next.TheVariants.{End, Item, Bad}
+use Rattle.std.proofs.Common.{Ok, Err, Some}
+use Rattle.std.specs.Bool.{then_some}
+use Rattle.text_reader.specs.Inside.Items.{EndsFine, NextIs}
 
 module _ {text : List ℕ} {p q : ℕ} (run : RunTo is_space text p q) where
   -- no white space behind a message
@@ -37,30 +38,30 @@ module _ {text : List ℕ} {p q : ℕ} (run : RunTo is_space text p q) where
   start-leads = space-leads (gap none) (loose-gap none) run.running
 
   -- the level at depth 0
-  pub next-bad : (σ : State) (around : Stack) → Between false σ around → depth around ≡ 0 → p ≡ q → NextIs text σ p around (Bad q)
+  pub next-bad : (σ : State) (around : Stack) → Between false σ around → depth around ≡ 0 → p ≡ q → NextIs text σ p around (Err (record { at = q }))
   unfolding depth
   next-bad σ (base ms) behind d e = message-tight ms e
   next-bad σ (level o key done outer) behind d e = absurd (omega arith)
 
-  gap-found : (σ : State) (ms : Values) → Leads text σ p (gap ms) q → NextIs text σ p (base ms) (message_or_end text q)
+  gap-found : (σ : State) (ms : Values) → Leads text σ p (gap ms) q → NextIs text σ p (base ms) (Ok (then_some (ltb q (length text)) q))
   gap-found σ ms l = go (ltb q (length text)) refl
     where
-      go : (t : Bool) → ltb q (length text) ≡ t → NextIs text σ p (base ms) (cond t (Item q) End)
+      go : (t : Bool) → ltb q (length text) ≡ t → NextIs text σ p (base ms) (Ok (then_some t q))
       go true e = item-gap σ ms (ltb-true q (length text) e) l
       go false e = ends-gap σ ms (ltb-false q (length text) e) l
 
-  pub next_start : (σ : State) (around : Stack) → Between true σ around → depth around ≡ 0 → NextIs text σ p around (message_or_end text q)
+  pub next_start : (σ : State) (around : Stack) → Between true σ around → depth around ≡ 0 → NextIs text σ p around (Ok (then_some (ltb q (length text)) q))
   unfolding depth
   next_start σ around at_start d = gap-found (gap none) none start-leads
   next_start σ (level o key none outer) opened d = absurd (omega arith)
 
-  pub next-message : (σ : State) (around : Stack) → Between false σ around → depth around ≡ 0 → (p ≡ q → ⊥) → NextIs text σ p around (message_or_end text q)
+  pub next-message : (σ : State) (around : Stack) → Between false σ around → depth around ≡ 0 → (p ≡ q → ⊥) → NextIs text σ p around (Ok (then_some (ltb q (length text)) q))
   unfolding depth
   next-message σ (base ms) behind d n = gap-found (after (base ms)) ms (space-behind ms (omega (arith, n, run.running.from)) run.running)
   next-message σ (level o key done outer) behind d n = absurd (omega arith)
 
   -- inside an open value
-  pub next-first : (σ : State) (around : Stack) → Between true σ around → (depth around ≡ 0 → ⊥) → StaysOpen around (byte_at text q) → NextIs text σ p around (Item q)
+  pub next-first : (σ : State) (around : Stack) → Between true σ around → (depth around ≡ 0 → ⊥) → StaysOpen around (byte_at text q) → NextIs text σ p around (Ok (Some q))
   unfolding depth
   next-first σ around at_start d c = absurd (d refl)
   next-first σ (level o key none outer) opened d c =
@@ -84,7 +85,7 @@ module _ {text : List ℕ} {p q : ℕ} (run : RunTo is_space text p q) where
       (λ l. reads_end text q name room (after (level o key done outer)) l)
 
   pub next-wrong : (σ : State) (around : Stack) → Between false σ around → (depth around ≡ 0 → ⊥) → StaysOpen around (byte_at text q) → (byte_at text q ≡ 0x2C → ⊥) →
-      NextIs text σ p around (Bad q)
+      NextIs text σ p around (Err (record { at = q }))
   unfolding depth
   next-wrong σ (base ms) behind d c n = absurd (d refl)
   next-wrong σ (level o key done outer) behind d c n = comma-wrong o key done outer n c
@@ -103,7 +104,7 @@ module _ {text : List ℕ} {p q : ℕ} (run : RunTo is_space text p q) where
         calm array = refl
         calm object = refl
 
-    pub next-comma : (σ : State) (around : Stack) → Between false σ around → (depth around ≡ 0 → ⊥) → NextIs text σ p around (Item r)
+    pub next-comma : (σ : State) (around : Stack) → Between false σ around → (depth around ≡ 0 → ⊥) → NextIs text σ p around (Ok (Some r))
     unfolding depth behind_comma
     next-comma σ (base ms) behind d = absurd (d refl)
     next-comma σ (level array key done outer) behind d =

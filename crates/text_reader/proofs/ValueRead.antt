@@ -11,11 +11,14 @@ use Rattle.json_theory.specs.Grammar.{Container, array, object}
 use Rattle.json_theory.specs.Parts.{minus, nought, whole, Start, letters, number, string, open', nothing, start}
 use Rattle.json_theory.specs.Steps.{Stack}
 use Rattle.json_items.specs.Inside.Items.{ScalarIs}
-use Rattle.json_tokens.specs.declared.scan.Scan.TheVariants.{To, Bad}
+use Rattle.std.proofs.Common.{Ok, Err}
+use Rattle.json_tokens.specs.declared.scan.BadByte.{BadByte}
 use Rattle.text_reader.specs.Inside.Progress.{kind_started}
-use Rattle.text_reader.specs.Inside.Items.{BegunIs}
-use Rattle.text_reader.specs.declared.TextFault.TheVariants.{Grammar}
-use Rattle.text_reader.specs.declared.value.Value.TheVariants.{Scalar, Refused}
+use Rattle.text_reader.specs.Inside.Items.{kind_number, BegunIs}
+use Rattle.text_reader.specs.declared.value.Kind.{Kind}
+use Rattle.text_reader.specs.declared.value.Kind.TheVariants.{Null, Boolean, Number, String, Record, Array}
+use Rattle.text_reader.specs.Faults.{bad_byte}
+use Rattle.text_reader.specs.declared.value.Begun.TheVariants.{Scalar}
 
 -- words are null, false and true
 abbrev Told : Start → Type 0
@@ -70,22 +73,34 @@ none-starts nothing t e = refl
 pub starts-nothing : (c : ℕ) → kind_started (start c) ≡ 0 → start c ≡ nothing
 starts-nothing c e = none-starts (start c) (told c) e
 
+-- the kinds of scalars
+abbrev ScalarKind : ℕ → Type 0
+ScalarKind n = (1 ≤ n) × (n ≤ 4)
+
+pub scalar-kind : (kind : Kind) (s : Start) → kind_number kind ≡ kind_started s → (kind ≡ Record → ⊥) → (kind ≡ Array → ⊥) → ScalarKind (kind_started s)
+scalar-kind Null s e n m = (omega arith, omega arith)
+scalar-kind Boolean s e n m = (omega arith, omega arith)
+scalar-kind Number s e n m = (omega arith, omega arith)
+scalar-kind String s e n m = (omega arith, omega arith)
+scalar-kind Record s e n m = absurd (n refl)
+scalar-kind Array s e n m = absurd (m refl)
+
 -- a scan of a scalar that has been begun
 module _ (text : List ℕ) (p : ℕ) where
-  pub scalar-to : (s : Start) (q : ℕ) → 1 ≤ kind_started s → (kind_started s ≡ 5 → ⊥) → (kind_started s ≡ 6 → ⊥) → (key : ℕ) (around : Stack) →
-      ScalarIs text p s key around (To q) → BegunIs text s p key around (Scalar q) × (p ≤ q) × (q ≤ length text)
-  scalar-to (letters kind l ls) q a b d key around h = (h.0, h.1, h.2)
-  scalar-to (number part) q a b d key around h = (h.0, h.1, h.2)
-  scalar-to string q a b d key around h = (h.0, h.1, h.2)
-  scalar-to (open' array) q a b d key around h = absurd (d refl)
-  scalar-to (open' object) q a b d key around h = absurd (b refl)
-  scalar-to nothing q a b d key around h = absurd (omega arith)
+  pub scalar-to : (s : Start) (q : ℕ) → ScalarKind (kind_started s) → (key : ℕ) (around : Stack) →
+      ScalarIs text p s key around (Ok q) → BegunIs text s p key around (Ok (Scalar q)) × (p ≤ q) × (q ≤ length text)
+  scalar-to (letters kind l ls) q k key around h = (h.0, h.1, h.2)
+  scalar-to (number part) q k key around h = (h.0, h.1, h.2)
+  scalar-to string q k key around h = (h.0, h.1, h.2)
+  scalar-to (open' array) q k key around h = absurd (omega arith)
+  scalar-to (open' object) q k key around h = absurd (omega arith)
+  scalar-to nothing q k key around h = absurd (omega arith)
 
-  pub scalar-bad : (s : Start) (q : ℕ) → 1 ≤ kind_started s → (kind_started s ≡ 5 → ⊥) → (kind_started s ≡ 6 → ⊥) → (key : ℕ) (around : Stack) →
-      ScalarIs text p s key around (Bad q) → BegunIs text s p key around (Refused Grammar q)
-  scalar-bad (letters kind l ls) q a b d key around h = (refl, h)
-  scalar-bad (number part) q a b d key around h = (refl, h)
-  scalar-bad string q a b d key around h = (refl, h)
-  scalar-bad (open' array) q a b d key around h = absurd (d refl)
-  scalar-bad (open' object) q a b d key around h = absurd (b refl)
-  scalar-bad nothing q a b d key around h = absurd (omega arith)
+  pub scalar-bad : (s : Start) (q : BadByte) → ScalarKind (kind_started s) → (key : ℕ) (around : Stack) →
+      ScalarIs text p s key around (Err q) → BegunIs text s p key around (Err (bad_byte q))
+  scalar-bad (letters kind l ls) q k key around h = (refl, h)
+  scalar-bad (number part) q k key around h = (refl, h)
+  scalar-bad string q k key around h = (refl, h)
+  scalar-bad (open' array) q k key around h = absurd (omega arith)
+  scalar-bad (open' object) q k key around h = absurd (omega arith)
+  scalar-bad nothing q k key around h = absurd (omega arith)

@@ -1,23 +1,15 @@
 // Between two items of a level: whether it is shut, and where the next item begins.
-ghost use Rattle.std.specs.Prelude.{◌≡◌, false, ◌≤◌, length};
+ghost use Rattle.std.specs.Prelude.{◌≡◌, ◌≤◌, length};
 ghost use Rattle.json_theory.specs.Grammar.{is_space};
 ghost use Rattle.json_theory.specs.Steps.{Stack, State};
 ghost use Rattle.json_theory.specs.Reader.{depth as depth_of};
 ghost use Rattle.json_theory.specs.Inside.Scanning.{byte_at, RunTo};
 ghost use Rattle.value_table.specs.Value.{max_length};
 ghost use Rattle.text_reader.specs.Inside.Progress.{Between, StaysOpen, shuts};
-ghost use Rattle.text_reader.specs.Inside.Items.{NextIs, message_or_end};
+ghost use Rattle.text_reader.specs.Inside.Items.{NextIs};
 
 use crate::Level;
-use json_tokens::scan::{byte_at, space_end};
-
-// What stands between two items: the end of the text, an item, or a byte with which the text cannot go on.
-#[derive(Clone, Copy)]
-pub enum Next {
-    End,
-    Item(usize),
-    Bad(usize),
-}
+use json_tokens::scan::{BadByte, byte_at, space_end};
 
 // Whether the byte at `at` shuts the innermost open value.
 pub fn closes(text: &[u8], at: usize, level: Level) -> bool
@@ -33,34 +25,26 @@ pub fn closes(text: &[u8], at: usize, level: Level) -> bool
     }
 }
 
-// The message at `here`, or the end.
-fn message_or_end(text: &[u8], here: usize) -> Next
-    ensures { result ≡ message_or_end text.now here }
-{
-    if here < text.len() {
-        Next::Item(here)
-    } else {
-        Next::End
-    }
-}
-
-// A message stands at the start, or follows white space from `at` to `here`.
-fn next_message(text: &[u8], at: usize, here: usize, fresh: bool) -> Next
+// A message stands at the start, or follows white space from `at` to `here`; none, where the text ends.
+fn next_message(text: &[u8], at: usize, here: usize, fresh: bool) -> Result<Option<usize>, BadByte>
     requires { RunTo is_space text.now at here }
     ensures { (σ : State) (around : Stack) → Between fresh σ around → depth_of around ≡ 0 → NextIs text.now σ at around result }
 {
-    if fresh {
-        return message_or_end(text, here);
+    if !fresh && at == here {
+        return Err(BadByte { at: here });
     }
-    if at == here {
-        return Next::Bad(here);
-    }
-    message_or_end(text, here)
+    Ok((here < text.len()).then_some(here))
 }
 
 // What comes behind white space from `at` to `here`, where the innermost level stays open: an item, which follows a comma unless it is
-// the first.
-pub fn next_item(text: &[u8], at: usize, here: usize, depth: usize, fresh: bool) -> Next
+// the first; or nothing, where the text ends.
+pub fn next_item(
+    text: &[u8],
+    at: usize,
+    here: usize,
+    depth: usize,
+    fresh: bool,
+) -> Result<Option<usize>, BadByte>
     requires { (length text.now ≤ max_length) × RunTo is_space text.now at here }
     ensures { (σ : State) (around : Stack) → Between fresh σ around → depth_of around ≡ depth → StaysOpen around (byte_at text.now here) →
         NextIs text.now σ at around result }
@@ -69,11 +53,11 @@ pub fn next_item(text: &[u8], at: usize, here: usize, depth: usize, fresh: bool)
         return next_message(text, at, here, fresh);
     }
     if fresh {
-        return Next::Item(here);
+        return Ok(Some(here));
     }
     if byte_at(text, here) == 0x2C {
-        Next::Item(space_end(text, here + 1))
+        Ok(Some(space_end(text, here + 1)))
     } else {
-        Next::Bad(here)
+        Err(BadByte { at: here })
     }
 }

@@ -8,70 +8,67 @@ ghost use Rattle.json_theory.specs.Steps.{Stack, State};
 ghost use Rattle.json_theory.specs.Inside.Scanning.{byte_at, PlaceIn};
 ghost use Rattle.text_reader.specs.Inside.Progress.{kind_started, AwaitsValue, Ready};
 ghost use Rattle.text_reader.specs.Inside.Laid.{TableHolds};
-ghost use Rattle.text_reader.specs.Inside.Items.{ValuePlace, BegunIs, ValueIs};
+ghost use Rattle.text_reader.specs.Inside.Items.{kind_number, kind_or_none, ValuePlace, BegunIs, ValueIs};
 
-use crate::TextFault;
+use crate::fault::{Faulty, TextFault};
 use json_items::item::scalar_end;
-use json_tokens::scan::{Scan, byte_at};
+use json_tokens::scan::byte_at;
 use value_table::record;
 use value_table::record_store::store_value;
 
-// What a value is: a scalar that ends at a byte; an array or object whose content begins there, and whether it is an object; or a fault
-// and its byte.
-#[derive(Clone, Copy)]
-pub enum Value {
-    Scalar(usize),
-    Opened(usize, bool),
-    Refused(TextFault, usize),
+// The kinds of values, by the numbers that their records have.
+#[derive(Clone, Copy, PartialEq, Eq)]
+enum Kind {
+    Null = 1,
+    Boolean = 2,
+    Number = 3,
+    String = 4,
+    Record = 5,
+    Array = 6,
 }
 
-const NOTHING: u8 = 0;
+// A value that has begun: a scalar and its end; or an array or object, where its content begins and whether it is an object.
+#[derive(Clone, Copy)]
+pub enum Begun {
+    Scalar(usize),
+    Opened { from: usize, object: bool },
+}
 
-const NULL: u8 = 1;
-
-const BOOLEAN: u8 = 2;
-
-const NUMBER: u8 = 3;
-
-const STRING: u8 = 4;
-
-const RECORD: u8 = 5;
-
-const ARRAY: u8 = 6;
-
-// The kind of the value that a byte begins, or 0.
-fn kind_of(c: u8) -> u8
-    ensures { result ≡ kind_started (start c) }
+// The kind of the value that a byte begins.
+fn kind_of(c: u8) -> Option<Kind>
+    ensures { kind_or_none result ≡ kind_started (start c) }
 {
     match c {
-        0x22 => STRING,
-        0x2D => NUMBER,
-        0x30..=0x39 => NUMBER,
-        0x5B => ARRAY,
-        0x66 => BOOLEAN,
-        0x6E => NULL,
-        0x74 => BOOLEAN,
-        0x7B => RECORD,
-        _ => NOTHING,
+        0x22 => Some(Kind::String),
+        0x2D | 0x30..=0x39 => Some(Kind::Number),
+        0x5B => Some(Kind::Array),
+        0x66 | 0x74 => Some(Kind::Boolean),
+        0x6E => Some(Kind::Null),
+        0x7B => Some(Kind::Record),
+        _ => None,
     }
 }
 
 // The value of this kind whose first byte, at `at`, is c.
-fn begun(text: &[u8], at: usize, c: u8, kind: u8) -> Value
+fn begin(text: &[u8], at: usize, c: u8, kind: Kind) -> Result<Begun, Faulty>
     requires at_in_bounds { (at < length text.now) × (length text.now ≤ max_length) × (c ≡ byte_at text.now at) }
-    requires kind_value { (kind ≡ kind_started (start c)) × (1 ≤ kind) }
+    requires kind_value { kind_number kind ≡ kind_started (start c) }
     ensures value_place { ValuePlace text.now at result }
     ensures by_index { (key : ℕ) (around : Stack) → BegunIs text.now (start c) (at + 1) key around result }
 {
-    if kind == ARRAY {
-        return Value::Opened(at + 1, false);
-    }
-    if kind == RECORD {
-        return Value::Opened(at + 1, true);
-    }
-    match scalar_end(text, at, c) {
-        Scan::To(end) => Value::Scalar(end),
-        Scan::Bad(place) => Value::Refused(TextFault::Grammar, place),
+    match kind {
+        Kind::Array => Ok(Begun::Opened {
+            from: at + 1,
+            object: false,
+        }),
+        Kind::Record => Ok(Begun::Opened {
+            from: at + 1,
+            object: true,
+        }),
+        _ => {
+            let end = scalar_end(text, at, c)?;
+            Ok(Begun::Scalar(end))
+        }
     }
 }
 
@@ -83,7 +80,7 @@ pub fn value_at(
     key: usize,
     count: usize,
     depth: usize,
-) -> Value
+) -> Result<Begun, Faulty>
     requires { PlaceIn text.now at × (length table.old ≤ max_length) × (record_size * count ≤ length table.old) × (depth ≤ max_depth) }
     ensures value_place { ValuePlace text.now at result }
     ensures by_index { (book : List ℕ) (σ : State) (around : Stack) → AwaitsValue σ key around → is_space (byte_at text.now at) ≡ false →
@@ -91,16 +88,15 @@ pub fn value_at(
         ValueIs text.now book table.new (length table.old / record_size) σ at key around result }
 {
     let c = byte_at(text, at);
-    let kind = kind_of(c);
-    if kind == NOTHING {
-        return Value::Refused(TextFault::Grammar, at);
-    }
+    let Some(kind) = kind_of(c) else {
+        return Err(TextFault::Grammar.at(at));
+    };
     if depth == record::MAX_DEPTH {
-        return Value::Refused(TextFault::Deep, at);
+        return Err(TextFault::Deep.at(at));
     }
     if table.len() / record::SIZE == count {
-        return Value::Refused(TextFault::Full, at);
+        return Err(TextFault::Full.at(at));
     }
-    store_value(table, count, kind, key);
-    begun(text, at, c, kind)
+    store_value(table, count, kind as u8, key);
+    begin(text, at, c, kind)
 }

@@ -1,9 +1,7 @@
 // How a line writes a table or a type: its records, or a word and numbers for a run of them, with further records after a semicolon; and
 // before them, it may be, a word for the layout.
-use crate::records::{
-    ARRAY, Item, Layout, RECORD, Run, put_around, put_count, put_run, put_text, start_of,
-};
-use crate::text::{byte_at, find, number_or, part};
+use crate::records::{ARRAY, Item, Layout, RECORD, Run, put_around, put_count, put_run, put_text};
+use crate::text::{byte_at, cut, number_or};
 
 // A run from place i on and the records behind it. Returns the place behind them.
 fn put_behind(
@@ -35,7 +33,7 @@ fn elements(bytes: &mut [u8], layout: Layout, run: Run, records: &[u8]) -> usize
 
 // The records at a depth, in arrays that end where they do.
 fn arrays(bytes: &mut [u8], layout: Layout, depth: usize, records: &[u8]) -> usize {
-    let count = std::num::wrapping_sub_usize(depth, 1);
+    let count = depth.wrapping_sub(1);
     let end = put_text(bytes, layout, count, records);
     put_run(
         bytes,
@@ -51,16 +49,9 @@ fn arrays(bytes: &mut [u8], layout: Layout, depth: usize, records: &[u8]) -> usi
     end
 }
 
-// The text behind the first semicolon and the space that follows it.
-fn behind_first<'a>(text: &'a [u8]) -> &'a [u8] {
-    let stop = find(text, 0, b';');
-    part(text, std::num::wrapping_add_usize(stop, 2), text.len())
-}
-
 // Stores the records or the run that a text writes. Returns how many records it has.
 fn put_records(bytes: &mut [u8], layout: Layout, text: &[u8]) -> usize {
-    let head = part(text, 0, find(text, 0, b';'));
-    let records = behind_first(text);
+    let (head, records) = cut(text, b';');
     let run = Run {
         count: number_or(head, 1, 0),
         key: number_or(head, 2, 0) as u64,
@@ -77,14 +68,14 @@ fn put_records(bytes: &mut [u8], layout: Layout, text: &[u8]) -> usize {
 }
 
 fn build_in(bytes: &mut [u8], layout: Layout, text: &[u8]) -> usize {
-    start_of(layout, put_records(bytes, layout, text))
+    layout.start_of(put_records(bytes, layout, text))
 }
 
 // Stores what a text writes, in the layout that it names or else in the given one. Returns its length.
 pub fn build(bytes: &mut [u8], layout: Layout, text: &[u8]) -> usize {
     match byte_at(text, 0) {
-        b'l' => build_in(bytes, Layout::Type, behind_first(text)),
-        b'p' => build_in(bytes, Layout::Plain, behind_first(text)),
+        b'l' => build_in(bytes, Layout::Type, cut(text, b';').1),
+        b'p' => build_in(bytes, Layout::Plain, cut(text, b';').1),
         _ => build_in(bytes, layout, text),
     }
 }

@@ -3,39 +3,87 @@
 ghost use Rattle.std.specs.Prelude.{◌<◌, ◌≤◌};
 
 use crate::text::{byte_at, read_digit};
+use byte_records::store::put_bytes;
 use type_arena::type_record;
 use value_table::record;
 
 // Records of tables, of types, and of plain types, which are without the lengths of arrays.
-#[derive(Clone, Copy)]
+#[derive(Clone, Copy, Debug, PartialEq, Eq)]
 pub enum Layout {
     Value,
     Type,
     Plain,
 }
 
-// The bytes of a record of a plain type.
-pub const PLAIN_SIZE: usize = removal_arena::type_record::SIZE;
+impl Layout {
+    // The bytes of a record.
+    pub fn size(self) -> usize
+        ensures { (1 ≤ result) × (result ≤ 24) }
+    {
+        match self {
+            Layout::Value => record::SIZE,
+            Layout::Type => type_record::SIZE,
+            Layout::Plain => removal_arena::type_record::SIZE,
+        }
+    }
 
-// Where a number begins in its record, and how many bytes it has.
-#[derive(Clone, Copy)]
-struct Extent {
-    start: usize,
-    width: usize,
+    // Where the record at a place begins, in bytes.
+    pub fn start_of(self, i: usize) -> usize
+        ensures { result < 524288 }
+    {
+        i % 16384 * self.size()
+    }
+
+    // How many records so many bytes have.
+    pub fn count_in(self, length: usize) -> usize {
+        length / self.size()
+    }
+
+    // The bytes of the largest table or arena. It is lent where a line names none.
+    pub fn largest(self) -> usize {
+        record::MAX_LENGTH / self.size() * self.size()
+    }
 }
 
 // The numbers of a record: a value record has the first three, one of a plain type the first four.
-pub const KIND: usize = 0;
+#[derive(Clone, Copy, Debug, PartialEq, Eq)]
+pub enum Number {
+    Kind,
+    Key,
+    Span,
+    Count,
+    Shortest,
+    Longest,
+}
 
-pub const KEY: usize = 1;
+impl Number {
+    // Number j of a record; behind the last there is none.
+    fn nth(j: usize) -> Option<Number> {
+        match j {
+            0 => Some(Number::Kind),
+            1 => Some(Number::Key),
+            2 => Some(Number::Span),
+            3 => Some(Number::Count),
+            4 => Some(Number::Shortest),
+            5 => Some(Number::Longest),
+            _ => None,
+        }
+    }
 
-pub const SPAN: usize = 2;
-
-pub const COUNT: usize = 3;
-
-pub const SHORTEST: usize = 4;
-
-pub const LONGEST: usize = 5;
+    // Where the number begins in its record, and how many bytes it has. The kind has byte 1 with it.
+    fn extent(self) -> (usize, usize)
+        ensures { (result.0 ≤ 20) × (result.1 ≤ 8) }
+    {
+        match self {
+            Number::Kind => (0, 2),
+            Number::Key => (2, 2),
+            Number::Span => (4, 4),
+            Number::Count => (8, 8),
+            Number::Shortest => (16, 4),
+            Number::Longest => (20, 4),
+        }
+    }
+}
 
 pub const RECORD: u64 = record::RECORD as u64;
 
@@ -43,7 +91,7 @@ pub const ARRAY: u64 = record::ARRAY as u64;
 
 // What a run repeats: null; a field with null in it; a record with such a field; or an array around the next, which ends before a
 // place.
-#[derive(Clone, Copy)]
+#[derive(Clone, Copy, Debug, PartialEq, Eq)]
 pub enum Item {
     Null,
     Field,
@@ -52,97 +100,32 @@ pub enum Item {
 }
 
 // How many items a run has, the key of the first, and the step to the next.
-#[derive(Clone, Copy)]
+#[derive(Clone, Copy, Debug, PartialEq, Eq)]
 pub struct Run {
     pub count: usize,
     pub key: u64,
     pub step: u64,
 }
 
-// Where the record at a place begins, in bytes.
-pub fn start_of(layout: Layout, i: usize) -> usize
-    ensures { result < 524288 }
-{
-    match layout {
-        Layout::Value => i % 16384 * record::SIZE,
-        Layout::Type => i % 16384 * type_record::SIZE,
-        Layout::Plain => i % 16384 * PLAIN_SIZE,
-    }
+// Stores a number of record i.
+fn put_number(bytes: &mut [u8], layout: Layout, i: usize, which: Number, number: u64) {
+    let (start, width) = which.extent();
+    put_bytes(
+        &number.to_le_bytes()[..width],
+        bytes,
+        layout.start_of(i) + start,
+    );
 }
 
-// How many records so many bytes have.
-pub fn count_in(layout: Layout, length: usize) -> usize {
-    match layout {
-        Layout::Value => length / record::SIZE,
-        Layout::Type => length / type_record::SIZE,
-        Layout::Plain => length / PLAIN_SIZE,
-    }
-}
-
-pub fn store(bytes: &mut [u8], p: usize, number: u64) {
-    if p < bytes.len() {
-        bytes[p] = (number % 256) as u8;
-    }
-}
-
-// Stores a number in so many bytes.
-fn put_bytes(bytes: &mut [u8], p: usize, width: usize, number: u64)
-    requires { (p < 1048576) × (width < 1048576) }
-{
-    let mut rest = number;
+// A number of record i.
+pub fn number_at(bytes: &[u8], layout: Layout, i: usize, which: Number) -> u64 {
+    let (start, width) = which.extent();
+    let from = layout.start_of(i) + start;
+    let mut number = [0u8; 8];
     for k in 0..width {
-        store(bytes, p + k, rest);
-        rest = rest / 256;
+        number[k] = byte_at(bytes, from + k);
     }
-}
-
-// The number that ends in a byte.
-fn with_byte(number: u64, byte: u8) -> u64 {
-    number % 72057594037927936 * 256 + byte as u64
-}
-
-// The number stored in so many bytes before a place.
-fn number_before(bytes: &[u8], end: usize, width: usize) -> u64 {
-    let mut number = 0;
-    let mut p = end;
-    for _ in 0..width {
-        p = std::num::wrapping_sub_usize(p, 1);
-        number = with_byte(number, byte_at(bytes, p));
-    }
-    number
-}
-
-// Kind with byte 1, key, span, count, shortest, longest. Behind the last nothing is stored.
-fn extent_of(j: usize) -> Extent
-    ensures { (result.start ≤ 20) × (result.width ≤ 8) }
-{
-    match j {
-        0 => Extent { start: 0, width: 2 },
-        1 => Extent { start: 2, width: 2 },
-        2 => Extent { start: 4, width: 4 },
-        3 => Extent { start: 8, width: 8 },
-        4 => Extent {
-            start: 16,
-            width: 4,
-        },
-        5 => Extent {
-            start: 20,
-            width: 4,
-        },
-        _ => Extent { start: 0, width: 0 },
-    }
-}
-
-// Stores number j of record i.
-fn put_number(bytes: &mut [u8], layout: Layout, i: usize, j: usize, number: u64) {
-    let e = extent_of(j);
-    put_bytes(bytes, start_of(layout, i) + e.start, e.width, number);
-}
-
-// Number j of record i.
-pub fn number_at(bytes: &[u8], layout: Layout, i: usize, j: usize) -> u64 {
-    let e = extent_of(j);
-    number_before(bytes, start_of(layout, i) + e.start + e.width, e.width)
+    u64::from_le_bytes(number)
 }
 
 // The number of the next character, where eight are told for each record: another one after a space, and the last, which isn't stored, at a
@@ -160,25 +143,26 @@ fn next_at(at: usize, c: u8) -> usize
 
 // Stores records from place i on, written as in document 01: "5 0 2; 1 1 1". Returns the place behind the last one.
 pub fn put_text(bytes: &mut [u8], layout: Layout, i: usize, text: &[u8]) -> usize {
+    if text.is_empty() {
+        return i;
+    }
     let mut at = i % 16384 * 8;
     let mut number = 0;
-    let n = text.len();
-    for k in 0..n {
-        at = next_at(at, text[k]);
-        number = read_digit(number, text[k]);
-        put_number(bytes, layout, at / 8, at % 8, number);
-    }
-    if n == 0 {
-        return i;
+    for c in text {
+        at = next_at(at, *c);
+        number = read_digit(number, *c);
+        if let Some(which) = Number::nth(at % 8) {
+            put_number(bytes, layout, at / 8, which, number);
+        }
     }
     at / 8 + 1
 }
 
 // Stores a record, with count 1 where it has one.
 fn put(bytes: &mut [u8], layout: Layout, i: usize, kind: u64, key: u64, span: u64) {
-    put_number(bytes, layout, i, KIND, kind);
-    put_number(bytes, layout, i, KEY, key);
-    put_number(bytes, layout, i, SPAN, span);
+    put_number(bytes, layout, i, Number::Kind, kind);
+    put_number(bytes, layout, i, Number::Key, key);
+    put_number(bytes, layout, i, Number::Span, span);
     put_count(bytes, layout, i, 1);
 }
 
@@ -186,7 +170,7 @@ fn put(bytes: &mut [u8], layout: Layout, i: usize, kind: u64, key: u64, span: u6
 pub fn put_count(bytes: &mut [u8], layout: Layout, i: usize, count: u64) {
     match layout {
         Layout::Value => (),
-        _ => put_number(bytes, layout, i, COUNT, count),
+        _ => put_number(bytes, layout, i, Number::Count, count),
     }
 }
 
@@ -194,8 +178,8 @@ pub fn put_count(bytes: &mut [u8], layout: Layout, i: usize, count: u64) {
 fn put_lengths(bytes: &mut [u8], layout: Layout, i: usize, length: u64) {
     match layout {
         Layout::Type => {
-            put_number(bytes, layout, i, SHORTEST, length);
-            put_number(bytes, layout, i, LONGEST, length);
+            put_number(bytes, layout, i, Number::Shortest, length);
+            put_number(bytes, layout, i, Number::Longest, length);
         }
         _ => (),
     }
@@ -204,7 +188,7 @@ fn put_lengths(bytes: &mut [u8], layout: Layout, i: usize, length: u64) {
 // The items return the place behind them.
 fn put_null(bytes: &mut [u8], layout: Layout, i: usize, key: u64) -> usize {
     put(bytes, layout, i, 1, key, 1);
-    std::num::wrapping_add_usize(i, 1)
+    i.wrapping_add(1)
 }
 
 fn put_field(bytes: &mut [u8], layout: Layout, i: usize, key: u64) -> usize {
@@ -212,25 +196,18 @@ fn put_field(bytes: &mut [u8], layout: Layout, i: usize, key: u64) -> usize {
         Layout::Value => put_null(bytes, layout, i, key),
         _ => {
             put(bytes, layout, i, 7, key, 2);
-            put_null(bytes, layout, std::num::wrapping_add_usize(i, 1), 0)
+            put_null(bytes, layout, i.wrapping_add(1), 0)
         }
     }
 }
 
 // A record or an array with what ends before a place inside it.
 pub fn put_around(bytes: &mut [u8], layout: Layout, i: usize, kind: u64, end: usize) {
-    put(
-        bytes,
-        layout,
-        i,
-        kind,
-        0,
-        std::num::wrapping_sub_usize(end, i) as u64,
-    );
+    put(bytes, layout, i, kind, 0, end.wrapping_sub(i) as u64);
 }
 
 fn put_item(bytes: &mut [u8], layout: Layout, item: Item, i: usize, key: u64) -> usize {
-    let inner = std::num::wrapping_add_usize(i, 1);
+    let inner = i.wrapping_add(1);
     match item {
         Item::Null => put_null(bytes, layout, i, 0),
         Item::Field => put_field(bytes, layout, i, key),
@@ -254,7 +231,7 @@ pub fn put_run(bytes: &mut [u8], layout: Layout, item: Item, i: usize, run: Run)
     let count = run.count;
     for _ in 0..count {
         at = put_item(bytes, layout, item, at, key);
-        key = std::num::wrapping_add_u64(key, run.step);
+        key = key.wrapping_add(run.step);
     }
     at
 }

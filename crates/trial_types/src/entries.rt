@@ -2,12 +2,13 @@
 // and behind the entries are not zero, the type, and of each entry the word and the number beside it.
 ghost use Rattle.std.specs.Prelude.{◌+◌, ◌*◌, ◌≤◌, length};
 
-use byte_records::little_endian::number64;
+use crate::Trial;
+use byte_records::little_endian::number;
 use std::io;
-use trial_notation::buffers::{DIRT, ROOM, largest};
+use trial_notation::buffers::{DIRT, ROOM};
 use trial_notation::notation::build;
-use trial_notation::records::{KIND, Layout, RECORD, count_in, number_at};
-use trial_notation::text::{number_or, part};
+use trial_notation::records::{Layout, Number, RECORD, number_at};
+use trial_notation::text::part;
 use trial_output::{
     MOST_PRINTED, behind_type, nonzero, print, print_answer, print_checksum, print_type, type_in,
 };
@@ -22,15 +23,15 @@ const MOST_ENTRIES: usize = record::MAX_LENGTH / ENTRY * ENTRY;
 fn print_entry(rt: &impl Print, entries: &[u8], i: usize) -> io::Result<()>
     requires { 16 * i + 16 ≤ length entries.now }
 {
-    print(rt, number64(entries, ENTRY * i) as u64)?;
-    print(rt, number64(entries, ENTRY * i + ENTRY / 2) as u64)
+    let word = number::<8>(entries, ENTRY * i);
+    let keys = number::<8>(entries, ENTRY * i + ENTRY / 2);
+    print!(rt; " {word} {keys}")
 }
 
 fn print_each(rt: &impl Print, entries: &[u8]) -> io::Result<()> {
-    let n = entries.len() / ENTRY;
-    for i in 0..n {
+    for i in 0..entries.len() / ENTRY {
         if 0 < i {
-            rt.write_all(b";")?;
+            print!(rt; ";")?;
         }
         print_entry(rt, entries, i)?;
     }
@@ -38,10 +39,10 @@ fn print_each(rt: &impl Print, entries: &[u8]) -> io::Result<()> {
 }
 
 fn print_entries(rt: &impl Print, entries: &[u8]) -> io::Result<()> {
-    if entries.len() == 0 {
+    if entries.is_empty() {
         return Ok(());
     }
-    rt.write_all(b" |")?;
+    print!(rt; " |")?;
     if entries.len() / ENTRY <= MOST_PRINTED {
         print_each(rt, entries)
     } else {
@@ -51,14 +52,12 @@ fn print_entries(rt: &impl Print, entries: &[u8]) -> io::Result<()> {
 
 // The bytes of the entries of a type: each of its records of kind 5 has one.
 fn entry_bytes(bytes: &[u8]) -> usize {
-    let mut end = 0;
-    let n = count_in(Layout::Type, bytes.len());
-    for i in 0..n {
-        if number_at(bytes, Layout::Type, i, KIND) == RECORD {
-            end = std::num::wrapping_add_usize(end, ENTRY);
-        }
-    }
-    end
+    let records = 0..Layout::Type.count_in(bytes.len());
+    ENTRY.wrapping_mul(
+        records
+            .filter(|i| number_at(bytes, Layout::Type, *i, Number::Kind) == RECORD)
+            .count(),
+    )
 }
 
 // The answer, and what the call has left.
@@ -86,33 +85,27 @@ fn infer_into(
     work: &mut [u8],
     entries: &mut [u8],
 ) -> io::Result<()> {
-    let answer = answers::answer_of(tag_bus::infer_tag_bus(table, arena, work, entries));
+    let answer = value_table::answer_of(tag_bus::infer_tag_bus(table, arena, work, entries));
     print_left(rt, answer, arena, work, entries)
 }
 
 // Call 8. The line may name the lengths of the entries, of the arena, of the working buffer and of the table.
-pub fn try_tag_bus(rt: &impl Print, head: &[u8], records: &[u8]) -> io::Result<()> {
+pub fn try_tag_bus(rt: &impl Print, trial: &Trial) -> io::Result<()> {
     let mut bytes = [0u8; ROOM];
     let mut arena = [DIRT; ROOM];
     let mut work = [DIRT; ROOM];
     let mut entries = [DIRT; ROOM];
-    let built = build(&mut bytes, Layout::Value, records);
-    let table = part(&bytes, 0, number_or(head, 4, built));
-    let entries_length = number_or(head, 1, MOST_ENTRIES);
-    let length = number_or(head, 2, largest(Layout::Type));
-    let work_length = number_or(head, 3, length);
-    if length <= ROOM {
-        if work_length <= ROOM {
-            if entries_length <= ROOM {
-                infer_into(
-                    rt,
-                    table,
-                    &mut arena[0..length],
-                    &mut work[0..work_length],
-                    &mut entries[0..entries_length],
-                )?;
-            }
-        }
-    }
-    Ok(())
+    let built = build(&mut bytes, Layout::Value, trial.records);
+    let table = part(&bytes, 0, trial.length(4, built));
+    let entries_length = trial.length(1, MOST_ENTRIES);
+    let length = trial.length(2, Layout::Type.largest());
+    let work_length = trial.length(3, length);
+    let (Some(arena), Some(work), Some(entries)) = (
+        arena.get_mut(..length),
+        work.get_mut(..work_length),
+        entries.get_mut(..entries_length),
+    ) else {
+        return Ok(());
+    };
+    infer_into(rt, table, arena, work, entries)
 }

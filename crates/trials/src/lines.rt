@@ -2,57 +2,40 @@
 // Lines without a colon are passed over.
 use crate::trial::try_call;
 use std::io;
-use trial_notation::text::{byte_at, find, part};
+use trial_notation::text::{byte_at, cut};
 
-// Where the line begins that is being read; the call and the equivalences, by their first characters.
-#[derive(Clone, Copy)]
+// The call that is tried, by its number, and whether under equivalences that are unknown.
+#[derive(Clone, Copy, Debug, PartialEq, Eq)]
 struct Section {
-    start: usize,
     call: u8,
-    equivalences: u8,
+    unknown: bool,
 }
 
-fn try_line(rt: &impl Print, line: &[u8], call: u8, equivalences: u8) -> io::Result<()> {
-    let colon = find(line, 0, b':');
-    if line.len() <= colon {
+fn try_line(rt: &impl Print, line: &[u8], section: Section) -> io::Result<()> {
+    if !line.contains(&b':') {
         return Ok(());
     }
-    // a space follows the colon
-    let records = part(line, std::num::wrapping_add_usize(colon, 2), line.len());
-    try_call(rt, call, equivalences, part(line, 0, colon), records)
+    let (head, records) = cut(line, b':');
+    try_call(rt, section.call, section.unknown, head, records)
 }
 
-// After character i of the text, which is c.
-fn next(rt: &impl Print, text: &[u8], section: Section, i: usize, c: u8) -> io::Result<Section> {
-    if c != b'\n' {
-        return Ok(section);
-    }
-    let line = part(text, section.start, i);
-    let start = std::num::wrapping_add_usize(i, 1);
-    if byte_at(line, 0) == b'[' {
-        return Ok(Section {
-            start,
-            call: byte_at(line, 1),
-            equivalences: byte_at(line, 3),
-        });
-    }
-    try_line(rt, line, section.call, section.equivalences)?;
-    Ok(Section {
-        start,
-        call: section.call,
-        equivalences: section.equivalences,
-    })
-}
-
+// What ends without a line feed is no line.
 pub fn each_line(rt: &impl Print, text: &[u8]) -> io::Result<()> {
     let mut section = Section {
-        start: 0,
         call: 0,
-        equivalences: 0,
+        unknown: false,
     };
-    let n = text.len();
-    for i in 0..n {
-        section = next(rt, text, section, i, text[i])?;
+    for piece in text.split_inclusive(|c| *c == b'\n') {
+        match piece.strip_suffix(b"\n") {
+            Some(line) if byte_at(line, 0) == b'[' => {
+                section = Section {
+                    call: byte_at(line, 1),
+                    unknown: byte_at(line, 3) == b'u',
+                };
+            }
+            Some(line) => try_line(rt, line, section)?,
+            None => (),
+        }
     }
     Ok(())
 }

@@ -1,10 +1,12 @@
 -- What is known of the first addend or field of a run that is not empty, on its bytes.
-use Rattle.std.proofs.Common.{◌≡◌, ℕ, ◌+◌, ◌-◌, ◌*◌, ◌<◌, ◌≤◌, Bool, true, false, not, ◌&&◌, eqb, List, [], ◌++◌, length, take, drop, sym, refl, ap, ◌∙◌, append_assoc, append-nil, arith, length-append, length-drop, length-take, take_all, take_at, drop_at}
+use Rattle.std.proofs.Common.{◌≡◌, ℕ, ◌+◌, ◌-◌, ◌*◌, ◌<◌, ◌≤◌, Bool, true, false, not, ◌&&◌, eqb, List, [], ◌++◌, length, take, drop, sym, refl, ap, ◌∙◌, append_assoc, append-nil, arith, length-append, length-drop, length-take, take_all, take_at, drop_at, eqb-true}
+use Rattle.std.proofs.lemmas.Bool.{eqb-false}
 use lib.Seq.{drop-length}
 use Rattle.value_table.specs.Value.{record_kind}
 use Rattle.counting_theory.specs.Payload.{Payload}
 use Rattle.counting_theory.specs.Trie.{nil, node, size}
-use Rattle.counting_theory.specs.Label.{Equivalence, Label, CountingType}
+use Rattle.counting_theory.specs.Label.{Label, CountingType}
+use Rattle.counting_theory.specs.declared.equivalence.Equivalence.{Equivalence}
 use Rattle.counting_theory.specs.Encoding.{type_size, type_kind, type_key, type_span, type_payload, header, encode, decode, type_of}
 use Rattle.counting_theory.specs.Inside.TypeBytes.{Fitting}
 use Rattle.counting_theory.specs.WellFormed.{IsType}
@@ -148,6 +150,13 @@ front_rest {x = x} h = omega (arith, h.is-length, length-take (type_size * type_
 pub front-le : (x : List ℕ) → length (front x) ≤ length x
 unfolding front
 front-le x = omega (arith, length-take (type_size * type_span x 0) x)
+
+-- what the test for an empty run tells
+pub not-empty : {n : ℕ} {t : Bool} → t ≡ eqb n 0 → t ≡ false → 0 < n
+not-empty {n} h z = omega (arith, eqb-false n 0 (sym h ∙ z))
+
+pub is-empty : {n : ℕ} {t : Bool} → t ≡ eqb n 0 → t ≡ true → n ≡ 0
+is-empty {n} h z = eqb-true n 0 (sym h ∙ z)
 
 -- the parts as the code takes them
 pub front-is : (x : List ℕ) (n : ℕ) → n ≡ type_size * type_span x 0 → take n x ≡ front x

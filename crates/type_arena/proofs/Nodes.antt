@@ -3,7 +3,8 @@ use Rattle.std.proofs.Common.{◌≡◌, ℕ, ◌+◌, ◌-◌, ◌*◌, ◌^◌
 use Rattle.byte_records.specs.Inside.Chain.{Chain, done, next}
 use Rattle.counting_theory.specs.Payload.{Payload}
 use Rattle.counting_theory.specs.Trie.{nil, node, size}
-use Rattle.counting_theory.specs.Label.{Equivalence, Label, CountingType}
+use Rattle.counting_theory.specs.Label.{Label, CountingType}
+use Rattle.counting_theory.specs.declared.equivalence.Equivalence.{Equivalence}
 use Rattle.counting_theory.specs.Encoding.{type_size, type_kind, type_key, type_span, sibling_keys, encode, Tagged}
 use Rattle.counting_theory.specs.Inside.TypeBytes.{Fitting}
 use Rattle.type_arena.specs.Inside.Arena.{label_at, FieldsInside, Labelled}

@@ -5,10 +5,11 @@ use Prim.Native.Nat.{Ordering}
 use Rattle.value_table.specs.Value.{max_length, max_depth, record_kind}
 use Rattle.type_arena.specs.declared.level.Level.{Level}
 use Rattle.counting_theory.specs.Trie.{nil, node, total, largest_below, largest_total}
-use Rattle.counting_theory.specs.Label.{Equivalence, Label, field_kind, compare_label, Counting, CountingType}
+use Rattle.counting_theory.specs.Label.{Label, field_kind, compare_label, Counting, CountingType}
+use Rattle.counting_theory.specs.declared.equivalence.Equivalence.{Equivalence}
 use Rattle.counting_theory.specs.Encoding.{type_payload, type_kind, type_of, Tagged}
 use Rattle.counting_theory.specs.WellFormed.{max_total, depth_inside, Shallow, IsType}
-use Rattle.type_arena.specs.Inside.Arena.{by_flag, label_at}
+use Rattle.type_arena.specs.Inside.Arena.{label_at}
 use Rattle.type_arena.specs.Inside.Addend.{body, rest, Coded, Union}
 use Rattle.type_arena.specs.Inside.Runs.{depth_of, TypeRun, inside_of}
 use Rattle.counting_theory.proofs.Label.{kind-eq, label-order}
@@ -20,7 +21,7 @@ use Rattle.type_arena.proofs.FirstAddend.{Addend, addend, coded-type, type-coded
 
 -- the equivalence that a level is by
 abbrev pub At : Level → Equivalence
-At level = by_flag level.label
+At level = level.equivalence
 
 -- how the first labels compare
 abbrev pub order : Equivalence → List ℕ → List ℕ → Ordering
@@ -48,7 +49,7 @@ shallow-inside false left l c low some h = go (eqb l.kind record_kind) h
     go false h = let e : max_depth + 1 - (left + 0) + 1 ≡ max_depth + 1 - (left - 1 + 0) = omega arith in rw e at h
 
 pub record Head (level : Level) (x : List ℕ) : Type 0 where
-  pub first : Addend (by_flag level.label) level.field x
+  pub first : Addend level.equivalence level.field x
   pub level-left : cond level.field 0 1 ≤ level.left
   pub in_body : TypeRun (inside_of level (type_kind x 0)) (body x)
   pub in_rest : TypeRun level (rest x)
@@ -56,7 +57,7 @@ pub record Head (level : Level) (x : List ℕ) : Type 0 where
 pub head : {level : Level} {x : List ℕ} → TypeRun level x → 0 < length x → Head level x
 unfolding label_at largest_total largest_below total
 head {level} {x} p h =
-    let e : Equivalence = by_flag level.label in
+    let e : Equivalence = level.equivalence in
     let l : Label = label_at e x 0 in
     let c : CountingType = type_of e (body x) in
     let s : CountingType = type_of e (rest x) in
@@ -79,8 +80,8 @@ head {level} {x} p h =
     }
 
 -- a whole type is a union at depth 1, and short
-pub type-run : (label : Bool) (x : List ℕ) → IsType (by_flag label) x (type_of (by_flag label) x) → TypeRun (record { left = max_depth; field = false; label = label }) x
-type-run label x t =
+pub type-run : (e : Equivalence) (x : List ℕ) → IsType e x (type_of e x) → TypeRun (record { left = max_depth; field = false; equivalence = e }) x
+type-run e x t =
     record {
       coded = type-coded t;
       shallow = t.shallow;
@@ -103,9 +104,9 @@ rank-inside {level} {x} h = go level.field (eqb (type_kind x 0) record_kind) h.l
     go false true i = omega arith
     go false false i = omega arith
 
-pub total-low : {level : Level} {x : List ℕ} → TypeRun level x → total Counting (type_of (by_flag level.label) x) ≤ max_total
+pub total-low : {level : Level} {x : List ℕ} → TypeRun level x → total Counting (type_of level.equivalence x) ≤ max_total
 unfolding largest_total
-total-low {level} {x} p = omega (arith, limit-totals (type_of (by_flag level.label) x) p.limit)
+total-low {level} {x} p = omega (arith, limit-totals (type_of level.equivalence x) p.limit)
 
 -- fields weigh nothing; a run of addends is a union
 pub total-fields : {e : Equivalence} {x : List ℕ} → Coded e true x → total Counting (type_of e x) ≡ 0
@@ -117,8 +118,8 @@ total-fields {e} k = rw (coded-type k) (go k.trie k.tagged)
     go (node l a c s) t = rw (eq-eqb l.kind field_kind (kind-eq t.0), zero-add) (go s t.2)
 
 pub run-union : {level : Level} {x : List ℕ} → level.field ≡ false → TypeRun level x → Union x
-run-union {level} f p = record { equivalence = by_flag level.label; coded = rw f at p.coded; limit = total-low p }
+run-union {level} f p = record { equivalence = level.equivalence; coded = rw f at p.coded; limit = total-low p }
 
 pub run-total : {level : Level} {x : List ℕ} {n : ℕ} → level.field ≡ false → TypeRun level x → ((e : Equivalence) → Coded e false x → n ≡ total Counting (type_of e x)) →
-    n ≡ total Counting (type_of (by_flag level.label) x)
-run-total {level} f p h = h (by_flag level.label) (rw f at p.coded)
+    n ≡ total Counting (type_of level.equivalence x)
+run-total {level} f p h = h level.equivalence (rw f at p.coded)

@@ -1,7 +1,8 @@
 -- The total of a union, addend by addend.
 use Rattle.std.proofs.Common.{◌≡◌, ℕ, ◌+◌, ◌<◌, false, List, [], ◌∷◌, length, refl, zero-add, arith}
 use Rattle.counting_theory.specs.Trie.{total}
-use Rattle.counting_theory.specs.Label.{Equivalence, Counting}
+use Rattle.counting_theory.specs.Label.{Counting}
+use Rattle.counting_theory.specs.declared.equivalence.Equivalence.{Equivalence}
 use Rattle.counting_theory.specs.Encoding.{type_payload, type_of}
 use Rattle.counting_theory.specs.Inside.TypeBytes.{type_count}
 use Rattle.type_arena.specs.Inside.Arena.{label_at}

@@ -2,7 +2,8 @@
 ghost use Rattle.std.specs.Prelude.{◌≡◌, ◌+◌, ◌^◌, ◌<◌, false, length};
 ghost use Rattle.std.proofs.lemmas.List.Edits.{sets};
 ghost use Rattle.counting_theory.specs.Trie.{total};
-ghost use Rattle.counting_theory.specs.Label.{Equivalence, Counting};
+ghost use Rattle.counting_theory.specs.Label.{Counting};
+ghost use Rattle.counting_theory.specs.declared.equivalence.Equivalence.{Equivalence};
 ghost use Rattle.counting_theory.specs.Encoding.{type_of};
 ghost use Rattle.type_arena.specs.Inside.Addend.{front, body, rest, Headed, Kept, Coded, Union};
 
@@ -11,30 +12,27 @@ use crate::type_record::{count_at, span_at};
 use byte_records::store::put_bytes;
 
 // The first addend or field of x, with what stands inside it.
-pub fn front_of<'a>(x: &'a [u8]) -> &'a [u8]
+pub fn front_of(x: &[u8]) -> &[u8]
     requires { Headed x.now }
     ensures { result.now ≡ front x.now }
 {
-    let n = type_record::SIZE * span_at(x, 0);
-    &x[..n]
+    &x[..type_record::SIZE * span_at(x, 0)]
 }
 
 // What stands inside the first addend or field of x.
-pub fn body_of<'a>(x: &'a [u8]) -> &'a [u8]
+pub fn body_of(x: &[u8]) -> &[u8]
     requires { Headed x.now }
     ensures { result.now ≡ body x.now }
 {
-    let n = type_record::SIZE * span_at(x, 0);
-    &x[type_record::SIZE..n]
+    &x[type_record::SIZE..type_record::SIZE * span_at(x, 0)]
 }
 
 // What follows the first addend or field of x.
-pub fn rest_of<'a>(x: &'a [u8]) -> &'a [u8]
+pub fn rest_of(x: &[u8]) -> &[u8]
     requires { Headed x.now }
     ensures { result.now ≡ rest x.now }
 {
-    let n = type_record::SIZE * span_at(x, 0);
-    &x[n..]
+    &x[type_record::SIZE * span_at(x, 0)..]
 }
 
 // Stores src from `at` on, and moves `at` past it.
@@ -44,7 +42,7 @@ pub fn append(src: &[u8], out: &mut [u8], at: &mut usize)
         × (at.new ≡ at.old + length src.now) }
 {
     put_bytes(src, out, *at);
-    *at = *at + src.len();
+    *at += src.len();
 }
 
 // Stores the first addend of x as it is, and returns what follows it.
@@ -63,10 +61,9 @@ pub fn union_total(a: &[u8]) -> usize
 {
     let mut x = a;
     let mut sum = 0;
-    while x.len() > 0 {
+    while !x.is_empty() {
         sum += count_at(x, 0);
-        let r = rest_of(x);
-        x = r;
+        x = rest_of(x);
     }
     sum
 }

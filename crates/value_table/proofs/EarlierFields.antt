@@ -4,8 +4,8 @@ use mathlib.Core.Bool.{Bool, true, false}
 use mathlib.Core.List.{List, ◌∷◌}
 use Prim.Native.Nat.{ℕ, ◌+◌, ◌≤◌, ◌<◌}
 use native.Mathlib.Omega.{arith}
-use borrow.Author.Tests.{eq-eqb, ne_eqb, lt-ltb, le-ltb}
-use lib.Dec.{ltb}
+use borrow.Author.Tests.{eq-eqb, ne_eqb}
+use Rattle.std.specs.Prelude.{Option, None, Some, is_some}
 use lib.ListN.{length}
 use Rattle.value_table.specs.Value.{key_at, span_at, member}
 use Rattle.value_table.specs.Judged.{repeated, too_many}
@@ -45,26 +45,25 @@ module _ {b : List ℕ} {i : ℕ} where
     left-none l = sym (w.same ∙ ap (member key) (chain-done (omega (arith, chain-le w.chain)) w.chain))
 
 -- `first` tells whether record i is a field
-module _ {b : List ℕ} {i first : ℕ} where
-  pub first_field : {f : Bool} {ks : List ℕ} → FieldsBefore b i first f ks → ltb 0 first ≡ f
-  first_field (field l h) = lt-ltb 0 first l
-  first_field (other e) = le-ltb 0 first (omega arith)
+module _ {b : List ℕ} {i : ℕ} where
+  pub first_field : {first : Option ℕ} {g f : Bool} {ks : List ℕ} → g ≡ is_some first → FieldsBefore b i first f ks → g ≡ f
+  first_field e (field h) = e
+  first_field e other = e
 
-  pub many-same : {before : ℕ} {f : Bool} {ks : List ℕ} → FieldsBefore b i first f ks → (f ≡ true → length ks ≡ before) → too_many (ltb 0 first) before ≡ too_many f (length ks)
+  pub many-same : {first : Option ℕ} {before : ℕ} {g f : Bool} {ks : List ℕ} → g ≡ is_some first → FieldsBefore b i first f ks → (f ≡ true → length ks ≡ before) →
+      too_many g before ≡ too_many f (length ks)
   unfolding too_many
-  many-same (field l h) n = rw (lt-ltb 0 first l, n refl) refl
-  many-same (other e) n = rw (le-ltb 0 first (omega arith)) refl
+  many-same e (field h) n = rw (e, n refl) refl
+  many-same e other n = rw e refl
 
-  pub unrepeated : {f : Bool} {ks : List ℕ} → first ≡ 0 → FieldsBefore b i first f ks → false ≡ repeated b i f ks
+  pub unrepeated : {f : Bool} {ks : List ℕ} → FieldsBefore b i None f ks → false ≡ repeated b i f ks
   unfolding repeated
-  unrepeated e (field l h) = absurd (omega arith)
-  unrepeated e (other z) = refl
+  unrepeated other = refl
 
-  pub siblings : {f : Bool} {ks : List ℕ} → (first ≡ 0 → ⊥) → FieldsBefore b i first f ks → EarlierFields b i first
-  siblings n (field {ks} l h) = record { keys = ks; chain = h }
-  siblings n (other z) = absurd (n z)
+  pub siblings : {first : ℕ} {f : Bool} {ks : List ℕ} → FieldsBefore b i (Some first) f ks → EarlierFields b i first
+  siblings (field {ks = ks} h) = record { keys = ks; chain = h }
 
-  pub repeated-member : {r f : Bool} {ks : List ℕ} → (first ≡ 0 → ⊥) → FieldsBefore b i first f ks → (Chain (span_at b) (key_at b) i first ks → r ≡ member (key_at b i) ks) → r ≡ repeated b i f ks
+  pub repeated-member : {first : ℕ} {r f : Bool} {ks : List ℕ} → FieldsBefore b i (Some first) f ks → (Chain (span_at b) (key_at b) i first ks → r ≡ member (key_at b i) ks) →
+      r ≡ repeated b i f ks
   unfolding repeated
-  repeated-member n (field l h) m = m h
-  repeated-member n (other z) m = absurd (n z)
+  repeated-member (field h) m = m h

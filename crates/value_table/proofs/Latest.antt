@@ -10,10 +10,11 @@ use lib.Dec.{eqb}
 use lib.ListN.{length, get_or, set, length-set}
 use lib.Seq.{get_or-set_same, get_or-set_other}
 use borrow.Author.Tests.{eqb-true, eqb-false}
+use Rattle.std.specs.Prelude.{Some}
 use Rattle.value_table.specs.Value.{key_at, member}
 use Rattle.value_table.specs.Judged.{repeated}
 use Rattle.byte_records.specs.Inside.Chain.{Chain, done, next}
-use Rattle.value_table.specs.Inside.EarlierFields.{FieldsBefore, field, other, key_buckets, Latest}
+use Rattle.value_table.specs.Inside.EarlierFields.{FieldsBefore, field, key_buckets, Latest}
 use Rattle.value_table.proofs.EarlierFields.{member-tail}
 
 -- a bound of what stands at j holds after a larger number is stored at i
@@ -31,10 +32,9 @@ unseen n done = refl
 unseen n (next {p = p} {ks = ks} l s h) = member-tail ks (n p (le_refl p) l) ∙ unseen (λ q m. n q (omega arith)) h
 
 module _ {b : List ℕ} {i : ℕ} where
-  pub unrepeated-latest : {latest : List ℕ} {first : ℕ} {f : Bool} {ks : List ℕ} → Latest b i latest → get_or latest (key_at b i % key_buckets) 0 < first → FieldsBefore b i first f ks → false ≡ repeated b i f ks
+  pub unrepeated-latest : {latest : List ℕ} {first : ℕ} {f : Bool} {ks : List ℕ} → Latest b i latest → get_or latest (key_at b i % key_buckets) 0 < first → FieldsBefore b i (Some first) f ks → false ≡ repeated b i f ks
   unfolding repeated
-  unrepeated-latest {latest} w l (field m h) = sym (unseen (λ q p u e. absurd (omega (arith, w.upto q u, ap (λ k. get_or latest (k % key_buckets) 0) e))) h)
-  unrepeated-latest w l (other e) = refl
+  unrepeated-latest {latest} w l (field h) = sym (unseen (λ q p u e. absurd (omega (arith, w.upto q u, ap (λ k. get_or latest (k % key_buckets) 0) e))) h)
 
   pub latest-next : {latest : List ℕ} → Latest b i latest → Latest b (i + 1) (set latest (key_at b i % key_buckets) i)
   latest-next {latest} w = record { buckets = simp length-set w.buckets; upto = λ q l. set-upto latest _ _ i q (omega (arith, w.buckets)) (omega arith) (λ n. w.upto q (before q l n)) }

@@ -1,8 +1,8 @@
 -- What a call answers: a refusal number (0 when accepted), a place, and a count.
-use Rattle.std.specs.Prelude.{ℕ}
+use Rattle.std.specs.Prelude.{◌≡◌, Result, Ok, Err, ℕ}
 use Rattle.value_table.specs.declared.Answer.{Answer}
-use Rattle.value_table.specs.declared.Judged.{Judged}
-use Rattle.value_table.specs.declared.Judged.TheVariants.{Accepted, Length, Faulty}
+use Rattle.value_table.specs.declared.TableError.{TableError}
+use Rattle.value_table.specs.declared.TableError.TheVariants.{Length, Faulty}
 use Rattle.value_table.specs.declared.Fault.{Fault}
 use Rattle.value_table.specs.declared.Fault.TheVariants.{Kind, Span, Key, Large, Repeat, Fields, Depth}
 
@@ -27,12 +27,25 @@ number_of_fault Repeat = 6
 number_of_fault Fields = 15
 number_of_fault Depth = 7
 
+-- why call 1 refuses a table
+abbrev pub refusal_of : TableError → Outcome
+refusal_of Length = refused 1 0
+refusal_of (Faulty fault place) = refused (number_of_fault fault) place
+
+-- what a call answers whose errors are refusals of these numbers and places
+abbrev pub outcome_by : {E : Type 0} → (E → Outcome) → Result ℕ E → Outcome
+outcome_by refusal (Ok count) = accepted count
+outcome_by refusal (Err error) = refusal error
+
 -- call 1's answer
-abbrev pub outcome_of : Judged → Outcome
-outcome_of (Accepted messages) = accepted messages
-outcome_of Length = refused 1 0
-outcome_of (Faulty fault place) = refused (number_of_fault fault) place
+abbrev pub outcome_of : Result ℕ TableError → Outcome
+outcome_of r = outcome_by refusal_of r
 
 -- the same as three numbers
 abbrev pub outcome_of_answer : Answer → Outcome
 outcome_of_answer a = record { number = a.number; place = a.place; count = a.count }
+
+-- the three numbers of what a call answers, where R says which those of an error are
+abbrev pub Answers : {E : Type 0} → (E → Answer → Type 0) → Result ℕ E → Answer → Type 0
+Answers R (Ok count) a = outcome_of_answer a ≡ accepted count
+Answers R (Err error) a = R error a

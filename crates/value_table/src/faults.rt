@@ -1,4 +1,6 @@
 // The faults of one value record, 3 to 7, 15 and 17.
+#![tactic(auto, unfolding(crate::specs::Judged::bad_kind, crate::specs::Judged::bad_span, crate::specs::Judged::bad_key, crate::specs::Judged::too_large, crate::specs::Judged::too_many))]
+
 ghost use Rattle.std.specs.Prelude.{◌≡◌, Bool, true, ◌↔◌, List, ℕ, ◌+◌, ◌*◌, ◌%◌, ◌≤◌, ◌<◌, length};
 ghost use Rattle.value_table.specs.Value.{record_size, max_length, key_at, span_at, member};
 ghost use Rattle.value_table.specs.Inside.EarlierFields.{number_of_finding, EarlierFields, FieldsBefore, Parent, FaultIs, key_buckets, Latest};
@@ -12,25 +14,20 @@ use crate::{Fault, record};
 // How many buckets the keys are spread over.
 pub const KEY_BUCKETS: usize = 64;
 
-// What a look at one record finds.
-#[derive(Clone, Copy)]
-pub enum Finding {
-    Nothing,
-    Found(Fault),
+// A level at which values stand, that of the messages or inside an open value: where it ends, the first field if the open value is
+// a record, and how many values it has had so far.
+#[derive(Clone, Copy, Default)]
+pub struct Level {
+    pub end: usize,
+    pub first: Option<usize>,
+    pub count: usize,
 }
 
 fn bad_kind(table: &[u8], i: usize) -> bool
     requires { record_size * i + record_size ≤ length table.now }
     ensures { result ≡ bad_kind table.now i }
 {
-    let kind = kind_at(table, i);
-    if kind < 1 {
-        return true;
-    }
-    if record::ARRAY < kind {
-        return true;
-    }
-    zero_at(table, i) != 0
+    !matches!(kind_at(table, i), 1..=record::ARRAY) || zero_at(table, i) != 0
 }
 
 fn bad_span(table: &[u8], i: usize, end: usize) -> bool
@@ -38,16 +35,7 @@ fn bad_span(table: &[u8], i: usize, end: usize) -> bool
     ensures { result ≡ bad_span table.now i end }
 {
     let span = span_at(table, i);
-    if span == 0 {
-        return true;
-    }
-    if end < i + span {
-        return true;
-    }
-    if record::LAST_SCALAR < kind_at(table, i) {
-        return false;
-    }
-    1 < span
+    span == 0 || end < i + span || kind_at(table, i) <= record::LAST_SCALAR && 1 < span
 }
 
 // Whether record i has span 1, a scalar kind and a zero byte 1: a quick way past faults 3 and 4.
@@ -55,25 +43,15 @@ fn plain_scalar(table: &[u8], i: usize) -> bool
     requires { record_size * i + record_size ≤ length table.now }
     ensures { (result ≡ true) ↔ PlainScalar table.now i }
 {
-    if span_at(table, i) != 1 {
-        return false;
-    }
-    let head = kind_and_zero_at(table, i);
-    if head < 1 {
-        return false;
-    }
-    head <= record::LAST_SCALAR as usize
+    span_at(table, i) == 1
+        && (1..=record::LAST_SCALAR as usize).contains(&kind_and_zero_at(table, i))
 }
 
 fn bad_key(table: &[u8], i: usize, field: bool) -> bool
     requires { record_size * i + record_size ≤ length table.now }
     ensures { result ≡ bad_key table.now i field }
 {
-    if field {
-        key_at(table, i) == 0
-    } else {
-        key_at(table, i) != 0
-    }
+    (key_at(table, i) == 0) == field
 }
 
 // Whether the key of a field is above the largest.
@@ -81,11 +59,7 @@ fn too_large(table: &[u8], i: usize, field: bool, largest: usize) -> bool
     requires { record_size * i + record_size ≤ length table.now }
     ensures { result ≡ too_large largest table.now i field }
 {
-    if field {
-        largest < key_at(table, i)
-    } else {
-        false
-    }
+    field && largest < key_at(table, i)
 }
 
 // Whether the key of record i stands in an earlier field, the first of which is `first`.
@@ -114,69 +88,60 @@ pub fn bucket_of(table: &[u8], i: usize) -> usize
 }
 
 // Whether record i has the key of an earlier field: a bucket without fields of this parent needs no search.
-fn repeats(table: &[u8], i: usize, first: usize, latest: &[usize; KEY_BUCKETS]) -> bool
+fn repeats(table: &[u8], i: usize, first: Option<usize>, latest: &[usize; KEY_BUCKETS]) -> bool
     requires { (record_size * i + record_size ≤ length table.now) × Parent table.now i first × Latest table.now i latest.now }
     ensures { (field : Bool) (ks : List ℕ) → FieldsBefore table.now i first field ks → result ≡ repeated table.now i field ks }
 {
-    if first == 0 {
-        return false;
+    match first {
+        None => false,
+        Some(first) => first <= latest[bucket_of(table, i)] && key_before(table, i, first),
     }
-    if latest[bucket_of(table, i)] < first {
-        return false;
-    }
-    key_before(table, i, first)
 }
 
 // Whether a field is one too many, behind `before` others of its record.
 fn too_many(field: bool, before: usize) -> bool
     ensures { result ≡ too_many field before }
 {
-    if field {
-        record::MAX_FIELDS <= before
-    } else {
-        false
-    }
+    field && record::MAX_FIELDS <= before
 }
 
-// The fault of record i, whose parent ends at `end`, holds `before` values before it and, if it is a record, has its first field at
-// `first`, else 0. Keys go up to `largest`; `latest` has the latest record so far of each bucket.
+// The fault of record i, which stands at this level. Keys go up to `largest`; `latest` has the latest record so far of
+// each bucket.
 pub fn fault_at(
     table: &[u8],
     i: usize,
-    end: usize,
-    first: usize,
-    before: usize,
+    level: &Level,
     depth: usize,
     largest: usize,
     latest: &[usize; KEY_BUCKETS],
-) -> Finding
-    requires { (record_size * i + record_size ≤ length table.now) × (length table.now ≤ max_length) × (i < end) × Parent table.now i first
-        × Latest table.now i latest.now }
-    ensures { FaultIs largest table.now i end first before depth (number_of_finding result) }
+) -> Option<Fault>
+    requires { (record_size * i + record_size ≤ length table.now) × (length table.now ≤ max_length) × (i < level.now.end)
+        × Parent table.now i level.now.first × Latest table.now i latest.now }
+    ensures { FaultIs largest table.now i level.now depth (number_of_finding result) }
 {
     if !plain_scalar(table, i) {
         if bad_kind(table, i) {
-            return Finding::Found(Fault::Kind);
+            return Some(Fault::Kind);
         }
-        if bad_span(table, i, end) {
-            return Finding::Found(Fault::Span);
+        if bad_span(table, i, level.end) {
+            return Some(Fault::Span);
         }
     }
-    let field = 0 < first;
+    let field = level.first.is_some();
     if bad_key(table, i, field) {
-        return Finding::Found(Fault::Key);
+        return Some(Fault::Key);
     }
     if too_large(table, i, field, largest) {
-        return Finding::Found(Fault::Large);
+        return Some(Fault::Large);
     }
-    if repeats(table, i, first, latest) {
-        return Finding::Found(Fault::Repeat);
+    if repeats(table, i, level.first, latest) {
+        return Some(Fault::Repeat);
     }
-    if too_many(field, before) {
-        return Finding::Found(Fault::Fields);
+    if too_many(field, level.count) {
+        return Some(Fault::Fields);
     }
     if record::MAX_DEPTH < depth {
-        return Finding::Found(Fault::Depth);
+        return Some(Fault::Depth);
     }
-    Finding::Nothing
+    None
 }

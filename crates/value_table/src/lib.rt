@@ -7,11 +7,11 @@ pub mod record_store;
 mod walk;
 
 ghost use Rattle.std.specs.Prelude.{◌≡◌};
-ghost use Rattle.value_table.specs.Outcome.{number_of_fault, outcome_of, outcome_of_answer};
+ghost use Rattle.value_table.specs.Outcome.{accepted, refused, number_of_fault, refusal_of, outcome_of, outcome_of_answer, Answers};
 ghost use Rattle.value_table.specs.Judged.{judged, judged_up_to};
 
 // What is wrong with a record of a table.
-#[derive(Clone, Copy)]
+#[derive(Clone, Copy, Debug, PartialEq, Eq)]
 pub enum Fault {
     Kind,
     Span,
@@ -22,35 +22,59 @@ pub enum Fault {
     Depth,
 }
 
-// The answer of call 1: the number of messages, that the length is wrong, or a fault and the record that has it.
-#[derive(Clone, Copy)]
-pub enum Judged {
-    Accepted(usize),
+// Why call 1 refuses a table: its length, or a fault and the record that has it.
+#[derive(Clone, Copy, Debug, PartialEq, Eq)]
+pub enum TableError {
     Length,
     Faulty(Fault, usize),
 }
 
 // An answer as three numbers: refusal number, place, count.
 #[repr(C)]
-#[derive(Clone, Copy)]
+#[derive(Clone, Copy, Debug, PartialEq, Eq)]
 pub struct Answer {
     pub number: u64,
     pub place: u64,
     pub count: u64,
 }
 
-// Judges a table whose fields have keys up to `largest`.
-pub fn judge_up_to(table: &[u8], largest: usize) -> Judged
+impl Answer {
+    // The answer of a call that was accepted.
+    pub fn accepted(count: usize) -> Answer
+        ensures { outcome_of_answer result ≡ accepted count }
+    {
+        Answer {
+            number: 0,
+            place: 0,
+            count: count as u64,
+        }
+    }
+
+    // The answer of a call that was refused.
+    pub fn refused(number: u64, place: usize) -> Answer
+        ensures { outcome_of_answer result ≡ refused number place }
+    {
+        Answer {
+            number,
+            place: place as u64,
+            count: 0,
+        }
+    }
+}
+
+// Judges a table whose fields have keys up to `largest`, and counts its messages.
+pub fn judge_up_to(table: &[u8], largest: usize) -> Result<usize, TableError>
     ensures { outcome_of result ≡ judged_up_to largest table.now }
 {
     if record::bad_length(table.len()) {
-        return Judged::Length;
+        return Err(TableError::Length);
     }
     walk::walk_table(table, largest)
 }
 
-// Call 1: judges a table.
-pub fn judge(table: &[u8]) -> Judged
+// Call 1: judges a table, and counts its messages.
+#[tactic(auto, unfolding(crate::specs::Judged::judged))]
+pub fn judge(table: &[u8]) -> Result<usize, TableError>
     ensures { outcome_of result ≡ judged table.now }
 {
     judge_up_to(table, record::MAX_KEY)
@@ -71,25 +95,23 @@ pub fn fault_number(fault: Fault) -> u64
     }
 }
 
-// A judgement as three numbers.
-pub fn answer_of(verdict: Judged) -> Answer
-    ensures { outcome_of_answer result ≡ outcome_of verdict }
+impl From<TableError> for Answer {
+    ghost from_gives = { λ error answer. outcome_of_answer answer ≡ refusal_of error };
+
+    fn from(error: TableError) -> Answer {
+        match error {
+            TableError::Length => Answer::refused(1, 0),
+            TableError::Faulty(fault, place) => Answer::refused(fault_number(fault), place),
+        }
+    }
+}
+
+// What a call answers, as three numbers: a count, or the numbers of its error.
+pub fn answer_of<E: Into<Answer>>(answered: Result<usize, E>) -> Answer
+    ensures { Answers E.converts answered result }
 {
-    match verdict {
-        Judged::Accepted(messages) => Answer {
-            number: 0,
-            place: 0,
-            count: messages as u64,
-        },
-        Judged::Length => Answer {
-            number: 1,
-            place: 0,
-            count: 0,
-        },
-        Judged::Faulty(fault, place) => Answer {
-            number: fault_number(fault),
-            place: place as u64,
-            count: 0,
-        },
+    match answered {
+        Ok(count) => Answer::accepted(count),
+        Err(error) => error.into(),
     }
 }

@@ -1,11 +1,13 @@
 // The fields of a value record, and records with the same bytes.
+#![tactic(auto, unfolding(crate::specs::Value::key_at, crate::specs::Value::span_at, byte_records::specs::Format::field_at, crate::specs::Judged::bad_length))]
+
 ghost use Rattle.std.specs.Prelude.{◌≡◌, true, ◌↔◌, ◌+◌, ◌*◌, ◌≤◌, ◌<◌, length};
 ghost use Rattle.byte_records.specs.Number.{number_at};
 ghost use Rattle.value_table.specs.Value.{record_size, kind_at, zero_at, key_at, span_at};
 ghost use Rattle.value_table.specs.Inside.RecordBytes.{record_at};
 ghost use Rattle.value_table.specs.Judged.{bad_length};
 
-use byte_records::little_endian::{number16, number32, number64};
+use byte_records::little_endian::number;
 
 pub const SIZE: usize = 8;
 
@@ -50,7 +52,7 @@ pub fn kind_and_zero_at(table: &[u8], i: usize) -> usize
     requires { record_size * i + record_size ≤ length table.now }
     ensures { result ≡ kind_at table.now i + 256 * zero_at table.now i }
 {
-    number16(table, SIZE * i)
+    number::<2>(table, SIZE * i)
 }
 
 // What stands before the span, the kind, the zero byte and the key, as one number.
@@ -58,21 +60,21 @@ pub fn front_at(table: &[u8], i: usize) -> usize
     requires { record_size * i + record_size ≤ length table.now }
     ensures { (result ≡ number_at 4 table.now (record_size * i)) × (result < 4294967296) }
 {
-    number32(table, SIZE * i)
+    number::<4>(table, SIZE * i)
 }
 
 pub fn key_at(table: &[u8], i: usize) -> usize
     requires { record_size * i + record_size ≤ length table.now }
     ensures { result ≡ key_at table.now i }
 {
-    number16(table, SIZE * i + KEY_OFFSET)
+    number::<2>(table, SIZE * i + KEY_OFFSET)
 }
 
 pub fn span_at(table: &[u8], i: usize) -> usize
     requires { record_size * i + record_size ≤ length table.now }
     ensures { (result ≡ span_at table.now i) × (result < 4294967296) }
 {
-    number32(table, SIZE * i + SPAN_OFFSET)
+    number::<4>(table, SIZE * i + SPAN_OFFSET)
 }
 
 // Whether records i and j have the same bytes. A record has the bytes of one number, so one comparison tells.
@@ -80,15 +82,12 @@ pub fn same_record(table: &[u8], i: usize, j: usize) -> bool
     requires { (record_size * i + record_size ≤ length table.now) × (record_size * j + record_size ≤ length table.now) }
     ensures { (result ≡ true) ↔ (record_at table.now i ≡ record_at table.now j) }
 {
-    number64(table, SIZE * i) == number64(table, SIZE * j)
+    number::<8>(table, SIZE * i) == number::<8>(table, SIZE * j)
 }
 
 // A length that is no multiple of the record size, or above the limit.
 pub fn bad_length(n: usize) -> bool
     ensures { result ≡ bad_length n }
 {
-    if n % SIZE != 0 {
-        return true;
-    }
-    MAX_LENGTH < n
+    n % SIZE != 0 || MAX_LENGTH < n
 }

@@ -6,7 +6,7 @@ ghost use Rattle.value_table.specs.Value.{record_size};
 ghost use Rattle.value_table.specs.Inside.RecordBytes.{span_offset, header_of};
 
 use crate::record::{KEY_OFFSET, SIZE, SPAN_OFFSET};
-use byte_records::store::{store16, store32};
+use byte_records::store::store_number;
 
 // Stores record i: a value of this kind with a key, and nothing inside it.
 pub fn store_value(table: &mut [u8], i: usize, kind: u8, key: usize)
@@ -14,9 +14,9 @@ pub fn store_value(table: &mut [u8], i: usize, kind: u8, key: usize)
     ensures { table.new ≡ sets table.old (record_size * i) (header_of kind key 1) }
 {
     let at = SIZE * i;
-    store16(table, at, kind as usize);
-    store16(table, at + KEY_OFFSET, key);
-    store32(table, at + SPAN_OFFSET, 1);
+    store_number::<2>(table, at, kind as usize);
+    store_number::<2>(table, at + KEY_OFFSET, key);
+    store_number::<4>(table, at + SPAN_OFFSET, 1);
 }
 
 // Stores the span of record i.
@@ -24,5 +24,5 @@ pub fn store_span(table: &mut [u8], i: usize, span: usize)
     requires { record_size * i + record_size ≤ length table.old }
     ensures { table.new ≡ sets table.old (record_size * i + span_offset) (bytes_of 4 span) }
 {
-    store32(table, SIZE * i + SPAN_OFFSET, span);
+    store_number::<4>(table, SIZE * i + SPAN_OFFSET, span);
 }

@@ -9,7 +9,8 @@ use lib.Seq.{drop-length}
 use borrow.Author.Tests.{lt-ltb, le-ltb}
 use Rattle.counting_theory.specs.Trie.{nil, node, size, Sorted}
 use Rattle.counting_theory.specs.Inside.TrieLaws.{SameMap}
-use Rattle.counting_theory.specs.Label.{Equivalence, Counting, CountingType}
+use Rattle.counting_theory.specs.Label.{Counting, CountingType}
+use Rattle.counting_theory.specs.declared.equivalence.Equivalence.{Equivalence}
 use Rattle.counting_theory.specs.Encoding.{type_size, type_span, encode, decode, type_of, Tagged}
 use Rattle.counting_theory.specs.Inside.TypeBytes.{Fitting}
 use Rattle.counting_theory.proofs.Trie.Canonical.{canonical}

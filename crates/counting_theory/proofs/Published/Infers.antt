@@ -6,7 +6,8 @@ use lib.Dec.{eqb}
 use Rattle.value_table.specs.Value.{Head, record_kind, Values, none, value, Proper, ValidAt, join_values}
 use Rattle.counting_theory.specs.Payload.{Payload, one}
 use Rattle.counting_theory.specs.Trie.{nil, insert, add, profile}
-use Rattle.counting_theory.specs.Label.{Equivalence, Label, label_of, Counting, CountingType}
+use Rattle.counting_theory.specs.Label.{Label, label_of, Counting, CountingType}
+use Rattle.counting_theory.specs.declared.equivalence.Equivalence.{Equivalence}
 use Rattle.counting_theory.specs.Raw.{class_of, addend, raw, profile_of}
 use Rattle.counting_theory.specs.Encoding.{sibling_keys}
 use Rattle.counting_theory.specs.Inferred.{own_type, Infers, empty, single, union, InfersProfile, ProfileReduced}

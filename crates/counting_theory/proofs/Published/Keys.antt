@@ -9,7 +9,8 @@ use Prim.Native.Nat.{ℕ, Ordering}
 use native.Mathlib.Omega.{arith}
 use Rattle.counting_theory.specs.Payload.{Payload}
 use Rattle.counting_theory.specs.Trie.{nil, node, Before, Sorted}
-use Rattle.counting_theory.specs.Label.{Equivalence, Label, field_label, compare_label, Counting, CountingType}
+use Rattle.counting_theory.specs.Label.{Label, field_label, compare_label, Counting, CountingType}
+use Rattle.counting_theory.specs.declared.equivalence.Equivalence.{Equivalence}
 use Rattle.counting_theory.specs.Encoding.{sibling_keys, Tagged}
 use Rattle.counting_theory.specs.Published.{Addend, HasKey}
 use Rattle.counting_theory.proofs.Trie.Sorted.{flip-gt}

@@ -8,7 +8,9 @@ use borrow.Author.Tests.{eqb-true, eq-eqb}
 use Rattle.value_table.specs.Value.{record_kind}
 use Rattle.counting_theory.specs.Payload.{Payload}
 use Rattle.counting_theory.specs.Trie.{nil, node, Sorted}
-use Rattle.counting_theory.specs.Label.{Equivalence, by_kind, by_label, Label, listed, Counting, CountingType}
+use Rattle.counting_theory.specs.Label.{Label, listed, Counting, CountingType}
+use Rattle.counting_theory.specs.declared.equivalence.Equivalence.{Equivalence}
+use Rattle.counting_theory.specs.declared.equivalence.Equivalence.TheVariants.{Kind as by_kind, Label as by_label}
 use Rattle.counting_theory.specs.Encoding.{sibling_keys, Tagged}
 use Rattle.counting_theory.specs.Published.{Addend, HasKey, Related, LabelsRelate}
 use Rattle.counting_theory.proofs.Label.{kind-eq, key-eq, keys-eq}

@@ -5,7 +5,8 @@ use mathlib.Core.Logic.{◌⊎◌, inl, inr}
 use mathlib.Core.List.{◌∷◌}
 use Rattle.counting_theory.specs.Payload.{Payload, join}
 use Rattle.counting_theory.specs.Trie.{nil, node, ◌⊞◌ as join_option, lookup, reduce, Sorted}
-use Rattle.counting_theory.specs.Label.{Equivalence, Label, Counting, CountingType}
+use Rattle.counting_theory.specs.Label.{Label, Counting, CountingType}
+use Rattle.counting_theory.specs.declared.equivalence.Equivalence.{Equivalence}
 use Rattle.counting_theory.specs.Encoding.{Tagged}
 use Rattle.counting_theory.specs.Published.{Addend, Alone, EReduced, ReduceAddend, merged, first, second, Publishes}
 use Rattle.counting_theory.proofs.Trie.Join.{⊞-none}

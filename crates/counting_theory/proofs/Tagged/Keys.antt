@@ -10,7 +10,8 @@ use lib.Dec.{is_le, compare_is_eq}
 use Rattle.value_table.specs.Value.{member}
 use Rattle.counting_theory.specs.Payload.{one_field}
 use Rattle.counting_theory.specs.Trie.{nil, node, reduce_step, reduce_node, reduce}
-use Rattle.counting_theory.specs.Label.{Equivalence, field_label, compare_label, Counting, CountingType}
+use Rattle.counting_theory.specs.Label.{field_label, compare_label, Counting, CountingType}
+use Rattle.counting_theory.specs.declared.equivalence.Equivalence.{Equivalence}
 use Rattle.counting_theory.specs.Raw.{insert_key}
 use Rattle.counting_theory.specs.Encoding.{sibling_keys, Tagged}
 use Rattle.counting_theory.proofs.Label.{label-order, compare-fields}

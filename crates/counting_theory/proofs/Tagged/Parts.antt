@@ -7,7 +7,9 @@ use lib.Dec.{eqb}
 use Rattle.value_table.specs.Value.{record_kind}
 use Rattle.counting_theory.specs.Payload.{Payload}
 use Rattle.counting_theory.specs.Trie.{node}
-use Rattle.counting_theory.specs.Label.{Equivalence, by_kind, by_label, Label, field_kind, listed, label_of, field_label, CountingType}
+use Rattle.counting_theory.specs.Label.{Label, field_kind, listed, label_of, field_label, CountingType}
+use Rattle.counting_theory.specs.declared.equivalence.Equivalence.{Equivalence}
+use Rattle.counting_theory.specs.declared.equivalence.Equivalence.TheVariants.{Kind as by_kind, Label as by_label}
 use Rattle.counting_theory.specs.Encoding.{sibling_keys, AddendShape, Tagged}
 use Rattle.counting_theory.proofs.Label.{kind-eq, keys-eq}
 

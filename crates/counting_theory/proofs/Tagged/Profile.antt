@@ -8,7 +8,8 @@ use Rattle.value_table.specs.Value.{Head, record_kind, Values, none, value, keys
 use Rattle.counting_theory.specs.Payload.{Payload, one}
 use Rattle.counting_theory.specs.Trie.{nil, node, insert, add, profile, reduce}
 use Rattle.counting_theory.specs.Inside.TrieLaws.{append}
-use Rattle.counting_theory.specs.Label.{Equivalence, Label, Counting, CountingType}
+use Rattle.counting_theory.specs.Label.{Label, Counting, CountingType}
+use Rattle.counting_theory.specs.declared.equivalence.Equivalence.{Equivalence}
 use Rattle.counting_theory.specs.Raw.{insert_key, ascending, class_of, addend, raw, profile_of}
 use Rattle.counting_theory.specs.Encoding.{sibling_keys, AddendShape, Tagged}
 use Rattle.counting_theory.proofs.Trie.Profile.{reduce-profile}

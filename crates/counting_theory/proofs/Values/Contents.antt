@@ -9,7 +9,8 @@ use borrow.Author.Tests.{eqb-true, eqb-false}
 use Rattle.value_table.specs.Value.{ValidAt, record_kind, array_kind}
 use Rattle.counting_theory.specs.Payload.{one_field}
 use Rattle.counting_theory.specs.Trie.{lookup}
-use Rattle.counting_theory.specs.Label.{Equivalence, Label, field_label, Counting}
+use Rattle.counting_theory.specs.Label.{Label, field_label, Counting}
+use Rattle.counting_theory.specs.declared.equivalence.Equivalence.{Equivalence}
 use Rattle.counting_theory.specs.Raw.{raw}
 use Rattle.counting_theory.specs.Place.{Value, gathered, values_of, values_with, elements_of, elements, field_of, field_values, same_label, of_class}
 use Rattle.counting_theory.proofs.Label.{counting-laws}

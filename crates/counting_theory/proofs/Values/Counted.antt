@@ -4,7 +4,8 @@ use mathlib.Core.Bool.{Bool, true, false, cond}
 use mathlib.Core.List.{List, [], ◌∷◌}
 use Rattle.counting_theory.specs.Payload.{one_field}
 use Rattle.counting_theory.specs.Trie.{lookup}
-use Rattle.counting_theory.specs.Label.{Equivalence, Label, field_label, Counting, CountingType}
+use Rattle.counting_theory.specs.Label.{Label, field_label, Counting, CountingType}
+use Rattle.counting_theory.specs.declared.equivalence.Equivalence.{Equivalence}
 use Rattle.counting_theory.specs.Raw.{raw, profile_of}
 use Rattle.counting_theory.specs.Place.{Value, values_of, elements, field_values, same_label, of_class, Reached, values, field, follow, having, follow_all, reached, gathered, payload_reached, payload_at, Counts, StandsExactly}
 use Rattle.counting_theory.proofs.Label.{counting-laws}

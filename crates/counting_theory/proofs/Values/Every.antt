@@ -5,7 +5,8 @@ use mathlib.Core.List.{List, [], ◌∷◌, ◌++◌, flat_map}
 use Prim.Native.Nat.{ℕ, suc}
 use lib.Dec.{eqb}
 use Rattle.value_table.specs.Value.{Values, none, value, record_kind, array_kind, Proper, ValidAt}
-use Rattle.counting_theory.specs.Label.{Equivalence, Label}
+use Rattle.counting_theory.specs.Label.{Label}
+use Rattle.counting_theory.specs.declared.equivalence.Equivalence.{Equivalence}
 use Rattle.counting_theory.specs.Place.{Value, values_of, values_with, elements_of, elements, field_of, field_values, select, of_class}
 
 abbrev pub Every : (Value → Type 0) → List Value → Type 0

@@ -7,7 +7,8 @@ use Rattle.value_table.specs.Value.{record_kind, Values, none, value, ValidAt, V
 use Rattle.counting_theory.specs.Payload.{Payload, one}
 use Rattle.counting_theory.specs.Trie.{profile, reduce}
 use Rattle.counting_theory.specs.Inside.TrieLaws.{append}
-use Rattle.counting_theory.specs.Label.{Equivalence, Label, Counting, CountingType}
+use Rattle.counting_theory.specs.Label.{Label, Counting, CountingType}
+use Rattle.counting_theory.specs.declared.equivalence.Equivalence.{Equivalence}
 use Rattle.counting_theory.specs.Raw.{class_of, addend, raw, profile_of}
 use Rattle.counting_theory.specs.Inferred.{ProfileOfBoth}
 use Rattle.counting_theory.proofs.Label.{counting-laws}

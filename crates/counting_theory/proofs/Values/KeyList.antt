@@ -9,7 +9,8 @@ use lib.Dec.{eqb, leb}
 use borrow.Author.Tests.{eqb-true, eqb-false, eq-eqb, leb-true, leb-false}
 use Rattle.value_table.specs.Value.{keys, member, Distinct, record_kind}
 use Rattle.byte_records.proofs.Tests.{or_parts}
-use Rattle.counting_theory.specs.Label.{by_label, Label, listed, label_of}
+use Rattle.counting_theory.specs.Label.{Label, listed, label_of}
+use Rattle.counting_theory.specs.declared.equivalence.Equivalence.TheVariants.{Label as by_label}
 use Rattle.counting_theory.specs.Raw.{insert_key, ascending}
 use Rattle.counting_theory.specs.Place.{LabelsApart}
 use Rattle.counting_theory.proofs.KeyList.{member-insert_key, member-ascending}

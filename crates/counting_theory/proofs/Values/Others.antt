@@ -7,7 +7,8 @@ use mathlib.Core.Option.{none as absent}
 use Prim.Native.Nat.{ℕ}
 use borrow.Author.Tests.{not-false}
 use Rattle.counting_theory.specs.Trie.{lookup}
-use Rattle.counting_theory.specs.Label.{Equivalence, Label, Counting}
+use Rattle.counting_theory.specs.Label.{Label, Counting}
+use Rattle.counting_theory.specs.declared.equivalence.Equivalence.{Equivalence}
 use Rattle.counting_theory.specs.Raw.{class_of}
 use Rattle.counting_theory.specs.Place.{Value, select, same_label, of_class}
 use Rattle.counting_theory.specs.Meaning.{OfKind}

@@ -12,7 +12,8 @@ use Rattle.value_table.specs.Value.{Values, none, value, record_kind}
 use Rattle.counting_theory.specs.Payload.{Payload, one, one_field}
 use Rattle.counting_theory.specs.Trie.{nil, node, at_end, when_equal, ◌⊞◌ as join_option, lookup_node, lookup}
 use Rattle.counting_theory.specs.Inside.TrieLaws.{append}
-use Rattle.counting_theory.specs.Label.{Equivalence, Label, field_label, compare_label, Counting, CountingType}
+use Rattle.counting_theory.specs.Label.{Label, field_label, compare_label, Counting, CountingType}
+use Rattle.counting_theory.specs.declared.equivalence.Equivalence.{Equivalence}
 use Rattle.counting_theory.specs.Raw.{class_of, raw}
 use Rattle.counting_theory.specs.Place.{Value, ◌⊞◌, gathered, value_payload, values_of, values_with, select, same_label, of_class}
 use Rattle.counting_theory.proofs.Label.{compare-fields, counting-laws}

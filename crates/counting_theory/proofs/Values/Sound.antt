@@ -12,7 +12,8 @@ use Rattle.value_table.specs.Value.{record_kind, array_kind}
 use Rattle.counting_theory.specs.Payload.{Payload, one_field}
 use Rattle.counting_theory.specs.Trie.{nil, node, at_end, lookup, Sorted}
 use Rattle.counting_theory.specs.Inside.TrieLaws.{SameMap}
-use Rattle.counting_theory.specs.Label.{Equivalence, Label, field_label, Counting, CountingType}
+use Rattle.counting_theory.specs.Label.{Label, field_label, Counting, CountingType}
+use Rattle.counting_theory.specs.declared.equivalence.Equivalence.{Equivalence}
 use Rattle.counting_theory.specs.Raw.{class_of, raw, profile_of}
 use Rattle.counting_theory.specs.Place.{Value, values_of, elements_of, elements, field_values, same_label, select, of_class, ◌⊞◌, gathered, value_payload, count_of}
 use Rattle.counting_theory.specs.Published.{Addend, HasKey}

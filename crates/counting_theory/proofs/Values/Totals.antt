@@ -11,7 +11,8 @@ use borrow.Author.Tests.{ne_eqb}
 use Rattle.value_table.specs.Value.{Values, none, value, record_kind, ValidAt, Valid}
 use Rattle.counting_theory.specs.Payload.{Payload}
 use Rattle.counting_theory.specs.Trie.{nil, node, insert_step, insert, add, reduce, Sorted, total}
-use Rattle.counting_theory.specs.Label.{Equivalence, Label, field_kind, compare_label, Counting, CountingType}
+use Rattle.counting_theory.specs.Label.{Label, field_kind, compare_label, Counting, CountingType}
+use Rattle.counting_theory.specs.declared.equivalence.Equivalence.{Equivalence}
 use Rattle.counting_theory.specs.Raw.{raw, profile_of}
 use Rattle.counting_theory.specs.Place.{FieldTotals}
 use Rattle.counting_theory.proofs.Payload.{count-join, count-one, count-field}

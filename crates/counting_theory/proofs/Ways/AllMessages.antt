@@ -6,7 +6,8 @@ use mathlib.Core.List.{List, [], ◌∷◌, Permᴰ}
 use Rattle.value_table.specs.Value.{Values, none, join_values}
 use Rattle.counting_theory.specs.Trie.{nil, profile}
 use Rattle.counting_theory.specs.Inside.TrieLaws.{append, concat, NoLarger}
-use Rattle.counting_theory.specs.Label.{Equivalence, Counting, CountingType}
+use Rattle.counting_theory.specs.Label.{Counting, CountingType}
+use Rattle.counting_theory.specs.declared.equivalence.Equivalence.{Equivalence}
 use Rattle.counting_theory.specs.Raw.{raw, profile_of}
 use Rattle.counting_theory.proofs.Label.{counting-laws}
 use Rattle.counting_theory.proofs.Trie.Profile.{profile-perm, profile-append-comm}

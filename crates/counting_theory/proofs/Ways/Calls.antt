@@ -13,7 +13,9 @@ use Rattle.value_table.specs.Acceptance.{Table}
 use Rattle.value_table.proofs.Acceptance.{accepts}
 use Rattle.value_table.proofs.TableLayout.{length-encode as table-length, length-fits}
 use Rattle.counting_theory.specs.Trie.{size, reduce}
-use Rattle.counting_theory.specs.Label.{Equivalence, by_kind, by_label, Counting, CountingType}
+use Rattle.counting_theory.specs.Label.{Counting, CountingType}
+use Rattle.counting_theory.specs.declared.equivalence.Equivalence.{Equivalence}
+use Rattle.counting_theory.specs.declared.equivalence.Equivalence.TheVariants.{Kind as by_kind, Label as by_label}
 use Rattle.counting_theory.specs.Raw.{profile_of}
 use Rattle.counting_theory.specs.Encoding.{type_size, encode, type_of}
 use Rattle.counting_theory.specs.WellFormed.{within_limit, well_formed, bad_type_length, IsType}

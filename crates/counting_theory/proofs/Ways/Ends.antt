@@ -9,7 +9,8 @@ use native.Mathlib.Omega.{arith}
 use lib.ListN.{length}
 use Rattle.value_table.specs.Value.{Values, Valid, join_values}
 use Rattle.value_table.specs.Judged.{messages}
-use Rattle.counting_theory.specs.Label.{Equivalence, CountingType}
+use Rattle.counting_theory.specs.Label.{CountingType}
+use Rattle.counting_theory.specs.declared.equivalence.Equivalence.{Equivalence}
 use Rattle.counting_theory.specs.Raw.{raw, profile_of}
 use Rattle.counting_theory.specs.Encoding.{encode}
 use Rattle.counting_theory.specs.WellFormed.{bad_type_length, IsType, EachFits}

@@ -7,7 +7,8 @@ use native.Mathlib.Omega.{arith}
 use lib.ListN.{take}
 use Rattle.value_table.specs.Value.{Values}
 use Rattle.counting_theory.specs.Trie.{size, lookup}
-use Rattle.counting_theory.specs.Label.{Equivalence, Label, Counting}
+use Rattle.counting_theory.specs.Label.{Label, Counting}
+use Rattle.counting_theory.specs.declared.equivalence.Equivalence.{Equivalence}
 use Rattle.counting_theory.specs.Raw.{profile_of}
 use Rattle.counting_theory.specs.Place.{values_of, payload_at, count_of}
 use Rattle.counting_theory.specs.Encoding.{type_size, encode, type_of}

@@ -11,7 +11,8 @@ use Rattle.byte_records.specs.Number.{Bytes}
 use Rattle.byte_records.proofs.Tests.{or_parts}
 use Rattle.value_table.specs.Outcome.{accepted}
 use Rattle.counting_theory.specs.Trie.{size, reduce}
-use Rattle.counting_theory.specs.Label.{Equivalence, Counting, CountingType}
+use Rattle.counting_theory.specs.Label.{Counting, CountingType}
+use Rattle.counting_theory.specs.declared.equivalence.Equivalence.{Equivalence}
 use Rattle.counting_theory.specs.Encoding.{type_size, encode, type_of}
 use Rattle.counting_theory.specs.WellFormed.{within_limit, well_formed, bad_type_length, IsType}
 use Rattle.counting_theory.specs.Answers.{equivalence_number, Written, turned_down, largest_arena, merged_types, merged}

@@ -8,7 +8,7 @@ use native.Mathlib.Omega.{arith}
 use lib.Dec.{ltb}
 use lib.ListN.{length}
 use borrow.Author.Tests.{ltb-true}
-use Rattle.counting_theory.specs.Label.{Equivalence}
+use Rattle.counting_theory.specs.declared.equivalence.Equivalence.{Equivalence}
 use Rattle.counting_theory.specs.Answers.{Left, leaves, equivalence_number, merged}
 use Rattle.counting_theory.specs.Ways.{Call, infer, infer_default, merge, pull, in_use, go_on, run, at_hand, AllAllowed, zero_work, WorkZero}
 use Rattle.counting_theory.proofs.Trie.Canonical.{some-none}

@@ -10,7 +10,8 @@ use Rattle.value_table.specs.Value as table
 use Rattle.value_table.specs.Judged.{messages}
 use Rattle.value_table.proofs.Acceptance.{unique}
 use Rattle.counting_theory.specs.Inside.TrieLaws.{append, concat}
-use Rattle.counting_theory.specs.Label.{Equivalence, CountingType}
+use Rattle.counting_theory.specs.Label.{CountingType}
+use Rattle.counting_theory.specs.declared.equivalence.Equivalence.{Equivalence}
 use Rattle.counting_theory.specs.Raw.{raw, profile_of}
 use Rattle.counting_theory.specs.WellFormed.{EachFits}
 use Rattle.counting_theory.specs.Ways.{Call, infer, infer_default, merge, AllAllowed, plan_messages, message_bytes, occurrences, Accepted}

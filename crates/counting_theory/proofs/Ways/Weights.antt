@@ -12,7 +12,8 @@ use Rattle.value_table.specs.Value as table
 use Rattle.counting_theory.specs.Payload.{one}
 use Rattle.counting_theory.specs.Trie.{nil, node, TrieOps, Trie, insert_step, insert, add, total, largest_below, largest_total}
 use Rattle.counting_theory.specs.Inside.TrieLaws.{TrieLaws}
-use Rattle.counting_theory.specs.Label.{Equivalence, field_kind, Counting}
+use Rattle.counting_theory.specs.Label.{field_kind, Counting}
+use Rattle.counting_theory.specs.declared.equivalence.Equivalence.{Equivalence}
 use Rattle.counting_theory.specs.Raw.{raw, profile_of}
 use Rattle.counting_theory.proofs.Payload.{count-one}
 use Rattle.counting_theory.proofs.Label.{counting-laws}

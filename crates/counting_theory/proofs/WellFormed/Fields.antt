@@ -12,7 +12,9 @@ use Rattle.value_table.specs.Value.{member, record_kind}
 use Rattle.byte_records.proofs.Tests.{and_parts}
 use Rattle.counting_theory.specs.Payload.{Payload, one_field, join}
 use Rattle.counting_theory.specs.Trie.{nil, node, reduce_step, reduce_node, reduce}
-use Rattle.counting_theory.specs.Label.{Equivalence, by_kind, by_label, Label, listed, field_label, compare_label, Counting, CountingType}
+use Rattle.counting_theory.specs.Label.{Label, listed, field_label, compare_label, Counting, CountingType}
+use Rattle.counting_theory.specs.declared.equivalence.Equivalence.{Equivalence}
+use Rattle.counting_theory.specs.declared.equivalence.Equivalence.TheVariants.{Kind as by_kind, Label as by_label}
 use Rattle.counting_theory.specs.Encoding.{sibling_keys, Tagged}
 use Rattle.counting_theory.specs.WellFormed.{field_count, fields_of}
 use Rattle.counting_theory.proofs.Payload.{count-join, count-field}

@@ -10,7 +10,8 @@ use borrow.Author.Tests.{eqb-true, eq-eqb, ne_eqb}
 use Rattle.byte_records.specs.Number.{Bytes}
 use Rattle.counting_theory.specs.Payload.{Payload}
 use Rattle.counting_theory.specs.Trie.{nil, node, size, total}
-use Rattle.counting_theory.specs.Label.{Equivalence, Label, field_kind, Counting, CountingType}
+use Rattle.counting_theory.specs.Label.{Label, field_kind, Counting, CountingType}
+use Rattle.counting_theory.specs.declared.equivalence.Equivalence.{Equivalence}
 use Rattle.counting_theory.specs.Place.{FieldTotals}
 use Rattle.counting_theory.specs.Encoding.{type_size, type_kind, type_span, type_payload}
 use Rattle.counting_theory.specs.WellFormed.{type_record, holds_fields as fields_inside, depth_inside, laid_out, counted}

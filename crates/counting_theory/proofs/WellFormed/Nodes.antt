@@ -7,7 +7,8 @@ use borrow.Author.Tests.{leb-true, le-leb}
 use Rattle.value_table.specs.Value.{max_depth, record_kind}
 use Rattle.counting_theory.specs.Payload.{Payload, proper}
 use Rattle.counting_theory.specs.Trie.{nil, node, total}
-use Rattle.counting_theory.specs.Label.{Equivalence, Label, Counting, CountingType}
+use Rattle.counting_theory.specs.Label.{Label, Counting, CountingType}
+use Rattle.counting_theory.specs.declared.equivalence.Equivalence.{Equivalence}
 use Rattle.counting_theory.specs.WellFormed.{depth_inside, counted, fields_of, field_counts, measured, Shallow}
 use Rattle.counting_theory.proofs.Tagged.Parts.{holds_fields}
 use Rattle.counting_theory.proofs.WellFormed.Tests.{three-parts, three, implied, implies}

@@ -11,7 +11,8 @@ use Rattle.value_table.specs.Value.{Head, record_size, max_length, record_kind, 
 use Rattle.value_table.specs.Value as table
 use Rattle.counting_theory.specs.Payload.{one, proper}
 use Rattle.counting_theory.specs.Trie.{nil, add, profile, total}
-use Rattle.counting_theory.specs.Label.{Equivalence, field_kind, Counting, CountingType}
+use Rattle.counting_theory.specs.Label.{field_kind, Counting, CountingType}
+use Rattle.counting_theory.specs.declared.equivalence.Equivalence.{Equivalence}
 use Rattle.counting_theory.specs.Raw.{class_of, addend, raw, profile_of}
 use Rattle.counting_theory.specs.WellFormed.{depth_inside, fields_of, EachFits}
 use Rattle.counting_theory.proofs.Payload.{count-one, count-field, proper-one, proper-field}

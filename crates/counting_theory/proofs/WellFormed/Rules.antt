@@ -9,7 +9,8 @@ use lib.Dec.{eqb}
 use borrow.Author.Tests.{eqb-true, eq-eqb}
 use Rattle.byte_records.proofs.Tests.{and_parts}
 use Rattle.counting_theory.specs.Trie.{nil, node, Before, Sorted, total}
-use Rattle.counting_theory.specs.Label.{Equivalence, Label, field_kind, compare_label, Counting, CountingType}
+use Rattle.counting_theory.specs.Label.{Label, field_kind, compare_label, Counting, CountingType}
+use Rattle.counting_theory.specs.declared.equivalence.Equivalence.{Equivalence}
 use Rattle.counting_theory.specs.Place.{FieldTotals}
 use Rattle.counting_theory.specs.WellFormed.{counted, within_limit, is_lt, precedes, ascends, field_totals, field_counts, measured, obeys}
 use Rattle.counting_theory.proofs.WellFormed.Tests.{both, three-parts, three, implied, implies}

@@ -1,7 +1,8 @@
 -- Records that hold a type.
 use Rattle.std.specs.Prelude.{◌≡◌, Bool, List, ◌++◌, ℕ, ◌+◌, ◌*◌, drop}
 use Rattle.counting_theory.specs.Trie.{size}
-use Rattle.counting_theory.specs.Label.{Equivalence, CountingType}
+use Rattle.counting_theory.specs.Label.{CountingType}
+use Rattle.counting_theory.specs.declared.equivalence.Equivalence.{Equivalence}
 use Rattle.counting_theory.specs.Encoding.{type_size, encode, Tagged}
 use Rattle.counting_theory.specs.WellFormed.{Shallow}
 use Rattle.counting_theory.specs.Inside.TypeBytes.{Fitting}

@@ -9,11 +9,11 @@ pub returns-then-merged : goal.returns-then-merged
 unfolding both exceeds
 returns-then-merged c = front-total _ _ _ (sym c.merge_types-merged.ensures.seen ∙ c.if-merged.true)
 
-pub returns-then-arena-n : goal.returns-then-arena-n
+pub returns-then-arena-merged : goal.returns-then-arena-merged
 unfolding both merged_bytes exceeds
-returns-then-arena-n c =
+returns-then-arena-merged c =
     let m = c.merge_types-merged in
-    front-within _ _ (sym m.ensures.seen ∙ c.if-merged.false) _ _ (front-room _ _ _ (omega (arith, c.if-arena-n.true, m.auto.arena, m.ensures.counted)))
+    front-within _ _ (sym m.ensures.seen ∙ c.if-merged.false) _ _ (front-room _ _ _ (omega (arith, c.if-arena-merged.true, m.auto.arena, m.ensures.counted)))
 
 pub returns : goal.returns
 unfolding both merged_bytes exceeds
@@ -21,5 +21,5 @@ returns c =
     let m = c.merge_types-merged in
     rw m.ensures.counted
     (front-within _ _ (sym m.ensures.seen ∙ c.if-merged.false) _ _
-    (front_bytes _ _ _ (omega (arith, c.if-arena-n.false, m.auto.arena, m.ensures.counted))
-    (rw m.ensures.bytes (sets-front _ _ (omega (arith, c.if-arena-n.false, m.auto.arena, m.ensures.counted))))))
+    (front_bytes _ _ _ (omega (arith, c.if-arena-merged.false, m.auto.arena, m.ensures.counted))
+    (rw m.ensures.bytes (sets-front _ _ (omega (arith, c.if-arena-merged.false, m.auto.arena, m.ensures.counted))))))

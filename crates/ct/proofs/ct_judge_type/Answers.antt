@@ -1,6 +1,8 @@
 -- `ct_judge_type` meets its contract: the three numbers are those of the judgement, which is the one that the table has.
 use mathlib.Core.Path.{◌∙◌}
+use Rattle.answers.specs.Outcomes.{refusal_of}
+use Rattle.ct.proofs.Told.{told}
 use Rattle.ct.proofs.ct_judge_type.Goals as goal
 
 pub returns : goal.returns
-returns c = c.answer_of.ensures ∙ c.judge_type.ensures
+returns c = told refusal_of (λ _ _ h. h) c.judge_type.result c.answer_of.result c.answer_of.ensures ∙ c.judge_type.ensures

@@ -1,9 +1,12 @@
 -- `ct_merge` meets its contract: the three numbers are those of the merge, which leaves the same arena.
 use mathlib.Core.Path.{◌∙◌}
 use mathlib.Core.List.{[]}
+use Rattle.answers.specs.Outcomes.{refusal_of}
+use Rattle.ct.proofs.Told.{told}
 use Rattle.ct.proofs.ct_merge.Goals as goal
 
 pub returns : goal.returns
 returns c =
-    (λ i. record { outcome = c.answer_of.ensures i; arena = c.merge.new.arena; work = [] })
+    let answer = told refusal_of (λ _ _ h. h) c.merge.result c.answer_of.result c.answer_of.ensures in
+    (λ i. record { outcome = answer i; arena = c.merge.new.arena; work = [] })
     ∙ c.merge.ensures

@@ -8,14 +8,17 @@ use lib.Dec.{eqb}
 use lib.ListN.{length}
 use Rattle.value_table.specs.Value.{record_kind}
 use Rattle.inference.specs.declared.placing.Put.{Put}
-use Rattle.inference.specs.declared.placing.Put.TheVariants.{NoRoom, At}
+use Rattle.std.proofs.Common.{Result, Ok, Err}
+use Rattle.type_arena.specs.declared.record_store.NoRoom.{NoRoom}
+use Rattle.counting_theory.specs.Payload.{Payload}
 use Rattle.counting_theory.specs.Trie.{nil, node, size, add}
-use Rattle.counting_theory.specs.Label.{by_kind, Label, listed, Counting, CountingType}
+use Rattle.counting_theory.specs.Label.{Label, listed, label_of, Counting, CountingType}
+use Rattle.counting_theory.specs.declared.equivalence.Equivalence.TheVariants.{Kind as by_kind}
 use Rattle.counting_theory.specs.Encoding.{type_size, type_kind, type_key, type_payload, type_of, Tagged}
 use Rattle.counting_theory.specs.Inside.TypeBytes.{Fitting}
 use Rattle.type_arena.specs.Inside.Arena.{label_at}
 use Rattle.type_arena.specs.Inside.Addend.{body, rest, Coded}
-use Rattle.inference.specs.Inside.Inferring.{wanted, NumbersFit, InferredSiblings, ArenaHolds, split, grown, Counted, PlacedAt}
+use Rattle.inference.specs.Inside.Inferring.{NumbersFit, InferredSiblings, ArenaHolds, split, grown, Counted, PlacedAt}
 use Rattle.folding.specs.Inside.Folding.{first_label, with_first}
 use Rattle.counting_theory.proofs.Label.{kind-eq, counting-laws}
 use Rattle.counting_theory.proofs.Trie.Sorted.{sorted-add}
@@ -28,9 +31,14 @@ use Rattle.inference.proofs.InPlace.Material.{numbers-add}
 use Rattle.folding.proofs.KindTagged.{tagged-add}
 
 -- the label that is searched for is the first one's
-pub label-wanted : (x w : List ℕ) (kind key : ℕ) → kind ≡ type_kind x 0 → key ≡ type_key x 0 → wanted by_kind kind key 0 w ≡ first_label x
+label-wanted : (x keys : List ℕ) (kind key : ℕ) → kind ≡ type_kind x 0 → key ≡ type_key x 0 → label_of by_kind kind key keys ≡ first_label x
 unfolding label_at listed
-label-wanted x w kind key h i = rw (h, i) refl
+label-wanted x keys kind key h i = rw (h, i) refl
+
+-- it is placed under its own label, with its own payload
+pub placed-first : (x keys : List ℕ) (kind key : ℕ) {a : Payload} (f : CountingType) (q : List ℕ) (rest : ℕ) (r : Result Put NoRoom) (b : List ℕ) → kind ≡ type_kind x 0 → key ≡ type_key x 0 → a ≡ type_payload x 0 →
+    PlacedAt (label_of by_kind kind key keys) a f q rest r b → PlacedAt (first_label x) (type_payload x 0) f q rest r b
+placed-first x keys kind key f q rest r b h i j z = rw (label-wanted x keys kind key h i, j) at z
 
 first_kind : (x : List ℕ) → (first_label x).kind ≡ type_kind x 0
 unfolding label_at
@@ -92,14 +100,14 @@ module _ {field : Bool} {x : List ℕ} (k : Coded by_kind field x) (some : 0 < l
         numbers = numbers-add r f first-numbers h.numbers;
       }
 
-module _ (x : List ℕ) (f : CountingType) (q : List ℕ) (rest : ℕ) (r : Put) (b : List ℕ) (h : PlacedAt (first_label x) (type_payload x 0) f q rest r b) where
-  pub first_counted : (p n : ℕ) → r ≡ At p n → Counted (split (first_label x) f) (first_label x) (grown (split (first_label x) f).payload (type_payload x 0)) q p n b
-  first_counted p n e = rw e at h
+module _ (x : List ℕ) (f : CountingType) (q : List ℕ) (rest : ℕ) (r : Result Put NoRoom) (b : List ℕ) (h : PlacedAt (first_label x) (type_payload x 0) f q rest r b) where
+  pub first_counted : (put : Put) → r ≡ Ok put → Counted (split (first_label x) f) (first_label x) (grown (split (first_label x) f).payload (type_payload x 0)) q put.at put.records b
+  first_counted put z = rw z at h
 
   -- room that is missing for the label alone is missing for all that stands inside too
-  pub first-full : r ≡ NoRoom → length b < type_size * (size (with_first x f) + rest)
-  first-full e =
+  pub first-full : (e : NoRoom) → r ≡ Err e → length b < type_size * (size (with_first x f) + rest)
+  first-full e z =
       let c = type_of by_kind (body x) in
       let y = split (first_label x) f in
-      let k : length b < type_size * (size y.before + (1 + (size y.content + size y.after)) + rest) = rw e at h in
+      let k : length b < type_size * (size y.before + (1 + (size y.content + size y.after)) + rest) = rw z at h in
       omega (arith, insert-size (first_label x) (type_payload x 0) (add Counting c) f, (add-grows counting-laws c y.content).sizes)

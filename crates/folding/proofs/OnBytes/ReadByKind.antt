@@ -4,7 +4,8 @@ use mathlib.Core.Bool.{Bool}
 use mathlib.Core.List.{List}
 use Prim.Native.Nat.{ℕ}
 use Rattle.counting_theory.specs.Trie.{nil, node}
-use Rattle.counting_theory.specs.Label.{by_kind, by_label, CountingType}
+use Rattle.counting_theory.specs.Label.{CountingType}
+use Rattle.counting_theory.specs.declared.equivalence.Equivalence.TheVariants.{Kind as by_kind, Label as by_label}
 use Rattle.counting_theory.specs.Encoding.{header, encode, type_of}
 use Rattle.counting_theory.specs.Inside.TypeBytes.{Fitting}
 use Rattle.type_arena.specs.Inside.Addend.{Coded}

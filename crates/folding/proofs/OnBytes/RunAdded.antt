@@ -7,11 +7,12 @@ use native.Mathlib.Omega.{arith}
 use lib.ListN.{length}
 use Rattle.value_table.specs.Value.{max_length}
 use Rattle.folding.specs.declared.pass.Folded.{Folded}
-use Rattle.folding.specs.declared.pass.Folded.TheVariants.{Records, Full}
 use Rattle.folding.specs.declared.pass.Placed.{Placed}
-use Rattle.folding.specs.declared.pass.Placed.TheVariants.{NoRoom, At}
+use Rattle.std.proofs.Common.{Result, Ok, Err}
+use Rattle.type_arena.specs.declared.record_store.NoRoom.{NoRoom}
 use Rattle.counting_theory.specs.Trie.{size, add}
-use Rattle.counting_theory.specs.Label.{by_kind, Counting, CountingType}
+use Rattle.counting_theory.specs.Label.{Counting, CountingType}
+use Rattle.counting_theory.specs.declared.equivalence.Equivalence.TheVariants.{Kind as by_kind}
 use Rattle.counting_theory.specs.Encoding.{type_size, type_payload, encode, type_of}
 use Rattle.type_arena.specs.Inside.Addend.{body, rest, Coded}
 use Rattle.inference.specs.Inside.Inferring.{InferredSiblings, ArenaHolds, Starts, split, Grown}
@@ -24,29 +25,29 @@ use Rattle.folding.proofs.OnBytes.Starts.{inside-zero, starts-kept, starts-lowes
 use Rattle.folding.proofs.OnBytes.FirstAdded.{nothing-added, first-siblings}
 
 -- the two answers on a run
-module _ (g : CountingType) (q : List ℕ) (rest : ℕ) (r : Folded) (b : List ℕ) (h : FoldedRun g q rest r b) where
-  pub run-full : r ≡ Full → length b < type_size * (size g + rest)
-  run-full e = rw e at h
+module _ (g : CountingType) (q : List ℕ) (rest : ℕ) (r : Result Folded NoRoom) (b : List ℕ) (h : FoldedRun g q rest r b) where
+  pub run-full : (e : NoRoom) → r ≡ Err e → length b < type_size * (size g + rest)
+  run-full e z = rw z at h
 
-  pub run-records : (n low : ℕ) → r ≡ Records n low → Grown g q n b × Starts low g
-  run-records n low e = rw e at h
+  pub run-records : (folded : Folded) → r ≡ Ok folded → Grown g q folded.records b × Starts folded.low g
+  run-records folded z = rw z at h
 
--- the arena a holds the siblings g, to which y, what is left of the run x, is still to be added; one was found at `from` last, and none
+-- the arena a holds the siblings g, to which y, what is left of the run x, is still to be added; the last one was placed so, and none
 -- before `low`
-pub record RanTo (field : Bool) (x : List ℕ) (f : CountingType) (q a y : List ℕ) (m from i low : ℕ) : Type 0 where
+pub record RanTo (field : Bool) (x : List ℕ) (f : CountingType) (q a y : List ℕ) (last : Placed) (low : ℕ) : Type 0 where
   pub g : CountingType
   pub free : List ℕ
   pub held : a ≡ encode g ++ (q ++ free)
-  pub count : m ≡ size g
+  pub count : last.records ≡ size g
   pub siblings : InferredSiblings by_kind field g
-  pub starts : Starts from g
-  pub inside : Inside i from g
+  pub starts : Starts last.at g
+  pub inside : Inside last.inside last.at g
   pub lowest : Starts low g
   pub coded : Coded by_kind field y
   pub same : add Counting (type_of by_kind y) g ≡ add Counting (type_of by_kind x) f
 
 pub ran-start : {field : Bool} {x : List ℕ} {f : CountingType} {q a free : List ℕ} {n rest start : ℕ} → ArenaHolds by_kind field a n rest f q free → Starts start f →
-    Coded by_kind field x → RanTo field x f q a x n start 0 start
+    Coded by_kind field x → RanTo field x f q a x (record { at = start; records = n; inside = 0 }) start
 ran-start {f = f} {free = free} {start = start} h s k =
     record {
       g = f;
@@ -61,11 +62,11 @@ ran-start {f = f} {free = free} {start = start} h s k =
       same = refl;
     }
 
-module _ {field : Bool} {x : List ℕ} {f : CountingType} {q a y : List ℕ} {m from i low : ℕ} (s : RanTo field x f q a y m from i low) where
-  pub ran-holds : (rest : ℕ) → length q ≡ type_size * rest → length a ≤ max_length → ArenaHolds by_kind field a m rest s.g q s.free
+module _ {field : Bool} {x : List ℕ} {f : CountingType} {q a y : List ℕ} {last : Placed} {low : ℕ} (s : RanTo field x f q a y last low) where
+  pub ran-holds : (rest : ℕ) → length q ≡ type_size * rest → length a ≤ max_length → ArenaHolds by_kind field a last.records rest s.g q s.free
   ran-holds rest u short = record { bytes = s.held; count = s.count; used = u; short = short; siblings = s.siblings }
 
-  pub ran-end : length y ≡ 0 → Grown (add Counting (type_of by_kind x) f) q m a × Starts low (add Counting (type_of by_kind x) f)
+  pub ran-end : length y ≡ 0 → Grown (add Counting (type_of by_kind x) f) q last.records a × Starts low (add Counting (type_of by_kind x) f)
   ran-end e =
       let z : s.g ≡ add Counting (type_of by_kind x) f = sym (nothing-added y e s.g) ∙ s.same in
       (record { count = s.count ∙ ap size z; free = s.free; bytes = s.held ∙ ap (λ g. encode g ++ (q ++ s.free)) z }, rw z at s.lowest)
@@ -79,22 +80,22 @@ module _ {field : Bool} {x : List ℕ} {f : CountingType} {q a y : List ℕ} {m 
     unfolding add
     left-same = ap (λ t. add Counting t s.g) (sym (addend s.coded some).is-type) ∙ s.same
 
-    pub ran-full : (behind p : ℕ) (a' : List ℕ) {r : Placed} → r ≡ NoRoom → FoldedFirst after p q behind r a' → length a' < type_size * (size (add Counting (type_of by_kind x) f) + behind)
-    ran-full behind p a' o h =
+    pub ran-full : (behind p : ℕ) (a' : List ℕ) {r : Result Placed NoRoom} (e : NoRoom) → r ≡ Err e → FoldedFirst after p q behind r a' → length a' < type_size * (size (add Counting (type_of by_kind x) f) + behind)
+    ran-full behind p a' e o h =
         let k : length a' < type_size * (size after + behind) = rw o at h in
         omega (arith, (add-grows counting-laws (type_of by_kind (rest y)) after).sizes, ap size left-same)
 
-    module _ (behind p k j : ℕ) (a' : List ℕ) {r : Placed} (o : r ≡ At p k j) (h : FoldedFirst after (size (split (first_label y) s.g).before) q behind r a') where
-      placed : Grown after q k a' × (p ≡ size (split (first_label y) s.g).before) × Inside j p after
+    module _ (behind : ℕ) (put : Placed) (a' : List ℕ) {r : Result Placed NoRoom} (o : r ≡ Ok put) (h : FoldedFirst after (size (split (first_label y) s.g).before) q behind r a') where
+      placed : Grown after q put.records a' × (put.at ≡ size (split (first_label y) s.g).before) × Inside put.inside put.at after
       placed = rw o at h
 
-      here : Starts p after
+      here : Starts put.at after
       here = record { first = _; last = _; whole = insert-split _ (type_payload y 0) _ s.g; count = placed.1 }
 
-      kept : low ≤ p → Starts low after
+      kept : low ≤ put.at → Starts low after
       kept n = starts-kept (first_label y) (type_payload y 0) (add Counting (type_of by_kind (body y))) low s.g s.lowest (omega (arith, placed.1))
 
-      pub ran-next : (first : Bool) (low' : ℕ) → low' ≡ lowest_of first low p → (y' : List ℕ) → y' ≡ rest y → RanTo field x f q a' y' k p j low'
+      pub ran-next : (first : Bool) (low' : ℕ) → low' ≡ lowest_of first low put.at → (y' : List ℕ) → y' ≡ rest y → RanTo field x f q a' y' put low'
       ran-next first low' z y' w =
           rw (z, w) (record {
             g = after;
@@ -104,7 +105,7 @@ module _ {field : Bool} {x : List ℕ} {f : CountingType} {q a y : List ℕ} {m 
             siblings = first-siblings s.coded some s.g s.siblings;
             starts = here;
             inside = placed.2;
-            lowest = starts-lowest first low p after here kept;
+            lowest = starts-lowest first low put.at after here kept;
             coded = (addend s.coded some).in_rest;
             same = left-same;
           })

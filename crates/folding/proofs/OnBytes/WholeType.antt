@@ -8,11 +8,12 @@ use lib.ListN.{length, take, length-append}
 use lib.Seq.{take_at}
 use Rattle.value_table.specs.Value.{max_length}
 use Rattle.folding.specs.declared.pass.Folded.{Folded}
-use Rattle.folding.specs.declared.pass.Folded.TheVariants.{Records, Full}
-use Rattle.answers.specs.declared.Answered.TheVariants.{Accepted, Refused}
-use Rattle.answers.specs.declared.Refusal.TheVariants.{Total, Room}
+use Rattle.std.proofs.Common.{Result, Ok, Err}
+use Rattle.type_arena.specs.declared.record_store.NoRoom.{NoRoom}
+use Rattle.answers.specs.declared.Refusal.TheVariants.{Room}
 use Rattle.counting_theory.specs.Trie.{nil, size, add}
-use Rattle.counting_theory.specs.Label.{by_kind, by_label, Counting, CountingType}
+use Rattle.counting_theory.specs.Label.{Counting, CountingType}
+use Rattle.counting_theory.specs.declared.equivalence.Equivalence.TheVariants.{Kind as by_kind, Label as by_label}
 use Rattle.counting_theory.specs.Encoding.{type_size, encode, type_of}
 use Rattle.counting_theory.specs.WellFormed.{within_limit, well_formed, bad_type_length, IsType}
 use Rattle.counting_theory.specs.Answers.{merged_types, largest_arena}
@@ -24,7 +25,7 @@ use Rattle.folding.specs.Inside.Folding.{HeldAt, FoldedRun, FoldedFront}
 use Rattle.counting_theory.proofs.Encoding.Header.{length-encode}
 use Rattle.counting_theory.proofs.Ways.Calls.{room-length}
 use Rattle.type_arena.proofs.FirstAddend.{type-coded}
-use Rattle.answers.proofs.Fronts.{front-stored, front-room, front-within, front-total}
+use Rattle.answers.proofs.Fronts.{front-stored, front-room, front-within}
 use Rattle.folding.proofs.KindType.{kind-size}
 use Rattle.folding.proofs.KindIsType.{kind-formed}
 use Rattle.inference.proofs.InPlace.Seeking.{starts-zero}
@@ -51,14 +52,14 @@ module _ {b : List ℕ} (t : IsType by_label b (type_of by_label b)) where
   is-kind = ap (λ f. add Counting f nil) (type-kind (type-coded t))
 
   -- what is said of a run that was added to nothing
-  module _ (a : List ℕ) {r : Folded} (h : FoldedRun (add Counting (type_of by_kind b) nil) [] 0 r a) where
-    pub whole-front : (n low : ℕ) → r ≡ Records n low → FoldedFront b n a
-    whole-front n low e =
-        let g = (run-records _ [] 0 r a h n low e).0 in
+  module _ (a : List ℕ) {r : Result Folded NoRoom} (h : FoldedRun (add Counting (type_of by_kind b) nil) [] 0 r a) where
+    pub whole-front : (folded : Folded) → r ≡ Ok folded → FoldedFront b folded.records a
+    whole-front folded z =
+        let g = (run-records _ [] 0 r a h folded z).0 in
         record { count = g.count ∙ ap size is-kind; free = g.free; bytes = g.bytes ∙ ap (λ f. encode f ++ ([] ++ g.free)) is-kind }
 
-    pub whole-full : r ≡ Full → length a < type_size * size kind
-    whole-full e = omega (arith, run-full _ [] 0 r a h e, ap size is-kind)
+    pub whole-full : (e : NoRoom) → r ≡ Err e → length a < type_size * size kind
+    whole-full e z = omega (arith, run-full _ [] 0 r a h e z, ap size is-kind)
 
   -- no type is larger than the largest arena
   pub never-full : (a : List ℕ) → length a ≡ largest_arena → length a < type_size * size kind → ⊥
@@ -78,13 +79,10 @@ module _ {b : List ℕ} (t : IsType by_label b (type_of by_label b)) where
     pub front-limit : well_formed by_kind (take (type_size * n) a) ≡ within_limit kind
     front-limit = ap (well_formed by_kind) front-is ∙ kind-formed t
 
-    pub front-accepted : within_limit kind ≡ true → (m : ℕ) → length a ≡ m → WrittenInFront (merged_types kind m) (Accepted n) a
+    pub front-accepted : within_limit kind ≡ true → (m : ℕ) → length a ≡ m → WrittenInFront (merged_types kind m) (Ok n) a
     front-accepted limit m l =
         let k : length (encode kind) ≡ type_size * n = omega (arith, length-encode kind, h.count) in
-        front-within kind m (ap not limit) (Accepted n) a (front-stored kind m n a h.count (omega (arith, front-within-arena)) (rw k front-is))
+        front-within kind m (ap not limit) (Ok n) a (front-stored kind m n a h.count (omega (arith, front-within-arena)) (rw k front-is))
 
-  pub front-over : within_limit kind ≡ false → (m : ℕ) (a : List ℕ) → WrittenInFront (merged_types kind m) (Refused Total 0) a
-  front-over limit m a = front-total kind m a (ap not limit)
-
-  pub front-too-small : within_limit kind ≡ true → (m : ℕ) (a : List ℕ) → length a ≡ m → length a < type_size * size kind → WrittenInFront (merged_types kind m) (Refused Room 0) a
-  front-too-small limit m a l h = front-within kind m (ap not limit) (Refused Room 0) a (front-room kind m a (omega (arith, length-encode kind)))
+  pub front-too-small : within_limit kind ≡ true → (m : ℕ) (a : List ℕ) → length a ≡ m → length a < type_size * size kind → WrittenInFront (merged_types kind m) (Err Room) a
+  front-too-small limit m a l h = front-within kind m (ap not limit) (Err Room) a (front-room kind m a (omega (arith, length-encode kind)))

@@ -6,7 +6,7 @@ use Prim.Native.Nat.{ℕ}
 use lib.Dec.{eqb}
 use lib.ListN.{length}
 use Rattle.byte_records.proofs.Tests.{or_parts}
-use Rattle.counting_theory.specs.Label.{by_label}
+use Rattle.counting_theory.specs.declared.equivalence.Equivalence.TheVariants.{Label as by_label}
 use Rattle.counting_theory.specs.Encoding.{type_of}
 use Rattle.counting_theory.specs.WellFormed.{well_formed, bad_type_length}
 use Rattle.counting_theory.specs.Answers.{turned_down, merged_types}
@@ -34,21 +34,16 @@ module _ (b : List ℕ) (arena work : ℕ) where
   by-fold h i = rw (h, i) refl
 
 pub returns-then-bad_lengths : goal.returns-then-bad_lengths
-returns-then-bad_lengths c = front-refused Length 0 _ (by_length _ _ _ (sym c.bad_lengths.ensures ∙ c.if-bad_lengths.true))
-
-pub well_formed-requires : goal.well_formed-requires
-well_formed-requires c =
-    let a = c.args in
-    (lengths a.bytes.now (length a.arena.now) (length a.work.now) (sym c.bad_lengths.ensures ∙ c.if-bad_lengths.false)).0
+returns-then-bad_lengths c = front-refused Length _ (by_length _ _ _ (sym c.bad_lengths.ensures ∙ c.if-bad_lengths.true))
 
 pub returns-then-not-well_formed : goal.returns-then-not-well_formed
 returns-then-not-well_formed c =
-    front-refused First 0 _ (by-type _ _ _ (sym c.bad_lengths.ensures ∙ c.if-bad_lengths.false) (sym c.well_formed-2.ensures ∙ c.if-not-well_formed.true))
+    front-refused First _ (by-type _ _ _ (sym c.bad_lengths.ensures ∙ c.if-bad_lengths.false) (sym c.well_formed-2.ensures ∙ c.if-not-well_formed.true))
 
 pub fold_checked-requires : goal.fold_checked-requires
 fold_checked-requires c =
     let a = c.args in
-    let l = lengths a.bytes.now (length a.arena.now) (length a.work.now) (sym c.bad_lengths.ensures ∙ c.if-bad_lengths.false) in
+    let l = lengths a.bytes.now (length a.arena.now) a.work (sym c.bad_lengths.ensures ∙ c.if-bad_lengths.false) in
     let formed = sym c.well_formed-2.ensures ∙ c.if-not-well_formed.false in
     ((well-formed-type _ _ (λ p. (c.type_inv.bytes p).fits) l.0).0 formed, (type-length _ l.1).1)
 
@@ -57,4 +52,4 @@ returns c =
     let a = c.args in
     let allowed = sym c.bad_lengths.ensures ∙ c.if-bad_lengths.false in
     let formed = sym c.well_formed-2.ensures ∙ c.if-not-well_formed.false in
-    rw (by-fold a.bytes.now (length a.arena.now) (length a.work.now) allowed formed) c.fold_checked.ensures
+    rw (by-fold a.bytes.now (length a.arena.now) a.work allowed formed) c.fold_checked.ensures

@@ -1,17 +1,17 @@
 -- The pass over a type under label, as the contracts inside state it: its bytes are read under kind, and added to what is there.
-use Rattle.std.specs.Prelude.{◌≡◌, Bool, cond, List, ◌++◌, ℕ, ◌+◌, ◌*◌, ◌<◌, ltb, length}
+use Rattle.std.specs.Prelude.{Result, Ok, Err, ◌≡◌, Bool, cond, List, ◌++◌, ℕ, ◌+◌, ◌*◌, ◌<◌, ltb, length}
 use Rattle.counting_theory.specs.Payload.{Payload}
 use Rattle.counting_theory.specs.Trie.{node, size, insert, add}
 use Rattle.counting_theory.specs.Inside.TrieLaws.{append}
-use Rattle.counting_theory.specs.Label.{by_kind, by_label, Label, Counting, CountingType}
+use Rattle.counting_theory.specs.Label.{Label, Counting, CountingType}
+use Rattle.counting_theory.specs.declared.equivalence.Equivalence.TheVariants.{Kind as by_kind, Label as by_label}
 use Rattle.counting_theory.specs.Encoding.{type_size, type_payload, encode, type_of}
 use Rattle.type_arena.specs.Inside.Arena.{label_at}
 use Rattle.type_arena.specs.Inside.Addend.{body}
 use Rattle.inference.specs.Inside.Inferring.{ArenaHolds, Starts, Grown}
 use Rattle.folding.specs.declared.pass.Folded.{Folded}
-use Rattle.folding.specs.declared.pass.Folded.TheVariants.{Records, Full}
 use Rattle.folding.specs.declared.pass.Placed.{Placed}
-use Rattle.folding.specs.declared.pass.Placed.TheVariants.{At, NoRoom}
+use Rattle.type_arena.specs.declared.record_store.NoRoom.{NoRoom}
 use Rattle.folding.specs.Fold.{kind_type}
 
 -- if something stands at record i inside the sibling at `from`, a search inside may begin there
@@ -52,14 +52,14 @@ abbrev pub with_first : List ℕ → CountingType → CountingType
 with_first x f = insert Counting (first_label x) (type_payload x 0) (add Counting (type_of by_kind (body x))) f
 
 -- the siblings g are there, and a search may begin at the last number; or there is too little room for them
-abbrev pub FoldedRun : CountingType → List ℕ → ℕ → Folded → List ℕ → Type 0
-FoldedRun g q rest Full b = length b < type_size * (size g + rest)
-FoldedRun g q rest (Records n low) b = Grown g q n b × Starts low g
+abbrev pub FoldedRun : CountingType → List ℕ → ℕ → Result Folded NoRoom → List ℕ → Type 0
+FoldedRun g q rest (Err _) b = length b < type_size * (size g + rest)
+FoldedRun g q rest (Ok folded) b = Grown g q folded.records b × Starts folded.low g
 
 -- the same after one addend or field at this place, with where a search inside it may begin
-abbrev pub FoldedFirst : CountingType → ℕ → List ℕ → ℕ → Placed → List ℕ → Type 0
-FoldedFirst g place q rest NoRoom b = length b < type_size * (size g + rest)
-FoldedFirst g place q rest (At p n i) b = Grown g q n b × (p ≡ place) × Inside i p g
+abbrev pub FoldedFirst : CountingType → ℕ → List ℕ → ℕ → Result Placed NoRoom → List ℕ → Type 0
+FoldedFirst g place q rest (Err _) b = length b < type_size * (size g + rest)
+FoldedFirst g place q rest (Ok placed) b = Grown g q placed.records b × (placed.at ≡ place) × Inside placed.inside placed.at g
 
 -- an arena begins with the n records of the folded type of b
 pub record FoldedFront (b : List ℕ) (n : ℕ) (arena : List ℕ) : Type 0 where

@@ -8,15 +8,16 @@ use native.Mathlib.Omega.{arith}
 use lib.ListN.{length, take, drop, length-take, length-drop}
 use Rattle.value_table.specs.Value.{record_size, max_length, records, span_at}
 use Rattle.counting_theory.specs.Trie.{add}
-use Rattle.counting_theory.specs.Label.{Equivalence, Counting, CountingType}
+use Rattle.counting_theory.specs.Label.{Counting, CountingType}
+use Rattle.counting_theory.specs.declared.equivalence.Equivalence.{Equivalence}
 use Rattle.counting_theory.specs.Raw.{raw}
-use Rattle.inference.specs.declared.inferring.Inferred.TheVariants.{Records}
+use Rattle.std.specs.Prelude.{Ok}
 use Rattle.counting_theory.specs.Inside.Times.{times}
 use Rattle.inference.specs.Inside.Inferring.{ArenaHolds, Added, Weighed}
 use Rattle.gathering.specs.Inside.Gathering.{slot_start, slot_count, bytes_of_message, message_at, message_raw, slot_raw, MessageAt, Slot}
 
 pub waited-nothing : {e : Equivalence} {a free : List ℕ} {m : ℕ} {f : CountingType} (t : List ℕ) (v : ℕ) → v < 8192 → ArenaHolds e false a m 0 f [] free →
-    Added (add Counting (slot_raw e t v) f) [] 0 (Records m) a
+    Added (add Counting (slot_raw e t v) f) [] 0 (Ok m) a
 unfolding message_raw add
 waited-nothing {free = free} t v h x =
     let c : v / 8192 ≡ 0 = omega arith in

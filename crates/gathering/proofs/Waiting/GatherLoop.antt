@@ -12,7 +12,8 @@ use Rattle.value_table.specs.Judged.{messages}
 use Rattle.counting_theory.specs.Payload.{Payload}
 use Rattle.counting_theory.specs.Trie.{◌⊞◌ as join_option, lookup, size, add, Sorted}
 use Rattle.counting_theory.specs.Inside.TrieLaws.{append}
-use Rattle.counting_theory.specs.Label.{Equivalence, Label, Counting, CountingType}
+use Rattle.counting_theory.specs.Label.{Label, Counting, CountingType}
+use Rattle.counting_theory.specs.declared.equivalence.Equivalence.{Equivalence}
 use Rattle.counting_theory.specs.Raw.{raw, profile_of}
 use Rattle.counting_theory.specs.Encoding.{type_size}
 use Rattle.counting_theory.proofs.Label.{counting-laws}
@@ -22,8 +23,8 @@ use Rattle.counting_theory.proofs.Trie.Sorted.{sorted-add, sorted-profile}
 use Rattle.counting_theory.proofs.Trie.Canonical.{canonical}
 use Rattle.counting_theory.proofs.Trie.Profile.{lookup-profile}
 use Rattle.counting_theory.proofs.Trie.Growth.{add-grows}
-use Rattle.inference.specs.declared.inferring.Inferred.{Inferred}
-use Rattle.inference.specs.declared.inferring.Inferred.TheVariants.{Records, Full}
+use Rattle.std.specs.Prelude.{Result, Ok, Err}
+use Rattle.type_arena.specs.declared.record_store.NoRoom.{NoRoom}
 use Rattle.inference.specs.Inside.Inferring.{InferredSiblings, ArenaHolds, Grown, Added}
 use Rattle.gathering.specs.Inside.Gathering.{slot_start, slot_count, message_at, message_raw, slot_raw, waiting, SameMessage, MessageAt, Slot, Slots, Gathering, GatheredTo}
 use Rattle.inference.proofs.InPlace.Runs.{FirstValue, first_of, whole-records}
@@ -196,7 +197,7 @@ module _ {e : Equivalence} {t a : List ℕ} {m i : ℕ} {slots : List ℕ} (g : 
       unfolding join_option
       taken-full a' h = slot-full v (set slots k 0) a' (λ p. waiting-replaced e t p slots k 0 inside ∙ rw (slot-empty e t p 0 (omega arith)) refl) h
 
-      pub taken-to : i < 8192 → (r : Inferred) (a' : List ℕ) → length a' ≤ max_length → Added (add Counting (slot_raw e t v) g.f) [] 0 r a' →
+      pub taken-to : i < 8192 → (r : Result ℕ NoRoom) (a' : List ℕ) → length a' ≤ max_length → Added (add Counting (slot_raw e t v) g.f) [] 0 r a' →
           GatheredTo e t (i + span_at t i) r a' (set slots k (i + 8192))
-      taken-to small (Records r) a' l h = taken-added small r a' l h
-      taken-to small Full a' l h = taken-full a' h
+      taken-to small (Ok r) a' l h = taken-added small r a' l h
+      taken-to small (Err _) a' l h = taken-full a' h

@@ -10,7 +10,8 @@ use Rattle.value_table.specs.Value.{record_size, max_length}
 use Rattle.value_table.specs.Judged.{messages}
 use Rattle.counting_theory.specs.Payload.{Payload}
 use Rattle.counting_theory.specs.Trie.{nil, ◌⊞◌ as join_option, lookup, size, add}
-use Rattle.counting_theory.specs.Label.{Equivalence, Label, Counting}
+use Rattle.counting_theory.specs.Label.{Label, Counting}
+use Rattle.counting_theory.specs.declared.equivalence.Equivalence.{Equivalence}
 use Rattle.counting_theory.specs.Raw.{raw, profile_of}
 use Rattle.counting_theory.specs.Encoding.{type_size}
 use Rattle.counting_theory.specs.Encoding as bytes

@@ -1,6 +1,5 @@
 -- `same_message` meets its contract.
 use mathlib.Core.Path.{sym, ap, ◌∙◌}
-use mathlib.Core.Bool.{true≢false}
 use mathlib.Core.List.{List}
 use Prim.Native.Nat.{ℕ, ◌*◌, ◌<◌}
 use native.Mathlib.Omega.{arith}
@@ -16,9 +15,6 @@ span_at-span-requires c = omega (arith, c.requires)
 pub span_at-requires : goal.span_at-requires
 span_at-requires c = omega (arith, c.requires)
 
-pub returns-then-span_at-span : goal.returns-then-span_at-span
-returns-then-span_at-span c = (λ e. absurd (true≢false (sym e)), λ m. absurd (c.if-span_at-span.true (c.span_at.ensures.0 ∙ m.0 ∙ sym c.span_at-span.ensures.0)))
-
 pub overflow_add-i : goal.overflow_add-i
 overflow_add-i c =
     let s = c.requires in
@@ -29,11 +25,11 @@ equal_records-requires c =
     let s = c.requires in
     (s.0, omega arith, omega (arith, s, c.span_at-span.ensures.0))
 
-pub returns : goal.returns
-returns c =
+pub returns-then-span_at-span : goal.returns-then-span_at-span
+returns-then-span_at-span c =
     let s = c.args in
     let i = c.span_at-span.ensures.0 in
-    let j = sym c.span_at.ensures.0 ∙ c.if-span_at-span.false ∙ i in
+    let j = sym c.span_at.ensures.0 ∙ c.if-span_at-span.true ∙ i in
     let n = c.span_at-span.result in
     let found = c.equal_records.result in
     let front : ℕ → ℕ → List ℕ = λ p k. take (record_size * k) (drop (record_size * p) s.t.now) in (

@@ -1,33 +1,25 @@
 -- Messages that wait to be added, so that equal ones are added at once. A slot is a number: the record at which a message begins, and
 -- 8,192 for each message like it.
-use Rattle.std.specs.Prelude.{◌≡◌, false, List, [], ◌∷◌, ℕ, zero, suc, ◌+◌, ◌*◌, ◌-◌, ◌/◌, ◌%◌, ◌≤◌, ◌<◌, length, take, drop, get_or}
+use Rattle.std.specs.Prelude.{◌≡◌, Result, Ok, Err, false, List, [], ◌∷◌, ℕ, zero, suc, ◌+◌, ◌*◌, ◌/◌, ◌%◌, ◌≤◌, ◌<◌, length, take, drop, get_or}
 use Rattle.value_table.specs.Value.{record_size, span_at, Values, encode, Valid}
 use Rattle.value_table.specs.Judged.{messages}
-use Rattle.inference.specs.declared.inferring.Inferred.{Inferred}
-use Rattle.inference.specs.declared.inferring.Inferred.TheVariants.{Records, Full}
+use Rattle.type_arena.specs.declared.record_store.NoRoom.{NoRoom}
 use Rattle.counting_theory.specs.Trie.{nil, size, ◌⊞◌, lookup}
 use Rattle.counting_theory.specs.Inside.TrieLaws.{append}
-use Rattle.counting_theory.specs.Label.{Equivalence, Label, Counting, CountingType}
+use Rattle.counting_theory.specs.Label.{Label, Counting, CountingType}
+use Rattle.counting_theory.specs.declared.equivalence.Equivalence.{Equivalence}
 use Rattle.counting_theory.specs.Inside.Times.{times}
 use Rattle.counting_theory.specs.Raw.{raw, profile_of}
 use Rattle.counting_theory.specs.Encoding.{type_size}
 use Rattle.byte_records.specs.Inside.Numbers.{numbers_of}
-use Rattle.inference.specs.Inside.Inferring.{TableRun, ArenaHolds}
+use Rattle.inference.specs.Inside.Inferring.{keys_per_record, TableRun, ArenaHolds}
 
--- where the slots begin in a working buffer of n bytes, behind those for the keys
-abbrev pub key_part : ℕ → ℕ
-key_part n = n - n / 2
-
--- the bytes of a slot, and the first n slots of a working buffer
+-- the bytes of a slot, and the slots that some bytes have room for
 abbrev pub slot_size : ℕ
 slot_size = 8
 
-abbrev pub slots_of : ℕ → List ℕ → List ℕ
-slots_of n w = numbers_of slot_size n (drop (key_part (length w)) w)
-
--- a working buffer has room for n slots
-abbrev pub HasSlots : ℕ → List ℕ → Type 0
-HasSlots n w = key_part (length w) + slot_size * n ≤ length w
+abbrev pub slots_of : List ℕ → List ℕ
+slots_of s = numbers_of slot_size (length s / slot_size) s
 
 abbrev pub slot_start : ℕ → ℕ
 slot_start v = v % 8192
@@ -74,11 +66,11 @@ pub record Slot (t : List ℕ) (i v : ℕ) : Type 0 where
 abbrev pub Slots : List ℕ → ℕ → List ℕ → Type 0
 Slots t i slots = (k : ℕ) → k < length slots → Slot t i (get_or slots k 0)
 
--- there are slots, at most as many as the arena a has room for records, and the working buffer w has at least the bytes of the arena
-pub record Roomy (slots : ℕ) (a w : List ℕ) : Type 0 where
-  pub some : 0 < slots
-  pub few : type_size * slots ≤ length a
-  pub enough : length a ≤ length w
+-- there are slots, at most as many as the arena a has room for records, and `keys` has room for the key lists of the arena
+pub record Roomy (a slots keys : List ℕ) : Type 0 where
+  pub some : slot_size ≤ length slots
+  pub few : type_size * (length slots / slot_size) ≤ length a
+  pub enough : length a ≤ keys_per_record * length keys
 
 -- The m records of the arena a hold f. With what waits in the slots and the messages left from record i on it is all that the messages
 -- of t give, at each path.
@@ -93,6 +85,6 @@ pub record Gathering (e : Equivalence) (t a : List ℕ) (m i : ℕ) (slots : Lis
   pub same : (p : List Label) → ◌⊞◌ Counting (lookup Counting f p) (◌⊞◌ Counting (lookup Counting (waiting e t slots) p) (lookup Counting (raw e false left) p)) ≡ lookup Counting (raw e false (messages t)) p
 
 -- that, or the arena has too little room for the profile of the messages
-abbrev pub GatheredTo : Equivalence → List ℕ → ℕ → Inferred → List ℕ → List ℕ → Type 0
-GatheredTo e t i (Records m) a slots = Gathering e t a m i slots
-GatheredTo e t i Full a slots = length a < type_size * size (profile_of e (messages t))
+abbrev pub GatheredTo : Equivalence → List ℕ → ℕ → Result ℕ NoRoom → List ℕ → List ℕ → Type 0
+GatheredTo e t i (Ok m) a slots = Gathering e t a m i slots
+GatheredTo e t i (Err _) a slots = length a < type_size * size (profile_of e (messages t))

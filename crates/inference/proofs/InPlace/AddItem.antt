@@ -10,12 +10,13 @@ use lib.Seq.{sets}
 use borrow.Rule.Slice.PartMut.{put_mid}
 use Rattle.byte_records.specs.Number.{bytes_of}
 use Rattle.value_table.specs.Value.{max_length, record_kind, Values}
-use Rattle.inference.specs.declared.inferring.Inferred.{Inferred}
-use Rattle.inference.specs.declared.inferring.Inferred.TheVariants.{Records, Full}
+use Rattle.std.specs.Prelude.{Result, Ok, Err}
+use Rattle.type_arena.specs.declared.record_store.NoRoom.{NoRoom}
 use Rattle.byte_records.proofs.Format.{field-set, field-read, sets_behind}
 use Rattle.counting_theory.specs.Payload.{Payload}
 use Rattle.counting_theory.specs.Trie.{size, insert, add}
-use Rattle.counting_theory.specs.Label.{Equivalence, Label, Counting, CountingType}
+use Rattle.counting_theory.specs.Label.{Label, Counting, CountingType}
+use Rattle.counting_theory.specs.declared.equivalence.Equivalence.{Equivalence}
 use Rattle.counting_theory.specs.Raw.{raw}
 use Rattle.counting_theory.specs.Encoding.{type_format, type_size, type_span, record_numbers, header, encode}
 use Rattle.counting_theory.specs.Inside.Times.{times}
@@ -143,10 +144,10 @@ nothing-added field t z {vs} r e w c = rw (none_left t 0 vs (omega arith) r.byte
 
 -- the two answers on what is below
 module _ (g : CountingType) (q : List ℕ) (rest : ℕ) (b : List ℕ) where
-  pub added_full : (r : Inferred) → r ≡ Full → Added g q rest r b → length b < type_size * (size g + rest)
-  added_full r e h = rw e at h
+  pub added_full : (r : Result ℕ NoRoom) (e : NoRoom) → r ≡ Err e → Added g q rest r b → length b < type_size * (size g + rest)
+  added_full r o e h = rw e at h
 
-  pub added-records : (r : Inferred) (k : ℕ) → r ≡ Records k → Added g q rest r b → Grown g q k b
+  pub added-records : (r : Result ℕ NoRoom) (k : ℕ) → r ≡ Ok k → Added g q rest r b → Grown g q k b
   added-records r k e h = rw e at h
 
 pub grown-length : {g : CountingType} {q : List ℕ} {k : ℕ} {b : List ℕ} → Grown g q k b → type_size * k ≤ length b

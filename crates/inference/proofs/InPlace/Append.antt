@@ -10,7 +10,8 @@ use native.Mathlib.Omega.{arith}
 use Rattle.counting_theory.specs.Payload.{Payload}
 use Rattle.counting_theory.specs.Inside.TrieLaws.{flip, append}
 use Rattle.counting_theory.specs.Trie.{nil, node, size, Before, Sorted}
-use Rattle.counting_theory.specs.Label.{Equivalence, Label, compare_label, Counting, CountingType}
+use Rattle.counting_theory.specs.Label.{Label, compare_label, Counting, CountingType}
+use Rattle.counting_theory.specs.declared.equivalence.Equivalence.{Equivalence}
 use Rattle.counting_theory.specs.Encoding.{encode}
 use Rattle.inference.specs.Inside.Inferring.{InferredSiblings}
 use Rattle.counting_theory.proofs.Trie.Sorted.{before-trans}

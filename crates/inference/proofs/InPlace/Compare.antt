@@ -1,8 +1,9 @@
 -- The key list in the working buffer, key by key, and beside that of a record.
-use mathlib.Core.Path.{◌≡◌, ◌∙◌, ap}
+use mathlib.Core.Path.{◌≡◌, refl, ◌∙◌, ap}
+use mathlib.Core.Bool.{true, false}
 use mathlib.Core.List.{List, ◌∷◌}
 use Prim.Native.Nat.Ordering.{eq}
-use Prim.Native.Nat.{ℕ, zero, suc, ◌+◌, ◌*◌, ◌≤◌, compare, Ordering}
+use Prim.Native.Nat.{ℕ, zero, suc, ◌+◌, ◌*◌, ◌≤◌, ◌<◌, compare, Ordering}
 use native.Mathlib.Numerals.{add-one}
 use native.Mathlib.Omega.{arith}
 use lib.ListN.{length, drop, drop_of_length-le}
@@ -10,12 +11,15 @@ use lib.Seq.{drop-cons}
 use Rattle.byte_records.specs.Number.{number_at}
 use Rattle.byte_records.specs.Inside.Chain.{Chain, done, next}
 use Rattle.byte_records.proofs.Chain.{chain-le}
-use Rattle.counting_theory.specs.Order.{then}
+use Rattle.std.specs.declared.cmp.Ordering as code
+use Rattle.std.specs.Ordering.{nat_cmp, is_eq}
+use Rattle.counting_theory.specs.Order.{then, ordering_of}
 use Rattle.counting_theory.specs.Encoding.{type_size, type_key, type_span}
-use Rattle.counting_theory.proofs.Order.{number-refl}
+use Rattle.counting_theory.proofs.Order.{number-refl, ordering-compare}
 use Rattle.counting_theory.proofs.KeyOrder.{Comparing, comparing-start, left-sibling, right-sibling, next_keys}
 use Rattle.type_arena.specs.Inside.Arena.{keys_in, FieldsInside}
 use Rattle.type_arena.proofs.Fields.{inside-chain}
+use Rattle.type_arena.proofs.Comparing.{then-told, then-kept}
 use Rattle.inference.specs.Inside.Inferring.{keys_of}
 use Rattle.byte_records.proofs.Numbers.{length-numbers, numbers-at}
 
@@ -61,6 +65,15 @@ module _ {b : List ℕ} {p : ℕ} {w : List ℕ} {n : ℕ} where
       let x = left-sibling s.comparing f g in
       let y = right-sibling s.comparing f g in
       record { comparing = next_keys s.comparing f g; most = omega arith; upto = omega arith; within = s.within }
+
+  pub left-told : {end i j : ℕ} (o u : code.Ordering) → KeysLeft b p w n end (ordering_of o) i j → (i ≡ n → ⊥) → (j ≡ end → ⊥) → is_eq o ≡ true →
+      u ≡ nat_cmp (key_in w i) (type_key b j) → KeysLeft b p w n end (ordering_of u) (i + 1) (j + type_span b j)
+  left-told {i = i} {j = j} o u s f g e z =
+      rw (z, ordering-compare (key_in w i) (type_key b j), then-told o (compare (key_in w i) (type_key b j)) e) (left-next s f g)
+
+  pub left-kept : {end i j : ℕ} (o : code.Ordering) → KeysLeft b p w n end (ordering_of o) i j → (i ≡ n → ⊥) → (j ≡ end → ⊥) → is_eq o ≡ false →
+      KeysLeft b p w n end (ordering_of o) (i + 1) (j + type_span b j)
+  left-kept {i = i} {j = j} o s f g e = rw (← then-kept o (compare (key_in w i) (type_key b j)) e) at (left-next s f g)
 
   pub left-same : {end i j : ℕ} → KeysLeft b p w n end eq i j → (i ≡ n → ⊥) → (j ≡ end → ⊥) → key_in w i ≡ type_key b j → KeysLeft b p w n end eq (i + 1) (j + type_span b j)
   unfolding then

@@ -2,19 +2,22 @@
 use mathlib.Core.Path.{◌≡◌, refl, ◌∙◌, ap}
 use mathlib.Core.Bool.{Bool, true, false, cond}
 use mathlib.Core.List.{List, [], ◌∷◌}
-use Prim.Native.Nat.{ℕ, suc, ◌+◌, ◌*◌, ◌≤◌, ◌<◌}
+use Prim.Native.Nat.{ℕ, suc, ◌+◌, ◌*◌, ◌/◌, ◌≤◌, ◌<◌}
 use native.Mathlib.Omega.{arith}
 use lib.Dec.{eqb, leb}
-use lib.ListN.{length}
+use lib.ListN.{length, take}
+use lib.Seq.{length-take-le}
+use Rattle.byte_records.proofs.Numbers.{numbers-cut}
 use borrow.Author.Tests.{eq-eqb, ne_eqb}
 use Rattle.value_table.specs.Value.{record_kind, Values, keys}
-use Rattle.inference.specs.declared.key_list.Listed.{Listed}
-use Rattle.inference.specs.declared.key_list.Listed.TheVariants.{Keys, TooMany}
+use Rattle.std.specs.Prelude.{Result, Ok, Err}
+use Rattle.type_arena.specs.declared.record_store.NoRoom.{NoRoom}
 use Rattle.inference.specs.declared.placing.Put.{Put}
-use Rattle.inference.specs.declared.placing.Put.TheVariants.{NoRoom, At}
 use Rattle.counting_theory.specs.Payload.{Payload}
 use Rattle.counting_theory.specs.Trie.{nil, node, size, insert, add, profile}
-use Rattle.counting_theory.specs.Label.{Equivalence, by_kind, by_label, Label, listed, Counting, CountingType}
+use Rattle.counting_theory.specs.Label.{Label, listed, Counting, CountingType}
+use Rattle.counting_theory.specs.declared.equivalence.Equivalence.{Equivalence}
+use Rattle.counting_theory.specs.declared.equivalence.Equivalence.TheVariants.{Kind as by_kind, Label as by_label}
 use Rattle.counting_theory.specs.Raw.{insert_key, ascending, raw}
 use Rattle.counting_theory.specs.Encoding.{type_size, sibling_keys}
 use Rattle.counting_theory.specs.Inside.Times.{times}
@@ -31,18 +34,25 @@ pub label_is : (e : Equivalence) (kind key n : ℕ) (w : List ℕ) (vs : Values)
     wanted e kind key n w ≡ label_for e kind key vs
 label_is e kind key n w vs h = λ i. record { kind = kind; key = key; keys = h i }
 
+-- the keys at the front of w, cut off
+pub wanted-listed : (e : Equivalence) (kind key n : ℕ) (w : List ℕ) → 2 * n ≤ length w →
+    wanted e kind key (length (take (2 * n) w) / 2) (take (2 * n) w) ≡ wanted e kind key n w
+wanted-listed e kind key n w h =
+    let m : length (take (2 * n) w) / 2 ≡ n = omega (arith, length-take-le (2 * n) w h) in
+    rw (m, numbers-cut 2 n w h) refl
+
 -- no list is asked for under kind, nor of anything but a record
-pub listed-kind : (kind : ℕ) (vs : Values) (w : List ℕ) → LabelListed by_kind kind vs (Keys 0) w
+pub listed-kind : (kind : ℕ) (vs : Values) (w : List ℕ) → LabelListed by_kind kind vs (Ok 0) w
 unfolding listed
 listed-kind kind vs w = (refl, omega arith)
 
-pub listed-other : (kind : ℕ) (vs : Values) (w : List ℕ) → (kind ≡ record_kind → ⊥) → LabelListed by_label kind vs (Keys 0) w
+pub listed-other : (kind : ℕ) (vs : Values) (w : List ℕ) → (kind ≡ record_kind → ⊥) → LabelListed by_label kind vs (Ok 0) w
 unfolding listed
 listed-other kind vs w n = (rw (ne_eqb kind record_kind n) refl, omega arith)
 
-pub listed-record : (kind : ℕ) (vs : Values) (r : Listed) (w : List ℕ) → kind ≡ record_kind → ListedIn vs r w → LabelListed by_label kind vs r w
-listed-record kind vs (Keys n) w e h = (ap (listed by_label kind) h.0, h.1)
-listed-record kind vs TooMany w e h = (e, h)
+pub listed-record : (kind : ℕ) (vs : Values) (r : Result ℕ NoRoom) (w : List ℕ) → kind ≡ record_kind → ListedIn vs r w → LabelListed by_label kind vs r w
+listed-record kind vs (Ok n) w e h = (ap (listed by_label kind) h.0, h.1)
+listed-record kind vs (Err _) w e h = (e, h)
 
 module _ (l : Label) (a : Payload) (g : CountingType → CountingType) (f : CountingType) where
   pub insert-size : size (insert Counting l a g f) ≡ size (split l f).before + (1 + (size (g (split l f).content) + size (split l f).after))
@@ -54,11 +64,11 @@ module _ (e : Equivalence) (kind key w : ℕ) (vs : Values) (f : CountingType) (
   abbrev l : Label
   l = label_for e kind key vs
 
-  pub located : (r : Put) (b : List ℕ) → PlacedAt l (item_payload w kind vs) f q rest r b → CountedWithin (size (with_item e kind key w vs f) + rest) (split l f) l (item_payload w kind vs) q r b
-  located NoRoom b h =
+  pub located : (r : Result Put NoRoom) (b : List ℕ) → PlacedAt l (item_payload w kind vs) f q rest r b → CountedWithin (size (with_item e kind key w vs f) + rest) (split l f) l (item_payload w kind vs) q r b
+  located (Err _) b h =
       let r = times w (raw e (eqb kind record_kind) vs) in
       omega (arith, insert-size l (item_payload w kind vs) (add Counting r) f, (add-grows counting-laws r (split l f).content).sizes)
-  located (At p n) b h = h
+  located (Ok put) b h = h
 
 length-insert : (k : ℕ) (xs : List ℕ) → length (insert_key k xs) ≡ suc (length xs)
 unfolding insert_key

@@ -10,7 +10,8 @@ use lib.Dec.{eqb, lit<}
 use Rattle.value_table.specs.Value.{record_kind, Values, none, value, size, ValidAt}
 use Rattle.counting_theory.specs.Payload.{Payload, one}
 use Rattle.counting_theory.specs.Trie.{nil, node, insert_step, insert, add, profile, reduce}
-use Rattle.counting_theory.specs.Label.{Equivalence, Label, compare_label, Counting, CountingType}
+use Rattle.counting_theory.specs.Label.{Label, compare_label, Counting, CountingType}
+use Rattle.counting_theory.specs.declared.equivalence.Equivalence.{Equivalence}
 use Rattle.counting_theory.specs.Raw.{class_of, addend, raw}
 use Rattle.counting_theory.specs.Encoding.{Tagged}
 use Rattle.counting_theory.specs.Inside.Times.{times}

@@ -9,7 +9,8 @@ use lib.Seq.{take_at, drop-append-add, sets}
 use borrow.Rule.Slice.PartMut.{put_mid}
 use Rattle.counting_theory.specs.Payload.{Payload, join}
 use Rattle.counting_theory.specs.Trie.{node, size}
-use Rattle.counting_theory.specs.Label.{Equivalence, Label, CountingType}
+use Rattle.counting_theory.specs.Label.{Label, CountingType}
+use Rattle.counting_theory.specs.declared.equivalence.Equivalence.{Equivalence}
 use Rattle.counting_theory.specs.Encoding.{type_size, type_payload, header, encode}
 use Rattle.type_arena.specs.Inside.Arena.{header_of}
 use Rattle.type_arena.specs.Inside.Payload.{payload_offset, payload_bytes, LengthsKept}

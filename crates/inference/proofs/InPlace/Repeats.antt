@@ -14,7 +14,8 @@ use Rattle.value_table.specs.Inside.RecordBytes.{record_at}
 use Rattle.byte_records.proofs.Format.{length-record, record_same}
 use Rattle.value_table.proofs.TableLayout.{value-fits, length-encode}
 use Rattle.counting_theory.specs.Trie.{add, Sorted}
-use Rattle.counting_theory.specs.Label.{Equivalence, Counting, CountingType}
+use Rattle.counting_theory.specs.Label.{Counting, CountingType}
+use Rattle.counting_theory.specs.declared.equivalence.Equivalence.{Equivalence}
 use Rattle.counting_theory.specs.Raw.{raw}
 use Rattle.counting_theory.specs.Inside.Times.{times}
 use Rattle.inference.specs.Inside.Inferring.{EqualRecords, MostEqualRecords, MostEqualValues}

@@ -12,11 +12,13 @@ use Rattle.value_table.specs.Value.{Head, record_size, max_length, record_kind, 
 use Rattle.value_table.specs.Value as table
 use Rattle.inference.specs.declared.inferring.Item.{Item}
 use Rattle.inference.specs.declared.placing.Put.{Put}
-use Rattle.inference.specs.declared.placing.Put.TheVariants.{At, NoRoom}
+use Rattle.std.specs.Prelude.{Result, Ok, Err}
+use Rattle.type_arena.specs.declared.record_store.NoRoom.{NoRoom}
 use Rattle.counting_theory.specs.Payload.{one, one_field, copies}
 use Rattle.counting_theory.specs.Trie.{nil, node, size, add}
 use Rattle.counting_theory.specs.Inside.TrieLaws.{append}
-use Rattle.counting_theory.specs.Label.{Equivalence, field_kind, Counting, CountingType}
+use Rattle.counting_theory.specs.Label.{field_kind, Counting, CountingType}
+use Rattle.counting_theory.specs.declared.equivalence.Equivalence.{Equivalence}
 use Rattle.counting_theory.specs.Raw.{ascending, class_of, raw}
 use Rattle.counting_theory.specs.Encoding.{type_size}
 use Rattle.counting_theory.specs.Encoding as bytes
@@ -228,9 +230,9 @@ module _ {e : Equivalence} {field : Bool} {w : ℕ} {vs : Values} {f : CountingT
               ∙ ap (λ us. add Counting (times w (raw e field us)) x.g) (sym v.is-value)
               ∙ x.same
 
-          pub turn-full : (rest p : ℕ) (a' : List ℕ) {r : Put} → r ≡ NoRoom → AddedAt grown p q rest r a' → length a' < type_size * (size (add Counting (times w (raw e field vs)) f) + rest)
-          turn-full rest p a' o h =
-              let k : length a' < type_size * (size grown + rest) = rw o at h in
+          pub turn-full : (rest p : ℕ) (a' : List ℕ) {r : Result Put NoRoom} {o : NoRoom} → r ≡ Err o → AddedAt grown p q rest r a' → length a' < type_size * (size (add Counting (times w (raw e field vs)) f) + rest)
+          turn-full rest p a' is h =
+              let k : length a' < type_size * (size grown + rest) = rw is at h in
               omega (arith, (add-grows counting-laws (times w (raw e field again.rest)) grown).sizes, ap size grown-same)
 
           turn-next : (p k : ℕ) (a' : List ℕ) → Grown grown q k a' → Starts p grown →
@@ -253,8 +255,14 @@ module _ {e : Equivalence} {field : Bool} {w : ℕ} {vs : Values} {f : CountingT
                 same = grown-same;
               }
 
-          module _ (rest p k : ℕ) (a' : List ℕ) {r : Put} (o : r ≡ At p k)
+          module _ (rest : ℕ) (put : Put) (a' : List ℕ) {r : Result Put NoRoom} (o : r ≡ Ok put)
               (h : AddedAt grown (size (split (label_for e item.kind item.key below) x.g).before) q rest r a') (small : length a' ≤ max_length) where
+            abbrev p : ℕ
+            p = put.at
+
+            abbrev k : ℕ
+            k = put.records
+
             placed : Grown grown q k a' × (p ≡ size (split (label_for e item.kind item.key below) x.g).before)
             placed = rw o at h
 

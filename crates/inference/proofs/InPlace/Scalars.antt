@@ -16,14 +16,15 @@ use borrow.Rule.Slice.PartMut.{put_mid}
 use Rattle.value_table.specs.Value.{record_size, max_length, record_kind, last_scalar, kind_at, key_at, span_at, Values, none, value, keys}
 use Rattle.value_table.specs.Value as table
 use Rattle.inference.specs.declared.inferring.Item.{Item}
-use Rattle.inference.specs.declared.placing.Put.TheVariants.{At}
+use Rattle.std.specs.Prelude.{Ok}
 use Rattle.type_arena.specs.Inside.Payload.{item_payload}
 use Rattle.counting_theory.specs.Trie.{nil, node, size, insert, add}
 use Rattle.counting_theory.specs.Inside.TrieLaws.{append}
-use Rattle.counting_theory.specs.Label.{Equivalence, Label, field_kind, compare_label, Counting, CountingType}
+use Rattle.counting_theory.specs.Label.{Label, field_kind, compare_label, Counting, CountingType}
+use Rattle.counting_theory.specs.declared.equivalence.Equivalence.{Equivalence}
 use Rattle.counting_theory.specs.Raw.{ascending, raw}
 use Rattle.counting_theory.specs.Encoding.{type_size, type_kind, type_key, type_span, encode}
-use Rattle.type_arena.specs.Inside.Arena.{by_flag, label_at, RecordIn}
+use Rattle.type_arena.specs.Inside.Arena.{label_at, RecordIn}
 use Rattle.counting_theory.specs.Inside.Times.{times}
 use Rattle.byte_records.specs.Inside.Numbers.{numbers_of}
 use Rattle.inference.specs.Inside.Inferring.{StandsAt, ArenaHolds, Starts, split, grown, Counted, Grown, AddedAt, label_for, ItemAt, EqualRecords, resumed}
@@ -77,25 +78,25 @@ module _ {e : Equivalence} {a : List ℕ} {n rest : ℕ} {f : CountingType} {q f
   union-key h s u = let x = sibling-at h s u in sym (x.key-is ∙ key-eq x.shape.tagged)
 
 -- a label without a key list against that of the record at p
-module _ (label : Bool) (b : List ℕ) (p kind key : ℕ) where
+module _ (e : Equivalence) (b : List ℕ) (p kind key : ℕ) where
   abbrev compared : Ordering
-  compared = compare_label (plain (by_flag label) kind key) (label_at (by_flag label) b p)
+  compared = compare_label (plain e kind key) (label_at e b p)
 
   pub plain-kind-less : kind < type_kind b p → compared ≡ lt
   unfolding label_at
-  plain-kind-less h = sym (kind-less (plain (by_flag label) kind key) (label_at (by_flag label) b p) h)
+  plain-kind-less h = sym (kind-less (plain e kind key) (label_at e b p) h)
 
   pub plain-kind-greater : type_kind b p < kind → compared ≡ gt
   unfolding label_at
-  plain-kind-greater h = sym (kind-more (plain (by_flag label) kind key) (label_at (by_flag label) b p) h)
+  plain-kind-greater h = sym (kind-more (plain e kind key) (label_at e b p) h)
 
   pub plain-key-greater : kind ≡ type_kind b p → type_key b p < key → compared ≡ gt
   unfolding label_at
-  plain-key-greater ek h = sym (key_more (plain (by_flag label) kind key) (label_at (by_flag label) b p) ek h)
+  plain-key-greater ek h = sym (key_more (plain e kind key) (label_at e b p) ek h)
 
-pub plain-equal : (label : Bool) (b : List ℕ) (p kind key : ℕ) → kind ≡ type_kind b p → key ≡ type_key b p → (kind ≡ record_kind → ⊥) → compare_label (plain (by_flag label) kind key) (label_at (by_flag label) b p) ≡ eq
+pub plain-equal : (e : Equivalence) (b : List ℕ) (p kind key : ℕ) → kind ≡ type_kind b p → key ≡ type_key b p → (kind ≡ record_kind → ⊥) → compare_label (plain e kind key) (label_at e b p) ≡ eq
 unfolding label_at
-plain-equal label b p kind key ek ey m = sym (no_record (by_flag label) ek ey _ _ m)
+plain-equal e b p kind key ek ey m = sym (no_record e ek ey _ _ m)
 
 -- where a search has come to, and what it has seen
 pub record Begun (e : Equivalence) (b : List ℕ) (n : ℕ) (l : Label) (f : CountingType) (at : ℕ) : Type 0 where
@@ -105,22 +106,22 @@ pub record Begun (e : Equivalence) (b : List ℕ) (n : ℕ) (l : Label) (f : Cou
 pub begun_first : {e : Equivalence} {field : Bool} {b : List ℕ} {n rest : ℕ} {f : CountingType} {q free : List ℕ} → ArenaHolds e field b n rest f q free → (l : Label) → Begun e b n l f 0
 begun_first {f = f} h l = record { seen = seen_start h l; starts = starts-zero f }
 
-module _ (label : Bool) {b : List ℕ} {n rest : ℕ} {f : CountingType} {q free : List ℕ} (h : ArenaHolds (by_flag label) true b n rest f q free) (key : ℕ) where
+module _ (e : Equivalence) {b : List ℕ} {n rest : ℕ} {f : CountingType} {q free : List ℕ} (h : ArenaHolds e true b n rest f q free) (key : ℕ) where
   abbrev wanted_field : Label
-  wanted_field = plain (by_flag label) field_kind key
+  wanted_field = plain e field_kind key
 
   module _ {from : ℕ} (s : Starts from f) where
-    no_less : from < n → type_key b from ≤ key → compare_label wanted_field (label_at (by_flag label) b from) ≡ lt → ⊥
+    no_less : from < n → type_key b from ≤ key → compare_label wanted_field (label_at e b from) ≡ lt → ⊥
     no_less u z = go (dec_lt (type_key b from) key)
       where
-        go : Dec (type_key b from < key) → compare_label wanted_field (label_at (by_flag label) b from) ≡ lt → ⊥
-        go (yes v) y = (not-both _ y).1 (plain-key-greater label b from field_kind key (field-kind h s u) v)
-        go (no v) y = (not-both _ y).0 (plain-equal label b from field_kind key (field-kind h s u) (omega arith) (λ w. omega arith))
+        go : Dec (type_key b from < key) → compare_label wanted_field (label_at e b from) ≡ lt → ⊥
+        go (yes v) y = (not-both _ y).1 (plain-key-greater e b from field_kind key (field-kind h s u) v)
+        go (no v) y = (not-both _ y).0 (plain-equal e b from field_kind key (field-kind h s u) (omega arith) (λ w. omega arith))
 
-    pub begun-start : Begun (by_flag label) b n wanted_field f (field_start b from n key)
+    pub begun-start : Begun e b n wanted_field f (field_start b from n key)
     begun-start = go (dec_lt from n) (dec_lt key (type_key b from))
       where
-        go : Dec (from < n) → Dec (key < type_key b from) → Begun (by_flag label) b n wanted_field f (field_start b from n key)
+        go : Dec (from < n) → Dec (key < type_key b from) → Begun e b n wanted_field f (field_start b from n key)
         go (no u) v = rw (le-ltb from n (omega arith)) (begun_first h wanted_field)
         go (yes u) (yes v) = rw (lt-ltb from n u, lt-ltb key (type_key b from) v) (begun_first h wanted_field)
         go (yes u) (no v) = rw (lt-ltb from n u, le-ltb key (type_key b from) (omega arith)) (record { seen = seen_at h wanted_field s u (no_less u (omega arith)); starts = s })
@@ -128,24 +129,24 @@ module _ (label : Bool) {b : List ℕ} {n rest : ℕ} {f : CountingType} {q free
     -- the field stands at `from`
     pub key-stands : from < n → key ≡ type_key b from → StandsAt wanted_field f from
     key-stands u z =
-        (stop h.short (seen_at h wanted_field s u (no_less u (omega arith))) u).equal (plain-equal label b from field_kind key (field-kind h s u) z (λ y. omega arith))
+        (stop h.short (seen_at h wanted_field s u (no_less u (omega arith))) u).equal (plain-equal e b from field_kind key (field-kind h s u) z (λ y. omega arith))
 
   -- what is behind a field with a smaller key, and where that has a smaller key too
-  module _ {p next : ℕ} (x : BelowAt b n key f p) (e : next ≡ p + type_span b p) where
+  module _ {p next : ℕ} (x : BelowAt b n key f p) (is : next ≡ p + type_span b p) where
     pub starts-behind : Starts next f
-    starts-behind = rw e (starts-next h p x.starts x.within)
+    starts-behind = rw is (starts-next h p x.starts x.within)
 
     pub next-below : next < n → type_key b next < key → BelowAt b n key f next
     next-below u v = record { starts = starts-behind; within = u; below = v }
 
   -- a search goes on behind a field with a smaller key
-  pub begun-behind : {p : ℕ} → BelowAt b n key f p → Begun (by_flag label) b n wanted_field f (p + type_span b p)
+  pub begun-behind : {p : ℕ} → BelowAt b n key f p → Begun e b n wanted_field f (p + type_span b p)
   begun-behind {p} x =
       let s = x.starts in
       let u = x.within in
       let seen = seen_at h wanted_field s u (no_less s u (omega (arith, x.below))) in
       record {
-        seen = (stop h.short seen u).greater (plain-key-greater label b p field_kind key (field-kind h s u) x.below);
+        seen = (stop h.short seen u).greater (plain-key-greater e b p field_kind key (field-kind h s u) x.below);
         starts = starts-next h p s u;
       }
 
@@ -223,21 +224,21 @@ module _ {e : Equivalence} {w : ℕ} {vs : Values} {f : CountingType} {q a t : L
   none_in = (ran_first x short more).proper.scalar (omega (arith, (ran_first x short more).kind-is))
 
   module _ (rest p : ℕ) (b : List ℕ) (g : Grown (with_scalar e (key_at t i) (kind_at t i) w x.g) q n b) (o : p ≡ size (split (plain e field_kind (key_at t i)) x.g).before) (small : length b ≤ max_length) where
-    added : AddedAt (grown_by x short more item-at 0 no_copies) (size (split (label_for e field_kind (key_at t i) (below x short more item-at)) x.g).before) q rest (At p n) b
+    added : AddedAt (grown_by x short more item-at 0 no_copies) (size (split (label_for e field_kind (key_at t i) (below x short more item-at)) x.g).before) q rest (Ok (record { at = p; records = n })) b
     added =
         let v = ran_first x short more in
         let same : below x short more item-at ≡ scalar (kind_at t i) (key_at t i) = rw (v.kind-is, v.key-is, none_in) refl in
         (rw (same, mul-one w) g, o ∙ ap (λ l. size (split l x.g).before) (field-label e (key_at t i) _))
 
     pub scalar-room : RecordIn b p
-    scalar-room = turn-room x short more item-at 0 no_copies rest p n b refl added small
+    scalar-room = turn-room x short more item-at 0 no_copies rest (record { at = p; records = n }) b refl added small
 
     pub scalar-turn : length q ≡ type_size * rest → AddedSoFar e true w vs f q b t n (i + 1) (resumed true b p n)
     unfolding table.size
     scalar-turn used =
         let one : span_at t i ≡ 1 = (ran_first x short more).span-is ∙ ap (λ c. 1 + table.size c) none_in in
         let next : i + span_at t i + (i + span_at t i - i) * 0 ≡ i + 1 = omega arith in
-        rw next at (turn-added x short more item-at 0 no_copies rest p n b refl added small used _ refl)
+        rw next at (turn-added x short more item-at 0 no_copies rest (record { at = p; records = n }) b refl added small used _ refl)
 
 -- nothing has changed but where a search may begin
 pub ran-from : {e : Equivalence} {field : Bool} {w : ℕ} {vs : Values} {f : CountingType} {q a t : List ℕ} {n i from : ℕ} (x : AddedSoFar e field w vs f q a t n i from) (p : ℕ) (b : List ℕ) → b ≡ a → Starts p x.g →

@@ -13,11 +13,12 @@ use lib.Dec.{ltb}
 use lib.ListN.{length, drop}
 use borrow.Author.Tests.{lt-ltb, le-ltb, ltb-true}
 use Rattle.value_table.specs.Value.{max_length}
-use Rattle.inference.specs.declared.search.Found.TheVariants.{Here, Missing}
+use Rattle.std.specs.Prelude.{Ok, Err}
 use Rattle.counting_theory.specs.Payload.{Payload}
 use Rattle.counting_theory.specs.Trie.{nil, node, size}
 use Rattle.counting_theory.specs.Inside.TrieLaws.{append}
-use Rattle.counting_theory.specs.Label.{Equivalence, Label, compare_label, CountingType}
+use Rattle.counting_theory.specs.Label.{Label, compare_label, CountingType}
+use Rattle.counting_theory.specs.declared.equivalence.Equivalence.{Equivalence}
 use Rattle.counting_theory.specs.Encoding.{type_size, type_span, encode}
 use Rattle.type_arena.specs.Inside.Arena.{label_at, Labelled}
 use Rattle.inference.specs.Inside.Inferring.{spot_here, spot, InferredSiblings, ArenaHolds, Starts, Ahead, resumed}
@@ -179,8 +180,8 @@ pub record Stop (e : Equivalence) (a : List ℕ) (n : ℕ) (l : Label) (f : Coun
   pub here : Labelled a at
   pub some : 1 ≤ type_span a at
   pub upto : at + type_span a at ≤ n
-  pub equal : compare_label l (label_at e a at) ≡ eq → Here at ≡ spot l 0 f
-  pub less : compare_label l (label_at e a at) ≡ lt → resumed ≡ false → Missing at ≡ spot l 0 f
+  pub equal : compare_label l (label_at e a at) ≡ eq → Ok at ≡ spot l 0 f
+  pub less : compare_label l (label_at e a at) ≡ lt → resumed ≡ false → Err at ≡ spot l 0 f
   pub greater : compare_label l (label_at e a at) ≡ gt → Seen e a n l f false (at + type_span a at)
 
 module _ {e : Equivalence} {a : List ℕ} {n : ℕ} {l : Label} {f : CountingType} {resumed : Bool} {at : ℕ} (short : length a ≤ max_length) (x : Seen e a n l f resumed at) where
@@ -212,10 +213,10 @@ module _ {e : Equivalence} {a : List ℕ} {n : ℕ} {l : Label} {f : CountingTyp
   pub stop : at < n → Stop e a n l f resumed at
   stop u = stop-at u x.starts.first x.starts.last x.starts.whole x.starts.count x.bytes x.count x.siblings x.same
 
-  end-at : n ≤ at → (g : CountingType) → at + size g ≡ n → spot l at g ≡ spot l 0 f → Missing at ≡ spot l 0 f
+  end-at : n ≤ at → (g : CountingType) → at + size g ≡ n → spot l at g ≡ spot l 0 f → Err at ≡ spot l 0 f
   unfolding size spot
   end-at u nil z m = m
   end-at u (node k c d t) z m = absurd (omega arith)
 
-  pub seen_end : n ≤ at → Missing at ≡ spot l 0 f
+  pub seen_end : n ≤ at → Err at ≡ spot l 0 f
   seen_end u = end-at u x.starts.last x.count (x.same (λ r. absurd (omega (arith, x.within r))))

@@ -9,12 +9,13 @@ use Prim.Native.Nat.{ℕ, ◌+◌, Ordering}
 use native.Mathlib.Omega.{arith}
 use lib.Dec.{eqb}
 use Rattle.value_table.specs.Value.{record_kind}
-use Rattle.inference.specs.declared.search.Found.TheVariants.{Here, Missing}
+use Rattle.std.specs.Prelude.{Ok, Err}
 use Rattle.counting_theory.specs.Payload.{Payload}
 use Rattle.counting_theory.specs.Trie.{nil, node, size, insert_step, insert}
 use Rattle.counting_theory.specs.Inside.TrieLaws.{append}
-use Rattle.counting_theory.specs.Label.{Equivalence, Label, compare_label, Counting, CountingType}
-use Rattle.inference.specs.Inside.Inferring.{spot_here, spot, InferredSiblings, Split, split_here, split, grown}
+use Rattle.counting_theory.specs.Label.{Label, compare_label, Counting, CountingType}
+use Rattle.counting_theory.specs.declared.equivalence.Equivalence.{Equivalence}
+use Rattle.inference.specs.Inside.Inferring.{Found, spot_here, spot, InferredSiblings, Split, split_here, split, grown}
 use Rattle.counting_theory.proofs.Label.{kind-eq, label-order}
 use Rattle.counting_theory.proofs.Tagged.Parts.{holds_fields, Shape, tagged-parts}
 use Rattle.inference.proofs.InPlace.Append.{siblings-next}
@@ -33,8 +34,8 @@ pub record MissingAt (x : Split) (at : ℕ) (f : CountingType) (p : ℕ) : Type 
   pub empty : x.content ≡ nil
   pub fresh : x.payload ≡ none
 
-apart : (p o : ℕ) → Here p ≡ Missing o → ⊥
-apart p o e = let z : ◌≡◌ {A = ℕ} 0 1 = cc in omega arith
+apart : (p o : ℕ) → ◌≡◌ {A = Found} (Ok p) (Err o) → ⊥
+apart p o e = cc
 
 -- a node holds fields exactly if its kind is that of a record
 fields-inside : (e : Equivalence) (field : Bool) (k : Label) (c : CountingType) → Shape e field k c → holds_fields field k ≡ eqb k.kind record_kind
@@ -42,20 +43,20 @@ fields-inside e true k c h = sym (ap (λ i. eqb i record_kind) (kind-eq h))
 fields-inside e false k c h = refl
 
 module _ (l : Label) where
-  here-node : (o : Ordering) (at p : ℕ) (k : Label) (n : Payload) (c s : CountingType) → compare_label l k ≡ o → Here p ≡ spot_here o at (spot l (at + (1 + size c)) s) →
-      (Here p ≡ spot l (at + (1 + size c)) s → HereAt (split l s) l (at + (1 + size c)) s p) → HereAt (split_here o k n c s (split l s)) l at (node k n c s) p
+  here-node : (o : Ordering) (at p : ℕ) (k : Label) (n : Payload) (c s : CountingType) → compare_label l k ≡ o → Ok p ≡ spot_here o at (spot l (at + (1 + size c)) s) →
+      (Ok p ≡ spot l (at + (1 + size c)) s → HereAt (split l s) l (at + (1 + size c)) s p) → HereAt (split_here o k n c s (split l s)) l at (node k n c s) p
   unfolding spot_here split_here append size
   here-node lt at p k n c s z e h = absurd (apart p at e)
   here-node eq at p k n c s z e h = let w : p ≡ at = cc in record { spot_is = omega arith; held = n; held-is = refl; whole = rw (label-order.compare-eq z) refl }
   here-node gt at p k n c s z e h = let v = h e in record { spot_is = omega (arith, v.spot_is); held = v.held; held-is = v.held-is; whole = ap (node k n c) v.whole }
 
-  pub here-at : (at p : ℕ) (f : CountingType) → Here p ≡ spot l at f → HereAt (split l f) l at f p
+  pub here-at : (at p : ℕ) (f : CountingType) → Ok p ≡ spot l at f → HereAt (split l f) l at f p
   unfolding spot split
   here-at at p nil e = absurd (apart p at e)
   here-at at p (node k n c s) e = here-node (compare_label l k) at p k n c s refl e (here-at (at + (1 + size c)) p s)
 
-  missing-node : (o : Ordering) (at p : ℕ) (k : Label) (n : Payload) (c s : CountingType) → Missing p ≡ spot_here o at (spot l (at + (1 + size c)) s) →
-      (Missing p ≡ spot l (at + (1 + size c)) s → MissingAt (split l s) (at + (1 + size c)) s p) → MissingAt (split_here o k n c s (split l s)) at (node k n c s) p
+  missing-node : (o : Ordering) (at p : ℕ) (k : Label) (n : Payload) (c s : CountingType) → Err p ≡ spot_here o at (spot l (at + (1 + size c)) s) →
+      (Err p ≡ spot l (at + (1 + size c)) s → MissingAt (split l s) (at + (1 + size c)) s p) → MissingAt (split_here o k n c s (split l s)) at (node k n c s) p
   unfolding spot_here split_here append size
   missing-node lt at p k n c s e h = let w : p ≡ at = cc in record { spot_is = omega arith; whole = refl; empty = refl; fresh = refl }
   missing-node eq at p k n c s e h = absurd (apart at p (sym e))
@@ -63,7 +64,7 @@ module _ (l : Label) where
       let v = h e in
       record { spot_is = omega (arith, v.spot_is); whole = ap (node k n c) v.whole; empty = v.empty; fresh = v.fresh }
 
-  pub missing_at : (at p : ℕ) (f : CountingType) → Missing p ≡ spot l at f → MissingAt (split l f) at f p
+  pub missing_at : (at p : ℕ) (f : CountingType) → Err p ≡ spot l at f → MissingAt (split l f) at f p
   unfolding spot split size append
   missing_at at p nil e = let w : p ≡ at = cc in record { spot_is = omega arith; whole = refl; empty = refl; fresh = refl }
   missing_at at p (node k n c s) e = missing-node (compare_label l k) at p k n c s e (missing_at (at + (1 + size c)) p s)

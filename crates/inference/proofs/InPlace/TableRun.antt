@@ -9,7 +9,8 @@ use Rattle.value_table.specs.Value.{max_length, Values}
 use Rattle.value_table.specs.Acceptance.{Table}
 use Rattle.value_table.proofs.TableLayout as table
 use Rattle.counting_theory.specs.Trie.{nil, size, add}
-use Rattle.counting_theory.specs.Label.{Equivalence, Counting}
+use Rattle.counting_theory.specs.Label.{Counting}
+use Rattle.counting_theory.specs.declared.equivalence.Equivalence.{Equivalence}
 use Rattle.counting_theory.specs.Raw.{raw, profile_of}
 use Rattle.counting_theory.specs.Encoding.{encode}
 use Rattle.counting_theory.specs.Inside.Times.{times}

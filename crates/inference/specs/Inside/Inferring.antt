@@ -1,6 +1,6 @@
 -- Inference in place, as the contracts inside state it: the key list in the working buffer, runs of values as parts of a table, and
 -- the siblings that an arena holds.
-use Rattle.std.specs.Prelude.{◌≡◌, Bool, true, cond, List, [], ◌∷◌, ◌++◌, eqb, ltb, leb, length}
+use Rattle.std.specs.Prelude.{◌≡◌, Result, Ok, Err, Bool, true, cond, List, [], ◌∷◌, ◌++◌, eqb, ltb, leb, length}
 use Rattle.std.proofs.Math.Option.{Option, none, some}
 use Prim.Native.Nat.Ordering.{eq}
 use Prim.Native.Nat.Ordering.{gt}
@@ -12,24 +12,19 @@ use Rattle.value_table.specs.Value as table
 use Rattle.value_table.specs.Inside.RecordBytes.{record_at}
 use Rattle.value_table.specs.Judged.{messages}
 use Rattle.value_table.specs.Acceptance.{Table}
-use Rattle.inference.specs.declared.key_list.Listed.{Listed}
-use Rattle.inference.specs.declared.key_list.Listed.TheVariants.{Keys, TooMany}
-use Rattle.inference.specs.declared.search.Found.{Found}
-use Rattle.inference.specs.declared.search.Found.TheVariants.{Here, Missing}
-use Rattle.inference.specs.declared.search.Passed.{Passed}
-use Rattle.inference.specs.declared.search.Passed.TheVariants.{Ended, Upto}
-use Rattle.inference.specs.declared.search.Head.{Head}
-use Rattle.inference.specs.declared.search.Head.TheVariants.{Settled, Lists}
+use Rattle.std.specs.declared.cmp.Ordering as code
+use Rattle.std.specs.declared.ops.ControlFlow.{ControlFlow}
+use Rattle.std.specs.declared.ops.ControlFlow.TheVariants.{Break, Continue}
+use Rattle.type_arena.specs.declared.record_store.NoRoom.{NoRoom}
 use Rattle.inference.specs.declared.placing.Put.{Put}
-use Rattle.inference.specs.declared.placing.Put.TheVariants.{NoRoom, At}
-use Rattle.inference.specs.declared.inferring.Inferred.{Inferred}
-use Rattle.inference.specs.declared.inferring.Inferred.TheVariants.{Records, Full}
 use Rattle.inference.specs.declared.inferring.Item.{Item}
+use Rattle.inference.specs.declared.wanted.Wanted.{Wanted}
 use Rattle.counting_theory.specs.Payload.{Payload, join}
 use Rattle.counting_theory.specs.Inside.Times.{times}
 use Rattle.counting_theory.specs.Trie.{nil, node, size, insert, add, Sorted}
 use Rattle.counting_theory.specs.Inside.TrieLaws.{append}
-use Rattle.counting_theory.specs.Label.{Equivalence, Label, field_kind, listed, label_of, compare_keys, compare_label, Counting, CountingType}
+use Rattle.counting_theory.specs.Label.{Label, field_kind, listed, label_of, compare_keys, compare_label, Counting, CountingType}
+use Rattle.counting_theory.specs.declared.equivalence.Equivalence.{Equivalence}
 use Rattle.counting_theory.specs.Raw.{ascending, raw}
 use Rattle.counting_theory.specs.Encoding.{type_size, type_kind, type_span, header, encode, Tagged}
 use Rattle.key_word.specs.Word.{word_bits}
@@ -86,34 +81,41 @@ abbrev pub step_at : List ℕ → ℕ → ℕ
 step_at t i = cond (leb (table.kind_at t i) last_scalar) 1 (table.span_at t i)
 
 -- w begins with the ascending keys of vs; or vs has more fields than w has room for keys
-abbrev pub ListedIn : Values → Listed → List ℕ → Type 0
-ListedIn vs (Keys n) w = (keys_of n w ≡ ascending (keys vs)) × (key_size * n ≤ length w)
-ListedIn vs TooMany w = length w < key_size * length (keys vs)
+abbrev pub ListedIn : Values → Result ℕ NoRoom → List ℕ → Type 0
+ListedIn vs (Ok n) w = (keys_of n w ≡ ascending (keys vs)) × (key_size * n ≤ length w)
+ListedIn vs (Err _) w = length w < key_size * length (keys vs)
 
 -- the label of a kind and a key, with the first n keys of w as its key list
 abbrev pub wanted : Equivalence → ℕ → ℕ → ℕ → List ℕ → Label
 wanted e kind key n w = label_of e kind key (keys_of n w)
 
+-- the same of the label that is looked for, whose key list is in bytes
+abbrev pub label_of_wanted : Wanted → Label
+label_of_wanted w = wanted w.equivalence w.kind w.key (length w.keys.now / key_size) w.keys.now
+
 -- what a kind and a key tell of the order between their label, whatever its key list, and that of record p
-abbrev pub HeadTells : Equivalence → ℕ → ℕ → List ℕ → ℕ → Head → Type 0
-HeadTells e kind key b p (Settled o) = (keys : List ℕ) → ordering_of o ≡ compare_label (label_of e kind key keys) (label_at e b p)
-HeadTells e kind key b p (Lists end) =
+abbrev pub HeadTells : Equivalence → ℕ → ℕ → List ℕ → ℕ → ControlFlow code.Ordering ℕ → Type 0
+HeadTells e kind key b p (Break o) = (keys : List ℕ) → ordering_of o ≡ compare_label (label_of e kind key keys) (label_at e b p)
+HeadTells e kind key b p (Continue end) =
     (end ≡ p + type_span b p) × (type_kind b p ≡ record_kind) ×
     ((keys : List ℕ) → compare_keys keys (keys_in b p) ≡ compare_label (label_of e kind key keys) (label_at e b p))
 
--- where the label l stands, or would, among siblings, in records from `at`
+-- where the label l stands among siblings (Ok), or would (Err), in records from `at`
+abbrev pub Found : Type 0
+Found = Result ℕ ℕ
+
 unfoldable pub spot_here : Ordering → ℕ → Found → Found
-spot_here lt at later = Missing at
-spot_here eq at later = Here at
+spot_here lt at later = Err at
+spot_here eq at later = Ok at
 spot_here gt at later = later
 
 unfoldable pub spot : Label → ℕ → CountingType → Found
-spot l at nil = Missing at
+spot l at nil = Err at
 spot l at (node k count c s) = spot_here (compare_label l k) at (spot l (at + (1 + size c)) s)
 
 -- the label l stands at record p of the siblings f
 abbrev pub StandsAt : Label → CountingType → ℕ → Type 0
-StandsAt l f p = Here p ≡ spot l 0 f
+StandsAt l f p = Ok p ≡ spot l 0 f
 
 -- each kind, key and length fits its bytes; a count need not, since sums wrap
 abbrev pub NumbersFit : CountingType → Type 0
@@ -147,9 +149,9 @@ pub record Ahead (l : Label) (f : CountingType) (p : ℕ) : Type 0 where
   pub same : spot l p starts.last ≡ spot l 0 f
 
 -- what comes of passing siblings of f from record `from` on: where l stands or would, or from where on it is ahead
-abbrev pub PassedTo : Label → CountingType → ℕ → Passed → Type 0
-PassedTo l f from (Ended x) = x ≡ spot l 0 f
-PassedTo l f from (Upto p) = (from ≤ p) × Ahead l f p
+abbrev pub PassedTo : Label → CountingType → ℕ → ControlFlow Found ℕ → Type 0
+PassedTo l f from (Break x) = x ≡ spot l 0 f
+PassedTo l f from (Continue p) = (from ≤ p) × Ahead l f p
 
 -- where a search may begin after a label was found at record p of n: there, or behind it among fields, if a sibling is there
 abbrev pub resumed : Bool → List ℕ → ℕ → ℕ → ℕ
@@ -167,6 +169,18 @@ pub record HeldFrom (e : Equivalence) (a : List ℕ) (n rest from : ℕ) : Type 
 pub record Shown (e : Equivalence) (a : List ℕ) (n from : ℕ) : Type 0 where
   pub rest : ℕ
   pub held : HeldFrom e a n rest from
+
+-- P holds of any siblings that stand in the first n records of b, where one of them, or the end, is at record `from`
+abbrev pub OfShown : Equivalence → List ℕ → ℕ → ℕ → (CountingType → Type 0) → Type 0
+OfShown e b n from P = (field : Bool) (rest : ℕ) (f : CountingType) (q free : List ℕ) → ArenaHolds e field b n rest f q free → Starts from f → P f
+
+-- the same of siblings and of what is in use behind them
+abbrev pub OfHeld : Equivalence → List ℕ → ℕ → ℕ → ℕ → (CountingType → List ℕ → Type 0) → Type 0
+OfHeld e a n rest from P = (field : Bool) (f : CountingType) (q free : List ℕ) → ArenaHolds e field a n rest f q free → Starts from f → P f q
+
+-- w has room for as many key lists as a type in the arena a can have keys
+abbrev pub KeyRoom : List ℕ → List ℕ → Type 0
+KeyRoom a w = length a ≤ keys_per_record * length w
 
 -- some siblings to which a run of values, or of fields, is to be added
 pub record HeldRun (e : Equivalence) (field : Bool) (a : List ℕ) (n rest : ℕ) : Type 0 where
@@ -204,12 +218,12 @@ pub record Counted (x : Split) (l : Label) (a : Payload) (q : List ℕ) (p n : �
   pub bytes : b ≡ encode x.before ++ (header l (1 + size x.content) a ++ (encode x.content ++ (encode x.after ++ (q ++ free))))
 
 -- that, or b has fewer than the records that are needed
-abbrev pub CountedWithin : ℕ → Split → Label → Payload → List ℕ → Put → List ℕ → Type 0
-CountedWithin needed x l a q (At p n) b = Counted x l (grown x.payload a) q p n b
-CountedWithin needed x l a q NoRoom b = length b < type_size * needed
+abbrev pub CountedWithin : ℕ → Split → Label → Payload → List ℕ → Result Put NoRoom → List ℕ → Type 0
+CountedWithin needed x l a q (Ok put) b = Counted x l (grown x.payload a) q put.at put.records b
+CountedWithin needed x l a q (Err _) b = length b < type_size * needed
 
 -- with `rest` records in use behind the siblings f, and none yet below the label
-abbrev pub PlacedAt : Label → Payload → CountingType → List ℕ → ℕ → Put → List ℕ → Type 0
+abbrev pub PlacedAt : Label → Payload → CountingType → List ℕ → ℕ → Result Put NoRoom → List ℕ → Type 0
 PlacedAt l a f q rest r b = let x = split l f in CountedWithin (size x.before + (1 + (size x.content + size x.after)) + rest) x l a q r b
 
 -- the siblings g are there, or there is too little room for them
@@ -218,13 +232,13 @@ pub record Grown (g : CountingType) (q : List ℕ) (n : ℕ) (b : List ℕ) : Ty
   pub free : List ℕ
   pub bytes : b ≡ encode g ++ (q ++ free)
 
-abbrev pub AddedAt : CountingType → ℕ → List ℕ → ℕ → Put → List ℕ → Type 0
-AddedAt g place q rest NoRoom b = length b < type_size * (size g + rest)
-AddedAt g place q rest (At p n) b = Grown g q n b × (p ≡ place)
+abbrev pub AddedAt : CountingType → ℕ → List ℕ → ℕ → Result Put NoRoom → List ℕ → Type 0
+AddedAt g place q rest (Err _) b = length b < type_size * (size g + rest)
+AddedAt g place q rest (Ok put) b = Grown g q put.records b × (put.at ≡ place)
 
-abbrev pub Added : CountingType → List ℕ → ℕ → Inferred → List ℕ → Type 0
-Added g q rest Full b = length b < type_size * (size g + rest)
-Added g q rest (Records n) b = Grown g q n b
+abbrev pub Added : CountingType → List ℕ → ℕ → Result ℕ NoRoom → List ℕ → Type 0
+Added g q rest (Err _) b = length b < type_size * (size g + rest)
+Added g q rest (Ok n) b = Grown g q n b
 
 -- the label of an item with the values vs below it: the class of a value with this content, or a field
 abbrev pub label_for : Equivalence → ℕ → ℕ → Values → Label
@@ -241,9 +255,9 @@ pub record Weighed (w : ℕ) (t : List ℕ) : Type 0 where
   pub bound : w * length t ≤ max_length
 
 -- the key list that the label asks for is in w; or the record has more fields than w has room for keys
-abbrev pub LabelListed : Equivalence → ℕ → Values → Listed → List ℕ → Type 0
-LabelListed e kind vs (Keys n) w = (listed e kind (keys_of n w) ≡ listed e kind (ascending (keys vs))) × (key_size * n ≤ length w)
-LabelListed e kind vs TooMany w = (kind ≡ record_kind) × (length w < key_size * length (keys vs))
+abbrev pub LabelListed : Equivalence → ℕ → Values → Result ℕ NoRoom → List ℕ → Type 0
+LabelListed e kind vs (Ok n) w = (listed e kind (keys_of n w) ≡ listed e kind (ascending (keys vs))) × (key_size * n ≤ length w)
+LabelListed e kind vs (Err _) w = (kind ≡ record_kind) × (length w < key_size * length (keys vs))
 
 -- What stands at record i of a run: the kind and key of its label, the byte from which what is below it is read, and the record behind
 -- it. A field's value is read as a run of its own.

@@ -1,12 +1,10 @@
 -- What the scanners answer: where a token ends, or the byte with which it cannot go on.
-use Rattle.std.specs.Prelude.{◌≡◌, Bool, true, false, cond, not, ◌&&◌, ◌||◌, List, [], ◌∷◌, ℕ, ◌+◌, ◌≤◌, ◌<◌, eqb, leb}
+use Rattle.std.specs.Prelude.{◌≡◌, Bool, true, false, cond, not, ◌&&◌, List, [], ◌∷◌, Result, Ok, Err, ℕ, ◌+◌, ◌≤◌, ◌<◌, eqb, leb}
 use Rattle.json_theory.specs.Rx.{within}
 use Rattle.json_theory.specs.Grammar.{quote}
-use Rattle.json_theory.specs.Parts.{Turn, go, ended, stuck, go_if, StringPart, plain, next_in_string, NumberPart, point, e, power, is_digit, is_e, next_in_number, may_end}
-use Rattle.json_tokens.specs.declared.scan.Scan.{Scan}
-use Rattle.json_tokens.specs.declared.scan.Scan.TheVariants.{To, Bad}
-use Rattle.json_tokens.specs.declared.scan.Quoted.{Quoted}
-use Rattle.json_tokens.specs.declared.scan.Quoted.TheVariants.{Plain, Escaped, Broken}
+use Rattle.json_theory.specs.Parts.{Turn, go, ended, stuck, go_if, plain, next_in_string, NumberPart, point, e, power, is_digit, is_e, next_in_number, may_end}
+use Rattle.json_tokens.specs.declared.scan.BadByte.{BadByte}
+use Rattle.json_tokens.specs.declared.quoted.Quoted.{Quoted}
 use Rattle.json_theory.specs.Inside.Scanning.{byte_at, Running, RunTo, Goes, Stops}
 
 -- a char of one byte, which is neither the quote nor a \; and any byte but a \
@@ -34,18 +32,9 @@ pub record TailFits (text : List ℕ) (p c : ℕ) : Type 0 where
   pub fourth : 0xF0 ≤ c → within 0x80 0xBF (byte_at text (p + 3)) ≡ true
 
 -- a scan from part a to part b
-abbrev pub ScanIs : {P : Type 0} → (P → ℕ → Turn P) → List ℕ → P → ℕ → P → Scan → Type 0
-ScanIs next text a p b (To q) = Goes next text a p b q
-ScanIs next text a p b (Bad q) = Stops next text a p q
-
--- the bytes of a char behind its first, from part a on: none is a \
-pub record TailTo (text : List ℕ) (a : StringPart) (p q : ℕ) : Type 0 where
-  pub goes : Goes next_in_string text a p plain q
-  pub clean : Running is_other text p q
-
-abbrev pub TailIs : List ℕ → StringPart → ℕ → Scan → Type 0
-TailIs text a p (To q) = TailTo text a p q
-TailIs text a p (Bad q) = Stops next_in_string text a p q
+abbrev pub ScanIs : {P : Type 0} → (P → ℕ → Turn P) → List ℕ → P → ℕ → P → Result ℕ BadByte → Type 0
+ScanIs next text a p b (Ok q) = Goes next text a p b q
+ScanIs next text a p b (Err bad) = Stops next text a p bad.at
 
 -- a whole char: none of its bytes is a \, unless the first
 pub record CharTo (text : List ℕ) (p q : ℕ) : Type 0 where
@@ -53,9 +42,9 @@ pub record CharTo (text : List ℕ) (p q : ℕ) : Type 0 where
   pub some : p < q
   pub clean : (byte_at text p ≡ 0x5C → ⊥) → Running is_other text p q
 
-abbrev pub CharIs : List ℕ → ℕ → Scan → Type 0
-CharIs text p (To q) = CharTo text p q
-CharIs text p (Bad q) = Stops next_in_string text plain p q
+abbrev pub CharIs : List ℕ → ℕ → Result ℕ BadByte → Type 0
+CharIs text p (Ok q) = CharTo text p q
+CharIs text p (Err bad) = Stops next_in_string text plain p bad.at
 
 -- whether a \ is among the bytes from p to q
 pub record Slash (text : List ℕ) (p q : ℕ) : Type 0 where
@@ -77,22 +66,22 @@ pub record StringTo (text : List ℕ) (p q : ℕ) (escaped : Bool) : Type 0 wher
   pub chars : CharsTo text p q escaped
   pub shut : byte_at text q ≡ quote
 
-abbrev pub QuotedIs : List ℕ → ℕ → Quoted → Type 0
-QuotedIs text p (Plain q) = StringTo text p q false
-QuotedIs text p (Escaped q) = StringTo text p q true
-QuotedIs text p (Broken q) = Stops next_in_string text plain p q
+abbrev pub QuotedIs : List ℕ → ℕ → Result Quoted BadByte → Type 0
+QuotedIs text p (Ok s) = StringTo text p s.quote s.escaped
+QuotedIs text p (Err bad) = Stops next_in_string text plain p bad.at
 
-abbrev pub quoted_of : ℕ → Bool → Quoted
-quoted_of q true = Escaped q
-quoted_of q false = Plain q
+-- what a closure may answer, by `post`, is what the test says
+abbrev pub Tells : (ℕ → Bool → Type 0) → (ℕ → Bool) → Type 0
+Tells post test = (c : ℕ) (b : Bool) → post c b → b ≡ test c
 
-abbrev pub is_sign : ℕ → Bool
-is_sign c = eqb c 0x2B || eqb c 0x2D
+-- the run of the bytes from p on to which the closure says yes ends at q
+abbrev pub RunEnds : (ℕ → Bool → Type 0) → List ℕ → ℕ → ℕ → Type 0
+RunEnds post text p q = (test : ℕ → Bool) → Tells post test → test 0 ≡ false → RunTo test text p q
 
 -- one digit or more
-abbrev pub DigitsIs : List ℕ → ℕ → Scan → Type 0
-DigitsIs text p (To q) = RunTo is_digit text p q × (p < q)
-DigitsIs text p (Bad q) = (q ≡ p) × (is_digit (byte_at text p) ≡ false)
+abbrev pub DigitsIs : List ℕ → ℕ → Result ℕ BadByte → Type 0
+DigitsIs text p (Ok q) = RunTo is_digit text p q × (p < q)
+DigitsIs text p (Err bad) = (bad.at ≡ p) × (is_digit (byte_at text p) ≡ false)
 
 -- what a number goes on with: behind int, behind frac and behind the sign of exp; and with nothing
 abbrev pub after_int : ℕ → Turn NumberPart
@@ -118,15 +107,15 @@ pub record PartTo (turn : ℕ → Turn NumberPart) (text : List ℕ) (a : Number
 abbrev pub NumberTo : List ℕ → NumberPart → ℕ → ℕ → Bool → Type 0
 NumberTo text a p q ends = PartTo no_more text a p q ends
 
-abbrev pub PartIs : (ℕ → Turn NumberPart) → List ℕ → NumberPart → ℕ → Scan → Type 0
-PartIs turn text a p (To q) = PartTo turn text a p q true
-PartIs turn text a p (Bad q) = NumberTo text a p q false
+abbrev pub PartIs : (ℕ → Turn NumberPart) → List ℕ → NumberPart → ℕ → Result ℕ BadByte → Type 0
+PartIs turn text a p (Ok q) = PartTo turn text a p q true
+PartIs turn text a p (Err bad) = NumberTo text a p bad.at false
 
-abbrev pub NumberIs : List ℕ → NumberPart → ℕ → Scan → Type 0
+abbrev pub NumberIs : List ℕ → NumberPart → ℕ → Result ℕ BadByte → Type 0
 NumberIs text a p r = PartIs no_more text a p r
 
 -- behind a part that may be the end and goes on by `turn`, to where it goes on by `next`
-abbrev pub BehindIs : (turn next : ℕ → Turn NumberPart) → List ℕ → ℕ → Scan → Type 0
+abbrev pub BehindIs : (turn next : ℕ → Turn NumberPart) → List ℕ → ℕ → Result ℕ BadByte → Type 0
 BehindIs turn next text p r = (a : NumberPart) → may_end a ≡ true → next_in_number a (byte_at text p) ≡ turn (byte_at text p) → PartIs next text a p r
 
 -- the letters of a word that are to come

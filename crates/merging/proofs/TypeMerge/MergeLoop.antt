@@ -2,6 +2,7 @@
 use mathlib.Core.Path.{◌≡◌, refl, sym, ap, ◌∙◌}
 use mathlib.Core.Bool.{Bool, false, ◌||◌, or_assoc, or-false}
 use mathlib.Core.List.{List, [], ◌∷◌}
+use mathlib.Core.Logic.{◌⊎◌}
 use Prim.Native.Nat.Ordering.{eq}
 use Prim.Native.Nat.Ordering.{gt}
 use Prim.Native.Nat.Ordering.{lt}
@@ -14,7 +15,8 @@ use lib.Seq.{sets, length-sets}
 use Rattle.type_arena.specs.declared.level.Level.{Level}
 use Rattle.counting_theory.specs.Payload.{Payload, join}
 use Rattle.counting_theory.specs.Trie.{size, total}
-use Rattle.counting_theory.specs.Label.{Equivalence, Counting}
+use Rattle.counting_theory.specs.Label.{Counting}
+use Rattle.counting_theory.specs.declared.equivalence.Equivalence.{Equivalence}
 use Rattle.counting_theory.specs.Encoding.{type_payload, type_size, type_kind, type_key, type_of}
 use Rattle.counting_theory.specs.WellFormed.{max_total}
 use Rattle.type_arena.specs.Inside.Arena.{header_of}
@@ -27,7 +29,7 @@ use Rattle.byte_records.proofs.Sets.{sets-append, sets_last}
 use Rattle.type_arena.proofs.RecordBytes.{length-header}
 use Rattle.type_arena.proofs.FirstAddend.{body-rest, front_rest}
 use Rattle.type_arena.proofs.Runs.{At, order, Head}
-use Rattle.merging.proofs.TypeMerge.OneAddend.{Step, step_less, step-more, step_same, second-out, first_out, length_merged, length-joined, merged-le, union-over}
+use Rattle.merging.proofs.TypeMerge.OneAddend.{Step, step_less, step-more, step_same, second-out, ended, length_merged, length-joined, merged-le, union-over}
 
 -- what is left to do: x and y are still to be merged into out from byte k on, as against a and b at the start
 pub record State (level : Level) (a b out₀ : List ℕ) (k₀ : ℕ) (over₀ : Bool) (x y out : List ℕ) (k : ℕ) (over : Bool) : Type 0 where
@@ -72,14 +74,17 @@ module _ {level : Level} {a b out₀ : List ℕ} {k₀ : ℕ} {over₀ : Bool} {
     grows =
         omega (arith, length-joined (At level) x y, merged-le (At level) (body x) (body y) h.first.in_body g.first.in_body, body-rest h.first, body-rest g.first)
 
-    pub turn-same : {out' u v : List ℕ} {k' : ℕ} {over' : Bool} → eq ≡ order (At level) x y → Joined (At level) x y out k over out' k' over' →
-        u ≡ rest x → v ≡ rest y → State level a b out₀ k₀ over₀ u v out' k' over'
+    pub turn-same : {out' u v : List ℕ} {n : ℕ} {p : Bool} → eq ≡ order (At level) x y → Joined (At level) x y out k out' n p →
+        u ≡ rest x → v ≡ rest y → State level a b out₀ k₀ over₀ u v out' (k + n) (over || p)
     turn-same i j f z =
-        rw (f, z, j.bytes, j.upto, j.seen) (turn (joined_bytes (At level) x y) (rest x) (rest y) _ (step_same h g i) h.in_rest g.in_rest grows)
+        rw (f, z, j.bytes, j.counted, j.seen) (turn (joined_bytes (At level) x y) (rest x) (rest y) _ (step_same h g i) h.in_rest g.in_rest grows)
+
+    pub joined-room : {out' : List ℕ} {n : ℕ} {p : Bool} → Joined (At level) x y out k out' n p → k + n ≤ k₀ + length a + length b
+    joined-room j = omega (arith, j.counted, grows, s.room)
 
 -- no merge of two addends is longer than both together
 pub inside-fits : {level : Level} {x y v w out out₁ : List ℕ} {at n : ℕ} {p : Bool} → Head level x → Head level y → v ≡ body x → w ≡ body y →
-    MergeStored (At level) v w out at out₁ n p → n + type_size ≤ length x + length y
+    MergeStored (At level) v w out at out₁ n p → type_size + n ≤ length x + length y
 inside-fits {level} {x} {y} h g e f m =
     omega (
       arith,
@@ -88,31 +93,6 @@ inside-fits {level} {x} {y} h g e f m =
       body-rest h.first,
       body-rest g.first,
     )
-
--- either run has run out
-pub second-done : {level : Level} {a b out₀ : List ℕ} {k₀ : ℕ} {over₀ : Bool} {x y out : List ℕ} {k : ℕ} {over : Bool} →
-    State level a b out₀ k₀ over₀ x y out k over → length y ≤ 0 → MergedSoFar (At level) a b out₀ k₀ over₀ x out k over
-unfolding merged_bytes
-second-done {x = x} {y = []} {over = over} s h =
-    let w = second-out x s.first in
-    record {
-      bytes = rw w.is-bytes at s.bytes;
-      upto = rw w.is-bytes at s.upto;
-      seen = sym (or-false over) ∙ ap (λ q. over || q) (sym w.light-below) ∙ s.seen;
-    }
-second-done {y = v ∷ y} s h = absurd (omega arith)
-
-pub first_done : {level : Level} {a b out₀ : List ℕ} {k₀ : ℕ} {over₀ : Bool} {x y out out' : List ℕ} {k k' : ℕ} {over : Bool} →
-    State level a b out₀ k₀ over₀ x y out k over → length x ≡ 0 → (out' ≡ sets out k y) × (k' ≡ k + length y) → MergedSoFar (At level) a b out₀ k₀ over₀ x out' k' over
-unfolding merged_bytes
-first_done {x = []} {y = y} {over = over} s h e =
-    let w = first_out y s.second in
-    record {
-      bytes = e.0 ∙ rw w.is-bytes at s.bytes;
-      upto = omega (arith, e.1, rw w.is-bytes at s.upto);
-      seen = sym (or-false over) ∙ ap (λ q. over || q) (sym w.light-below) ∙ s.seen;
-    }
-first_done {x = v ∷ x} s h e = absurd (omega arith)
 
 -- the second is empty from the start
 pub first-only : {level : Level} {a b out out' : List ℕ} {at : ℕ} → TypeRun level a → length b ≡ 0 → out' ≡ sets out at a →
@@ -128,28 +108,40 @@ pub stored-inside : (level : Level) (kind : ℕ) {inner : Level} {v w out out₁
 stored-inside level kind e m = rw e at m
 
 -- the merge inside, and then the header before it
-pub addend-done : {e : Equivalence} {x y v w out out₁ out₂ : List ℕ} {at n kind key : ℕ} {over p q : Bool} (i j k : Payload) → v ≡ body x → w ≡ body y →
+pub addend-done : {e : Equivalence} {x y v w out out₁ out₂ : List ℕ} {at n kind key : ℕ} {p : Bool} (i j k : Payload) → v ≡ body x → w ≡ body y →
     MergeStored e v w out (at + type_size) out₁ n p → kind ≡ type_kind x 0 → key ≡ type_key x 0 → i ≡ type_payload x 0 → j ≡ type_payload y 0 → payload_bytes k ≡ payload_bytes (join i j) →
-    out₂ ≡ sets out₁ at (header_of kind key (n / type_size + 1) k) → q ≡ (over || p) → Joined e x y out at over out₂ (at + type_size + n) q
+    out₂ ≡ sets out₁ at (header_of kind key ((type_size + n) / type_size) k) → Joined e x y out at out₂ (type_size + n) p
 unfolding joined_bytes
-addend-done {e} {x} {y} {v} {w} {out} {out₁} {at = at} {n = n} {over = over} {p = p} i j u f g m a b c d h z t =
+addend-done {e} {x} {y} {v} {w} {out} {out₁} {at = at} {n = n} {p = p} i j u f g m a b c d h z =
     let r : MergeStored e (body x) (body y) out (at + type_size) out₁ n p = rw (f, g) at m in
     let span : ℕ = 1 + size (both e (body x) (body y)) in
-    let l : n / type_size + 1 ≡ span = omega (arith, r.counted, length_merged e (body x) (body y)) in
+    let l : (type_size + n) / type_size ≡ span = omega (arith, r.counted, length_merged e (body x) (body y)) in
     let H : List ℕ = header_of (type_kind x 0) (type_key x 0) span (join (type_payload x 0) (type_payload y 0)) in
     let k : at + type_size ≡ at + length H = ap (λ u. at + u) (sym (length-header (record { kind = type_kind x 0; key = type_key x 0; keys = [] }) span (join (type_payload x 0) (type_payload y 0)))) in
     record {
       bytes = z ∙ rw (r.bytes, header-same _ _ _ u (join i j) h, a, b, c, d, l, k) (sets_last H (merged_bytes e (body x) (body y)) out at);
-      upto = omega (arith, r.counted, length-joined e x y);
-      seen = t ∙ ap (λ u. over || u) r.seen;
+      counted = omega (arith, r.counted, length-joined e x y);
+      seen = r.seen;
     }
 
-pub union-done : {e : Equivalence} {a b out out₁ out₂ t : List ℕ} {at k : ℕ} {o p : Bool} →
-    o ≡ ltb max_total (total Counting (type_of e a) + total Counting (type_of e b)) → MergedSoFar e a b out at o t out₁ k p → out₂ ≡ sets out₁ k t →
-    MergeStored e a b out at out₂ (k + length t - at) p
+-- either run has run out, and what is left of the second is stored
+pub run-done : {level : Level} {a b out₀ x y out out₁ : List ℕ} {k₀ k k₁ : ℕ} {o over : Bool} → State level a b out₀ k₀ o x y out k over →
+    (length x ≡ 0) ⊎ (length y ≡ 0) → (out₁ ≡ sets out k y) × (k₁ ≡ k + length y) → MergedSoFar (At level) a b out₀ k₀ o x out₁ k₁ over
+run-done {level} {x = x} {y = y} {out = out} {k = k} {over = over} s h e =
+    let w = ended x y s.first s.second h in
+    record {
+      bytes = rw (e.0, e.1) (sym (sets-append y x out k)) ∙ ap (sets out k) (sym w.is-bytes) ∙ s.bytes;
+      upto = omega (arith, e.1, s.upto, ap length w.is-bytes, length-append y x);
+      seen = sym (or-false over) ∙ ap (λ q. over || q) (sym w.light-below) ∙ s.seen;
+    }
+
+-- and then what is left of the first
+pub union-done : {e : Equivalence} {a b out out₁ out₂ t : List ℕ} {at k k' : ℕ} {o p : Bool} →
+    o ≡ ltb max_total (total Counting (type_of e a) + total Counting (type_of e b)) → MergedSoFar e a b out at o t out₁ k p →
+    (out₂ ≡ sets out₁ k t) × (k' ≡ k + length t) → MergeStored e a b out at out₂ (k' - at) p
 union-done {e} {a} {b} z r h =
     record {
-      bytes = h ∙ r.bytes;
-      counted = omega (arith, r.upto);
+      bytes = h.0 ∙ r.bytes;
+      counted = omega (arith, h.1, r.upto);
       seen = r.seen ∙ rw z (sym (union-over e a b));
     }

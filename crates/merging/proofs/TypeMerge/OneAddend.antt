@@ -1,7 +1,8 @@
 -- The merge of two runs on their bytes, one addend at a time.
 use mathlib.Core.Path.{◌≡◌, refl, sym, ap, ◌∙◌}
 use mathlib.Core.Bool.{Bool, false, ◌||◌}
-use mathlib.Core.List.{List, [], ◌++◌, append_assoc}
+use mathlib.Core.List.{List, [], ◌∷◌, ◌++◌, append_assoc, append-nil}
+use mathlib.Core.Logic.{◌⊎◌, inl, inr}
 use Prim.Native.Nat.Ordering.{eq}
 use Prim.Native.Nat.Ordering.{gt}
 use Prim.Native.Nat.Ordering.{lt}
@@ -14,7 +15,8 @@ use borrow.Author.Tests.{le-ltb, lt-ltb}
 use Rattle.type_arena.specs.declared.level.Level.{Level}
 use Rattle.counting_theory.specs.Payload.{Payload, join}
 use Rattle.counting_theory.specs.Trie.{node, size, reduce_step, reduce_node, reduce, total, largest_below, largest_total}
-use Rattle.counting_theory.specs.Label.{Equivalence, Counting, CountingType}
+use Rattle.counting_theory.specs.Label.{Counting, CountingType}
+use Rattle.counting_theory.specs.declared.equivalence.Equivalence.{Equivalence}
 use Rattle.counting_theory.specs.Encoding.{type_size, type_kind, type_key, type_payload, encode, type_of}
 use Rattle.counting_theory.specs.WellFormed.{max_total}
 use Rattle.type_arena.specs.Inside.Arena.{label_at, header_of}
@@ -105,9 +107,23 @@ module _ {level : Level} (x : List ℕ) (p : TypeRun level x) where
   unfolding both
   second-out = alone (rw (type-empty (At level)) (reduce-nil Counting _))
 
-  pub first_out : Alone x (both (At level) [] x)
+  first_out : Alone x (both (At level) [] x)
   unfolding both reduce
   first_out = alone (rw (type-empty (At level)) refl)
+
+-- either of two has run out: the merge is what is left of both
+pub record Ended (e : Equivalence) (x y : List ℕ) : Type 0 where
+  pub is-bytes : merged_bytes e x y ≡ y ++ x
+  pub light-below : exceeds_below (both e x y) ≡ false
+
+pub ended : {level : Level} (x y : List ℕ) → TypeRun level x → TypeRun level y → (length x ≡ 0) ⊎ (length y ≡ 0) → Ended (At level) x y
+unfolding merged_bytes
+ended [] y p q h =
+    let w = first_out y q in
+    record { is-bytes = w.is-bytes ∙ sym (append-nil y); light-below = w.light-below }
+ended (v ∷ x) [] p q h = let w = second-out (v ∷ x) p in record { is-bytes = w.is-bytes; light-below = w.light-below }
+ended (v ∷ x) (w ∷ y) p q (inl h) = absurd (omega arith)
+ended (v ∷ x) (w ∷ y) p q (inr h) = absurd (omega arith)
 
 module _ (e : Equivalence) (x y : List ℕ) where
   pub length_merged : length (merged_bytes e x y) ≡ type_size * size (both e x y)

@@ -7,7 +7,7 @@ pub merge_union-requires : goal.merge_union-requires
 merge_union-requires c =
     let p = c.requires.fact in
     let q = c.requires.fact_2 in
-    record { type_run = (type-run c.args.label _ p, type-run c.args.label _ q); b_bound = omega (arith, type-short p, type-short q) }
+    record { type_run = rw c.whole.ensures (type-run c.args.equivalence _ p, type-run c.args.equivalence _ q); b_bound = omega (arith, type-short p, type-short q) }
 
 pub returns : goal.returns
-returns c = c.merge_union.ensures
+returns c = rw c.whole.ensures at c.merge_union.ensures

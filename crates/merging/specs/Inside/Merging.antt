@@ -3,7 +3,8 @@ use Rattle.std.specs.Prelude.{◌≡◌, Bool, not, ◌||◌, List, ◌++◌, �
 use Rattle.std.proofs.lemmas.List.Edits.{sets}
 use Rattle.counting_theory.specs.Payload.{join}
 use Rattle.counting_theory.specs.Trie.{size, reduce, total, largest_below}
-use Rattle.counting_theory.specs.Label.{Equivalence, Counting, CountingType}
+use Rattle.counting_theory.specs.Label.{Counting, CountingType}
+use Rattle.counting_theory.specs.declared.equivalence.Equivalence.{Equivalence}
 use Rattle.counting_theory.specs.Encoding.{type_kind, type_key, type_payload, encode, type_of}
 use Rattle.counting_theory.specs.WellFormed.{max_total, within_limit}
 use Rattle.type_arena.specs.Inside.Arena.{header_of}
@@ -32,7 +33,7 @@ unfoldable pub joined_bytes : Equivalence → List ℕ → List ℕ → List ℕ
 joined_bytes e x y =
     header_of (type_kind x 0) (type_key x 0) (1 + size (both e (body x) (body y))) (join (type_payload x 0) (type_payload y 0)) ++ merged_bytes e (body x) (body y)
 
--- the merge of a and b is stored from byte k on, but for the tail t of a, which comes next
+-- the merge of a and b is stored from byte k₀ on, but for the tail t of a, which comes next, at byte k
 pub record MergedSoFar (e : Equivalence) (a b out₀ : List ℕ) (k₀ : ℕ) (over₀ : Bool) (t out : List ℕ) (k : ℕ) (over : Bool) : Type 0 where
   pub bytes : sets out k t ≡ sets out₀ k₀ (merged_bytes e a b)
   pub upto : k + length t ≡ k₀ + length (merged_bytes e a b)
@@ -44,8 +45,8 @@ pub record MergeStored (e : Equivalence) (a b out₀ : List ℕ) (k : ℕ) (out 
   pub counted : n ≡ length (merged_bytes e a b)
   pub seen : over ≡ exceeds (both e a b)
 
--- the same of the first addends of x and y, up to byte k
-pub record Joined (e : Equivalence) (x y out₀ : List ℕ) (k₀ : ℕ) (over₀ : Bool) (out : List ℕ) (k : ℕ) (over : Bool) : Type 0 where
-  pub bytes : out ≡ sets out₀ k₀ (joined_bytes e x y)
-  pub upto : k ≡ k₀ + length (joined_bytes e x y)
-  pub seen : over ≡ (over₀ || exceeds (both e (body x) (body y)))
+-- the same of the first addends of x and y
+pub record Joined (e : Equivalence) (x y out₀ : List ℕ) (k : ℕ) (out : List ℕ) (n : ℕ) (over : Bool) : Type 0 where
+  pub bytes : out ≡ sets out₀ k (joined_bytes e x y)
+  pub counted : n ≡ length (joined_bytes e x y)
+  pub seen : over ≡ exceeds (both e (body x) (body y))

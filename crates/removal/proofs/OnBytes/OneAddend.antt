@@ -11,13 +11,15 @@ use borrow.Author.Tests.{eqb-true, le-leb, lt-leb}
 use Rattle.value_table.specs.Value.{record_kind}
 use Rattle.removal_theory.specs.Payload.{Payload}
 use Rattle.counting_theory.specs.Trie.{nil, node, size}
-use Rattle.counting_theory.specs.Label.{Equivalence, by_kind, Label}
+use Rattle.counting_theory.specs.Label.{Label}
+use Rattle.counting_theory.specs.declared.equivalence.Equivalence.{Equivalence}
+use Rattle.counting_theory.specs.declared.equivalence.Equivalence.TheVariants.{Kind as by_kind}
 use Rattle.removal_theory.specs.Label.{Counting, CountingType}
 use Rattle.removal_theory.specs.Encoding.{type_size, type_kind, type_key, type_payload, encode, type_of}
 use Rattle.removal_theory.specs.Inside.TypeBytes.{type_count}
 use Rattle.counting_theory.specs.WellFormed.{max_total}
 use Rattle.removal_theory.specs.WellFormed.{fields_of, field_counts}
-use Rattle.removal_arena.specs.declared.level.Level.{Level}
+use Rattle.type_arena.specs.declared.level.Level.{Level}
 use Rattle.removal_arena.specs.Inside.Arena.{label_at, header_of}
 use Rattle.removal_arena.specs.Inside.Addend.{body, Coded}
 use Rattle.removal.specs.Difference.{Taken, short, gone, left, kept, emptied, taken_node, difference}
@@ -35,6 +37,7 @@ use Rattle.removal.proofs.Difference.{steps, difference-self, removal-nil}
 use Rattle.removal.proofs.Remains.{size-removal}
 use Rattle.removal.proofs.Taken.{taken-laws}
 use Rattle.removal.proofs.CountLimit.{limit-left, run-limit}
+use Rattle.type_arena.specs.Inside.Layout.{label_by}
 
 abbrev pub counts : ℕ → Payload
 counts n = record { count = n }
@@ -134,7 +137,7 @@ module _ {level : Level} (limit : ℕ) {x : List ℕ} (y : List ℕ) (h : Head l
   -- a node that stays over what is left inside: the same tests, and the header before the bytes
   kept-inside : (n m : ℕ) → n ≤ limit → m ≡ cond (not level.field && eqb (type_kind x 0) record_kind) n max_total → (c : CountingType) → within ≡ some c →
       bytes_left limit (some (node (label_at e x 0) (counts n) c nil)) ≡ headed (type_kind x 0) (type_key x 0) n (bytes_left m (some c))
-  unfolding bytes_left fields_of field_counts encode label_at
+  unfolding bytes_left fields_of field_counts encode label_by
   kept-inside n m k z c r =
       let low : not level.field && eqb (type_kind x 0) record_kind ≡ false → fields_of by_kind max_total (type_of e (body x)) ≡ true =
       λ u. run-limit e (body x) (rw u at h.first.in_body) h.in_body.limit in

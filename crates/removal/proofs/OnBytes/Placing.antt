@@ -1,15 +1,20 @@
--- What may be left, stored from a byte on: laws of followed, unless and placed.
+-- What may be left, stored from a byte on: laws of followed and placed.
 use mathlib.Core.Path.{◌≡◌, refl, sym, ap}
-use mathlib.Core.Bool.{Bool, true, false, cond, ◌&&◌, ◌||◌}
+use mathlib.Core.Bool.{Bool, true, false, cond, ◌&&◌}
 use mathlib.Core.List.{List, [], ◌++◌}
 use mathlib.Core.Option.{Option, none, some}
 use Prim.Native.Nat.{ℕ, ◌+◌}
 use native.Mathlib.Omega.{arith}
 use lib.ListN.{length, length-append}
 use lib.Seq.{sets}
-use Rattle.removal.specs.Inside.Removing.{followed, placed, unless}
+use Rattle.removal.specs.Inside.Removing.{followed, placed}
 use Rattle.byte_records.proofs.Sets.{sets-append}
 use Rattle.counting_theory.proofs.Trie.Canonical.{some-none}
+
+-- nothing, if a count is too high
+unfoldable pub unless : {A : Type 0} → Bool → Option A → Option A
+unless true o = none
+unless false o = o
 
 pub followed-empty : (o : Option (List ℕ)) → followed (some []) o ≡ o
 unfolding followed
@@ -34,38 +39,29 @@ followed-tests true true true false w x y = refl
 followed-tests true true true true false x y = refl
 followed-tests true true true true true x y = refl
 
-pub unless-none : {A : Type 0} (t : Bool) → unless {A = A} t none ≡ none
-unfolding unless
-unless-none true = refl
-unless-none false = refl
-
-pub unless-set : {A : Type 0} (o : Option A) → unless true o ≡ none
-unfolding unless
-unless-set o = refl
-
 pub placed-none : (out : List ℕ) (k : ℕ) → placed out k none ≡ none
 unfolding placed
 placed-none out k = refl
 
-pub placed-some : (out : List ℕ) (k : ℕ) (t : Bool) (z : List ℕ) → unless t (some (sets out k z, k + length z)) ≡ placed out k (unless t (some z))
-unfolding unless placed
-placed-some out k true z = refl
-placed-some out k false z = refl
+pub placed-some : (out : List ℕ) (k : ℕ) (z : List ℕ) → some (sets out k z, k + length z) ≡ placed out k (some z)
+unfolding placed
+placed-some out k z = refl
+
+-- where the first is not there, nothing is
+pub lost-next : (o : Option (List ℕ)) → followed none o ≡ none
+unfolding followed
+lost-next o = refl
 
 same_parts : {a b : List ℕ} {m n : ℕ} → ◌≡◌ {A = Option (List ℕ × ℕ)} (some (a, m)) (some (b, n)) → (a ≡ b) × (m ≡ n)
 same_parts {a} {b} {m} {n} h = let e : ◌≡◌ {A = List ℕ × ℕ} (a, m) (b, n) = cc in (ap (λ s. s.0) e, ap (λ s. s.1) e)
 
 -- what is stored first stands before what follows; where it is not there, nothing is
 module _ (out out' : List ℕ) (k k' : ℕ) where
-  pub placed-next : (lacks lack : Bool) (p o : Option (List ℕ)) → unless lack (some (out', k')) ≡ placed out k p →
-      placed out' k' (unless (lacks || lack) o) ≡ placed out k (unless lacks (followed p o))
-  unfolding unless placed followed
-  placed-next true lack p o h = refl
-  placed-next false true none o h = refl
-  placed-next false false none o h = absurd (some-none h)
-  placed-next false true (some z) o h = absurd (some-none (sym h))
-  placed-next false false (some z) none h = refl
-  placed-next false false (some z) (some b) h =
+  pub placed-next : (p o : Option (List ℕ)) → some (out', k') ≡ placed out k p → placed out' k' o ≡ placed out k (followed p o)
+  unfolding placed followed
+  placed-next none o h = absurd (some-none h)
+  placed-next (some z) none h = refl
+  placed-next (some z) (some b) h =
       let e = same_parts h in
       let n : k + length z + length b ≡ k + length (z ++ b) = omega (arith, length-append z b) in
       rw (e.0, e.1, n) (ap (λ s. some (s, k + length (z ++ b))) (sym (sets-append z b out k)))

@@ -14,21 +14,23 @@ use borrow.Author.Tests.{le-leb, lt-leb, le-ltb, lt-ltb}
 use Rattle.value_table.specs.Value.{record_kind}
 use Rattle.removal_theory.specs.Payload.{Payload}
 use Rattle.counting_theory.specs.Trie.{nil, node, size}
-use Rattle.counting_theory.specs.Label.{Equivalence, by_kind, Label}
+use Rattle.counting_theory.specs.Label.{Label}
+use Rattle.counting_theory.specs.declared.equivalence.Equivalence.{Equivalence}
+use Rattle.counting_theory.specs.declared.equivalence.Equivalence.TheVariants.{Kind as by_kind}
 use Rattle.removal_theory.specs.Label.{Counting, CountingType}
 use Rattle.removal_theory.specs.Encoding.{type_payload, header, encode, type_of}
 use Rattle.removal_theory.specs.WellFormed.{fields_of, field_counts}
-use Rattle.removal_arena.specs.declared.level.Level.{Level}
+use Rattle.type_arena.specs.declared.level.Level.{Level}
 use Rattle.removal_arena.specs.Inside.Arena.{label_at}
 use Rattle.removal_arena.specs.Inside.Addend.{front, body, rest}
 use Rattle.removal.specs.Difference.{Taken, short, gone, left, kept, emptied, taken_node, difference_step, difference_node, difference}
 use Rattle.removal.specs.Removed.{taken}
-use Rattle.removal.specs.Inside.Removing.{WholeRun, bytes_left, run_left, addend_left, followed, unless}
+use Rattle.removal.specs.Inside.Removing.{WholeRun, bytes_left, run_left, addend_left, followed}
 use Rattle.counting_theory.proofs.WellFormed.Tests.{implies}
 use Rattle.removal_theory.proofs.WellFormed.Nodes.{field_counts-parts}
 use Rattle.removal_arena.proofs.FirstAddend.{header-first, coded-type, type-empty}
 use Rattle.removal_arena.proofs.Runs.{At, order, Head}
-use Rattle.removal.proofs.OnBytes.Placing.{followed-empty, followed-none, followed-tests}
+use Rattle.removal.proofs.OnBytes.Placing.{unless, followed-empty, followed-none, followed-tests}
 
 encode-node : (l : Label) (a : Payload) (c s : CountingType) → encode (node l a c s) ≡ encode (node l a c nil) ++ encode s
 unfolding encode

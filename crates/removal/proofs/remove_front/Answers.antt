@@ -5,13 +5,14 @@ use mathlib.Core.List.{List}
 use mathlib.Core.Option.{Option, none, some}
 use Prim.Native.Nat.{ℕ}
 use lib.ListN.{length}
-use Rattle.counting_theory.specs.Label.{Equivalence}
+use Rattle.counting_theory.specs.declared.equivalence.Equivalence.{Equivalence}
 use Rattle.removal_theory.specs.Encoding.{type_of}
 use Rattle.removal_theory.specs.WellFormed.{bad_type_length}
 use Rattle.counting_theory.specs.Answers.{equivalence_of, Written, turned_down}
 use Rattle.removal_check.specs.Inside.Pair.{pair_under, on_pair}
-use Rattle.removal_check.proofs.Fronts.{front-refused}
+use Rattle.answers.proofs.Fronts.{front-refused}
 use Rattle.removal.specs.Removed.{removed_type, removed_types, removed_under, removed}
+use Rattle.std.proofs.lemmas.Result.{err_from_is_err_and}
 use Rattle.removal.proofs.remove_front.Goals as goal
 
 module _ (whole part : List ℕ) (equivalence n : ℕ) where
@@ -29,16 +30,15 @@ module _ (whole part : List ℕ) (equivalence n : ℕ) where
 
 pub remove_checked-requires : goal.remove_checked-requires
 remove_checked-requires c =
-    let judged = rw c.in-Formed.is at c.judge_pair.ensures in
+    let judged = c.in_ok-equivalence.ensures in
     record { fact = judged.0; fact_2 = judged.1 }
 
-pub returns-in-Refused : goal.returns-in-Refused
-returns-in-Refused c =
-    let judged = rw c.in-Refused.is at c.judge_pair.ensures in
-    front-refused _ 0 _ (removed-pair _ _ _ _ ∙ judged _)
+pub returns-in_err-equivalence : goal.returns-in_err-equivalence
+returns-in_err-equivalence c =
+    let p = err_from_is_err_and c.from_residual.result c.from_residual.ensures.1 in
+    rw (p.1, p.2) (front-refused _ _ (removed-pair _ _ _ _ ∙ c.in_err-equivalence.ensures _))
 
-pub returns-in-Formed : goal.returns-in-Formed
-returns-in-Formed c =
+pub returns : goal.returns
+returns c =
     let a = c.args in
-    let judged = rw c.in-Formed.is at c.judge_pair.ensures in
-    rw (removed-pair a.whole.now a.part.now a.equivalence (length a.arena.now) ∙ judged.2 _) c.remove_checked.ensures
+    rw (removed-pair a.whole.now a.part.now a.equivalence (length a.arena.now) ∙ c.in_ok-equivalence.ensures.2 _) c.remove_checked.ensures

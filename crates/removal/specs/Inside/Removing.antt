@@ -1,19 +1,21 @@
 -- Removal on bytes, as the code goes about it: what is left of a run and of a first addend, and what is stored.
-use Rattle.std.specs.Prelude.{◌≡◌, Bool, true, false, cond, ◌&&◌, List, [], ◌++◌, ℕ, ◌+◌, ◌≤◌, length}
+use Rattle.std.specs.Prelude.{◌≡◌, Bool, true, false, cond, ◌&&◌, List, ◌++◌, ℕ, ◌+◌, ◌≤◌, length}
 use Rattle.std.proofs.Math.Option.{Option, none, some}
 use Rattle.std.proofs.lemmas.List.Edits.{sets}
 use Rattle.counting_theory.specs.Trie.{nil}
-use Rattle.counting_theory.specs.Label.{Equivalence, by_kind}
+use Rattle.counting_theory.specs.declared.equivalence.Equivalence.{Equivalence}
+use Rattle.counting_theory.specs.declared.equivalence.Equivalence.TheVariants.{Kind as by_kind}
 use Rattle.removal_theory.specs.Label.{Counting, CountingType}
 use Rattle.removal_theory.specs.Encoding.{type_payload, encode, type_of}
 use Rattle.counting_theory.specs.WellFormed.{max_total}
 use Rattle.removal_theory.specs.WellFormed.{fields_of, field_counts}
-use Rattle.removal_arena.specs.declared.level.Level.{Level}
-use Rattle.removal_arena.specs.Inside.Arena.{by_flag, label_at}
+use Rattle.type_arena.specs.declared.level.Level.{Level}
+use Rattle.removal_arena.specs.Inside.Arena.{label_at}
 use Rattle.removal_arena.specs.Inside.Addend.{front, body, Coded}
 use Rattle.removal_arena.specs.Inside.Runs.{TypeRun}
-use Rattle.removal.specs.declared.pass.Remainder.{Remainder}
-use Rattle.removal.specs.declared.pass.Remainder.TheVariants.{Bytes, NotPart}
+use Rattle.std.specs.declared.option.Option as code
+use Rattle.std.specs.declared.option.Option.TheVariants.{Some, None}
+use Rattle.std.specs.Option.{unwrap_or}
 use Rattle.removal.specs.Difference.{taken_node, difference}
 use Rattle.removal.specs.Removed.{taken}
 
@@ -26,7 +28,7 @@ pub record Run (x : List ℕ) : Type 0 where
 -- a run of the whole, with the most that a count of what is left may be: at a union the limit on totals, which no count passes
 pub record WholeRun (level : Level) (limit : ℕ) (x : List ℕ) : Type 0 where
   pub run : TypeRun level x
-  pub fields : field_counts by_kind (type_of (by_flag level.label) x) ≡ true
+  pub fields : field_counts by_kind (type_of level.equivalence x) ≡ true
   pub limited : level.field ≡ false → limit ≡ max_total
 
 -- no count of siblings passes the limit, and inside no field's passes its record's
@@ -59,25 +61,12 @@ unfoldable pub placed : List ℕ → ℕ → Option (List ℕ) → Option (List 
 placed out k none = none
 placed out k (some b) = some (sets out k b, k + length b)
 
--- nothing, if the flag is set
-unfoldable pub unless : {A : Type 0} → Bool → Option A → Option A
-unless true o = none
-unless false o = o
-
--- what is left of a by b is stored from byte k₀ on, but for what is left of the tail t of a, which comes next
-pub record RemovedSoFar (level : Level) (limit : ℕ) (a b out₀ : List ℕ) (k₀ : ℕ) (lacks₀ : Bool) (t out : List ℕ) (k : ℕ) (lacks : Bool) : Type 0 where
-  pub tail : WholeRun level limit t
-  pub from : k₀ ≤ k
-  pub room : k + length t ≤ k₀ + length a
-  pub left : placed out k (unless lacks (run_left (by_flag level.label) limit t [])) ≡ placed out₀ k₀ (unless lacks₀ (run_left (by_flag level.label) limit a b))
-
--- what is left of the first addend of x by that of y is stored from byte k₀ on
-pub record AddendRemoved (e : Equivalence) (limit : ℕ) (x y out₀ : List ℕ) (k₀ : ℕ) (out : List ℕ) (k : ℕ) (lacks : Bool) : Type 0 where
-  pub from : k₀ ≤ k
-  pub room : k ≤ k₀ + length (front x)
-  pub left : unless lacks (some (out, k)) ≡ placed out₀ k₀ (addend_left e limit x y)
-
 -- the code's answer for a run that is stored from byte k on
-unfoldable pub remainder_at : Remainder → List ℕ → ℕ → Option (List ℕ × ℕ)
-remainder_at (Bytes n) out k = some (out, k + n)
-remainder_at NotPart out k = none
+unfoldable pub remainder_at : code.Option ℕ → List ℕ → ℕ → Option (List ℕ × ℕ)
+remainder_at (Some n) out k = some (out, k + n)
+remainder_at None out k = none
+
+-- what is left of the first addend of x by that of y is stored from byte k on, and is no longer than it
+pub record AddendRemoved (e : Equivalence) (limit : ℕ) (x y out₀ : List ℕ) (k : ℕ) (out : List ℕ) (removed : code.Option ℕ) : Type 0 where
+  pub room : unwrap_or removed 0 ≤ length (front x)
+  pub left : remainder_at removed out k ≡ placed out₀ k (addend_left e limit x y)

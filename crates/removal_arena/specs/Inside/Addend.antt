@@ -1,7 +1,7 @@
 -- The first addend or field of a run of 16-byte type records, on its bytes; and which bytes are a run.
 use Rattle.std.specs.Prelude.{◌≡◌, Bool, List, ℕ, ◌+◌, ◌*◌, ◌-◌, ◌≤◌, length, take, drop}
 use Rattle.std.proofs.lemmas.List.Edits.{sets}
-use Rattle.counting_theory.specs.Label.{Equivalence}
+use Rattle.counting_theory.specs.declared.equivalence.Equivalence.{Equivalence}
 use Rattle.removal_theory.specs.Label.{CountingType}
 use Rattle.removal_theory.specs.Encoding.{type_size, type_span, encode, Tagged}
 use Rattle.removal_theory.specs.Inside.TypeBytes.{Fitting}

@@ -2,10 +2,12 @@
 use mathlib.Core.Path.{◌≡◌, refl, sym, ap, ◌∙◌}
 use Prim.Native.Nat.{ℕ, ◌+◌, ◌-◌}
 use native.Mathlib.Omega.{arith}
+use lib.Dec.{eqb}
+use Rattle.std.proofs.Common.{is_some, Option, Some, None}
+use Rattle.std.specs.Option.{option_eq}
 use Rattle.removal_theory.specs.Encoding.{type_span}
 use Rattle.removal_theory.specs.Inside.TypeBytes.{type_count}
-use Rattle.removal_arena.specs.Inside.Arena.{by_flag}
-use Rattle.removal_check.specs.Inside.Checker.{checked_of, is_some, has_total, addends, check_run, addend_right}
+use Rattle.removal_check.specs.Inside.Checker.{has_total, addends, check_run, addend_right}
 use Rattle.removal_check.proofs.OnePass.CheckLoop.{addend-inside, wrong-record, record-span, with-fields, with-union, with_nothing}
 use Rattle.removal_check.proofs.OnePass.Loops.{run-from, run-within, in_table, addends-start, addends-done, last-inside, wrong-addend, wrong-count, wrong-order, addend-span, count-below, addends-next, fields-start, fields-done, wrong-field, field-span, wrong-total, fields-next}
 use Rattle.removal_check.proofs.+check_addend_check_field_check_fields_check_union.Goals as goal
@@ -13,10 +15,10 @@ use Rattle.removal_check.proofs.+check_addend_check_field_check_fields_check_uni
 
 module _ {t : ℕ} where
   -- what the call on the inner union says of the addend
-  inner-union : (c : goal.check_addend-After-check_union t) → let a = c.args in is_some (checked_of c.check_union.result) ≡ addend_right (by_flag a.label) a.b.now a.p a.end (33 - a.left)
+  inner-union : (c : goal.check_addend-After-check_union t) → let a = c.args in is_some c.check_union.result ≡ addend_right a.equivalence a.b.now a.p a.end (33 - a.left)
   inner-union c =
       let h = (sym c.addend_record.ensures ∙ c.if-not-addend_record.false) in
-      let d : 33 - (c.args.left - 1) ≡ 33 - c.args.left + 1 = omega (arith, (record-span (by_flag c.args.label) _ _ _ _ h).2, c.requires.2) in
+      let d : 33 - (c.args.left - 1) ≡ 33 - c.args.left + 1 = omega (arith, (record-span c.args.equivalence _ _ _ _ h).2, c.requires.2) in
       ap is_some (rw (d, c.span_at.ensures.0) at c.check_union.ensures) ∙ with-union _ _ _ _ _ h (λ z. c.if-kind-eq-RECORD.false (c.kind_at-kind.ensures ∙ z))
 
 pub check_addend-addend_record-requires : goal.check_addend-addend_record-requires
@@ -32,7 +34,7 @@ pub check_addend-span_at-requires : goal.check_addend-span_at-requires
 check_addend-span_at-requires t c = (in_table c.requires.0 c.requires.1).whole
 
 pub check_addend-overflow_add-inner_end : goal.check_addend-overflow_add-inner_end
-check_addend-overflow_add-inner_end t c = omega (arith, (record-span (by_flag c.args.label) _ _ _ _ (sym c.addend_record.ensures ∙ c.if-not-addend_record.false)).1, c.span_at.ensures.0, c.requires.0.within)
+check_addend-overflow_add-inner_end t c = omega (arith, (record-span c.args.equivalence _ _ _ _ (sym c.addend_record.ensures ∙ c.if-not-addend_record.false)).1, c.span_at.ensures.0, c.requires.0.within)
 
 pub check_addend-overflow_add-p : goal.check_addend-overflow_add-p
 check_addend-overflow_add-p t c = omega (arith, c.requires.0.within, c.requires.1)
@@ -42,7 +44,7 @@ check_addend-count_at-requires t c = (in_table c.requires.0 c.requires.1).whole
 
 pub check_addend-check_fields-requires : goal.check_addend-check_fields-requires
 check_addend-check_fields-requires t c =
-    let s = record-span (by_flag c.args.label) _ _ _ _ (sym c.addend_record.ensures ∙ c.if-not-addend_record.false) in
+    let s = record-span c.args.equivalence _ _ _ _ (sym c.addend_record.ensures ∙ c.if-not-addend_record.false) in
     (omega (arith, c.decreases), (rw c.span_at.ensures.0 (run-within c.requires.0 (omega (arith, s.0)) s.1), omega (arith, s.2, c.requires.2), c.requires.2))
 
 pub check_addend-returns-then-kind-eq-RECORD : goal.check_addend-returns-then-kind-eq-RECORD
@@ -57,18 +59,15 @@ pub check_addend-overflow_add-p-2 : goal.check_addend-overflow_add-p-2
 check_addend-overflow_add-p-2 t c = omega (arith, c.requires.0.within, c.requires.1)
 
 pub check_addend-overflow_sub-left : goal.check_addend-overflow_sub-left
-check_addend-overflow_sub-left t c = omega (arith, (record-span (by_flag c.args.label) _ _ _ _ (sym c.addend_record.ensures ∙ c.if-not-addend_record.false)).2)
+check_addend-overflow_sub-left t c = omega (arith, (record-span c.args.equivalence _ _ _ _ (sym c.addend_record.ensures ∙ c.if-not-addend_record.false)).2)
 
 pub check_addend-check_union-requires : goal.check_addend-check_union-requires
 check_addend-check_union-requires t c =
-    let s = record-span (by_flag c.args.label) _ _ _ _ (sym c.addend_record.ensures ∙ c.if-not-addend_record.false) in
+    let s = record-span c.args.equivalence _ _ _ _ (sym c.addend_record.ensures ∙ c.if-not-addend_record.false) in
     (omega (arith, s.2, c.decreases, c.requires.2), (rw c.span_at.ensures.0 (run-within c.requires.0 (omega (arith, s.0)) s.1), omega (arith, c.requires.2)))
 
-pub check_addend-returns-in-Total : goal.check_addend-returns-in-Total
-check_addend-returns-in-Total t c = sym (ap (λ x. is_some (checked_of x)) c.in-Total.is) ∙ inner-union (goal.at.check_addend-returns-in-Total t c).After-check_union
-
-pub check_addend-returns-in-Faulty : goal.check_addend-returns-in-Faulty
-check_addend-returns-in-Faulty t c = sym (ap (λ x. is_some (checked_of x)) c.in-Faulty.is) ∙ inner-union (goal.at.check_addend-returns-in-Faulty t c).After-check_union
+pub check_addend-returns : goal.check_addend-returns
+check_addend-returns t c = c.is_some.ensures ∙ inner-union (goal.at.check_addend-returns t c).After-check_union
 
 pub check_field-overflow_add-p : goal.check_field-overflow_add-p
 check_field-overflow_add-p t c = let r = c.requires.0 in omega (arith, r.upto, r.within, r.short)
@@ -83,7 +82,7 @@ pub check_field-check_scalar-requires : goal.check_field-check_scalar-requires
 check_field-check_scalar-requires t c = let s = c.requires in (s.0, c.if-end-p.true, rw c.kind_at.ensures at c.if-kind_at-le-LAST_SCALAR.true, omega (arith, s.1))
 
 pub check_field-returns-then-kind_at-le-LAST_SCALAR : goal.check_field-returns-then-kind_at-le-LAST_SCALAR
-check_field-returns-then-kind_at-le-LAST_SCALAR t c = c.check_scalar.ensures (by_flag c.args.label)
+check_field-returns-then-kind_at-le-LAST_SCALAR t c = c.check_scalar.ensures c.args.equivalence
 
 pub check_field-overflow_add-p-2 : goal.check_field-overflow_add-p-2
 check_field-overflow_add-p-2 t c = omega (arith, c.requires.0.upto, c.requires.0.within)
@@ -94,15 +93,16 @@ check_field-check_union-requires t c = (omega (arith, c.decreases), (c.requires.
 pub check_field-count_at-requires : goal.check_field-count_at-requires
 check_field-count_at-requires t c = omega (arith, c.requires.0.upto, c.requires.0.within)
 
-pub check_field-returns-in-Total : goal.check_field-returns-in-Total
-check_field-returns-in-Total t c = rw (← c.check_union.ensures, c.in-Total.is, c.count_at.ensures) refl
+found : (o : Option ℕ) (n : ℕ) → option_eq eqb o (Some n) ≡ has_total n o
+found (Some t) n = refl
+found None n = refl
 
-pub check_field-returns-in-Faulty : goal.check_field-returns-in-Faulty
-check_field-returns-in-Faulty t c = rw (← c.check_union.ensures, c.in-Faulty.is) refl
+pub check_field-returns : goal.check_field-returns
+check_field-returns t c = rw (← c.check_union.ensures, c.eq.ensures, c.count_at.ensures) (found c.check_union.result _)
 
 module _ {t : ℕ} where
   -- what the call on the union inside the field at p says, in the depth of that union
-  inner : (c : goal.check_fields-After-check_field t) → let a = c.args in let p = c.loop-p.p in c.check_field.result ≡ has_total (type_count a.b.now p) (check_run (by_flag a.label) a.b.now (p + 1) (p + type_span a.b.now p) (addends (33 - a.left + 1) (p + 1) 0))
+  inner : (c : goal.check_fields-After-check_field t) → let a = c.args in let p = c.loop-p.p in c.check_field.result ≡ has_total (type_count a.b.now p) (check_run a.equivalence a.b.now (p + 1) (p + type_span a.b.now p) (addends (33 - a.left + 1) (p + 1) 0))
   inner c =
       let d : 33 - (c.args.left - 1) ≡ 33 - c.args.left + 1 = omega (arith, c.requires.1, c.requires.2) in
       rw (← d, ← c.span_at.ensures.0) c.check_field.ensures

@@ -2,7 +2,7 @@
 use mathlib.Core.Path.{◌≡◌, refl, sym, ◌∙◌, ap}
 use mathlib.Core.Bool.{Bool, true, false, cond}
 use mathlib.Core.List.{List}
-use mathlib.Core.Option.{Option, none, some}
+use Rattle.std.proofs.Common.{Option, None, Some}
 use Prim.Native.Nat.{ℕ, zero, suc, ◌+◌, ◌-◌, ◌*◌, ◌≤◌}
 use native.Mathlib.Omega.{arith}
 use lib.Dec.{eqb}
@@ -11,7 +11,7 @@ use borrow.Author.Tests.{eqb-true, eqb-false}
 use Rattle.byte_records.specs.Number.{Bytes}
 use Rattle.byte_records.proofs.Tests.{and_parts}
 use Rattle.counting_theory.specs.Trie.{nil, node, size, total, largest_below}
-use Rattle.counting_theory.specs.Label.{Equivalence}
+use Rattle.counting_theory.specs.declared.equivalence.Equivalence.{Equivalence}
 use Rattle.removal_theory.specs.Label.{CountingType}
 use Rattle.removal_theory.specs.Encoding.{type_size, type_span, type_payload}
 use Rattle.counting_theory.specs.WellFormed.{max_total}
@@ -28,7 +28,7 @@ use Rattle.removal_check.proofs.OnePass.Rest.{sum_of, Totals, Beside, Rest}
 use Rattle.removal_check.proofs.OnePass.Node.{rest-node, rest-parts}
 use Rattle.removal_check.proofs.OnePass.Content.{content-starts, after-goes-on, agrees-some, some-agrees, sum-nil, total-follows, sum-node}
 
-cond-some : (t : Bool) (o : Option ℕ) (u : ℕ) → cond t o none ≡ some u → (t ≡ true) × (o ≡ some u)
+cond-some : (t : Bool) (o : Option ℕ) (u : ℕ) → cond t o None ≡ Some u → (t ≡ true) × (o ≡ Some u)
 cond-some true o u h = (refl, h)
 cond-some false o u h = (cc, cc)
 
@@ -36,11 +36,11 @@ module _ (e : Equivalence) (b : List ℕ) where
   abbrev HoldsRun : ℕ → ℕ → Run → CountingType → Type 0
   HoldsRun p end r f = RecordsHold e b p end (is_fields r) (depth_of r) f
 
-  pub check-complete : (p end : ℕ) (r : Run) (f : CountingType) → HoldsRun p end r f → Rest e b p r f → check_run e b p end r ≡ some (sum_of r f)
+  pub check-complete : (p end : ℕ) (r : Run) (f : CountingType) → HoldsRun p end r f → Rest e b p r f → check_run e b p end r ≡ Some (sum_of r f)
   unfolding size
   check-complete p end r nil h x =
       let z : p ≡ end = omega (arith, h.ends) in
-      rw z (check-end e b end r ∙ ap some (sum-nil r))
+      rw z (check-end e b end r ∙ ap Some (sum-nil r))
   check-complete p end r (node l a c s) h x =
       let y = holds-first e b p end (is_fields r) (depth_of r) l a c s h in
       let q = rest-parts e b p end l a c s r h x in
@@ -57,7 +57,7 @@ module _ (e : Equivalence) (b : List ℕ) where
         some-agrees b p r (sum_of (content b p r) c) q.totals,
         check-complete (p + type_span b p) end (after b p r) s others q.behind,
       )
-      (ap some (sum-node e b p end l a c s r h))
+      (ap Some (sum-node e b p end l a c s r h))
 
   -- records p to end are a type, accepted with the total t
   pub record Accepted (p end : ℕ) (r : Run) (t : ℕ) : Type 0 where
@@ -71,10 +71,10 @@ module _ (e : Equivalence) (b : List ℕ) where
   beside-nil p (addends depth last sum) h = (λ z. tt, omega arith)
   beside-nil p (fields depth of_record last_key) h = (tt, refl)
 
-  accepted-nil : (p end : ℕ) (r : Run) (t : ℕ) → total_of r ≤ max_total → p ≡ end → check_run e b p end r ≡ some t → Accepted p end r t
+  accepted-nil : (p end : ℕ) (r : Run) (t : ℕ) → total_of r ≤ max_total → p ≡ end → check_run e b p end r ≡ Some t → Accepted p end r t
   unfolding largest_below counted field_counts
   accepted-nil p end r t m z h =
-      let i : some (total_of r) ≡ some t = sym (check-end e b end r) ∙ (rw z at h) in
+      let i : Some (total_of r) ≡ Some t = sym (check-end e b end r) ∙ (rw z at h) in
       let j : t ≡ total_of r = cc in
       record {
         type = nil;
@@ -103,7 +103,7 @@ module _ (e : Equivalence) (b : List ℕ) where
         }
 
     pub check_sound : (k p end : ℕ) (r : Run) (t : ℕ) → type_size * end ≤ length b → p ≤ end → end - p ≤ k → total_of r ≤ max_total →
-        check_run e b p end r ≡ some t → Accepted p end r t
+        check_run e b p end r ≡ Some t → Accepted p end r t
     check_sound zero p end r t room h n m z = accepted-nil p end r t m (omega arith) z
     check_sound (suc k) p end r t room h n m z =
         go (eqb p end) refl
@@ -111,9 +111,9 @@ module _ (e : Equivalence) (b : List ℕ) where
         (λ x y. check_sound k (p + type_span b p) end (after b p r) t room (omega arith) (omega arith))
       where
         go : (q : Bool) → eqb p end ≡ q →
-            (1 ≤ type_span b p → p + type_span b p ≤ end → (u : ℕ) → check_run e b (p + 1) (p + type_span b p) (content b p r) ≡ some u →
+            (1 ≤ type_span b p → p + type_span b p ≤ end → (u : ℕ) → check_run e b (p + 1) (p + type_span b p) (content b p r) ≡ Some u →
             Accepted (p + 1) (p + type_span b p) (content b p r) u) →
-            (1 ≤ type_span b p → p + type_span b p ≤ end → total_of (after b p r) ≤ max_total → check_run e b (p + type_span b p) end (after b p r) ≡ some t →
+            (1 ≤ type_span b p → p + type_span b p ≤ end → total_of (after b p r) ≤ max_total → check_run e b (p + type_span b p) end (after b p r) ≡ Some t →
             Accepted (p + type_span b p) end (after b p r) t) →
             Accepted p end r t
         go true i hc hs = accepted-nil p end r t m (eqb-true p end i) z

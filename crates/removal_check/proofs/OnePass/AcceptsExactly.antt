@@ -2,7 +2,7 @@
 use mathlib.Core.Path.{◌≡◌, refl, sym, ap}
 use mathlib.Core.Bool.{Bool, true, false, true≢false}
 use mathlib.Core.List.{List}
-use mathlib.Core.Option.{Option, none, some}
+use Rattle.std.proofs.Common.{is_some, Option, None, Some}
 use Prim.Native.Nat.{ℕ}
 use native.Mathlib.Omega.{arith}
 use lib.Dec.{lit≤}
@@ -12,11 +12,11 @@ use Rattle.removal_theory.proofs.WellFormed.Limit.{limit-totals, totals-limit}
 use Rattle.counting_theory.proofs.WellFormed.Tests.{both}
 use Rattle.removal_theory.specs.Payload.{proper}
 use Rattle.counting_theory.specs.Trie.{nil, node, largest_total}
-use Rattle.counting_theory.specs.Label.{Equivalence}
+use Rattle.counting_theory.specs.declared.equivalence.Equivalence.{Equivalence}
 use Rattle.removal_theory.specs.Label.{CountingType}
 use Rattle.removal_theory.specs.Encoding.{type_records, type_of}
 use Rattle.removal_theory.specs.WellFormed.{well_formed, measured, bad_type_length}
-use Rattle.removal_check.specs.Inside.Checker.{Run, addends, check_run, is_some}
+use Rattle.removal_check.specs.Inside.Checker.{Run, addends, check_run}
 use Rattle.removal_theory.proofs.WellFormed.Rules.{Rules}
 use Rattle.removal_theory.proofs.WellFormed.AcceptsExactly.{type-holds, type-rules, holds-type, type-unique, well-formed-type}
 use Rattle.removal_check.proofs.OnePass.Rest.{Rest}
@@ -27,9 +27,9 @@ same_truth true t h i = sym (h refl)
 same_truth false true h i = i refl
 same_truth false false h i = refl
 
-some_of : (o : Option ℕ) → is_some o ≡ true → (t : ℕ) × (o ≡ some t)
-some_of none h = absurd (true≢false (sym h))
-some_of (some t) h = (t, refl)
+some_of : (o : Option ℕ) → is_some o ≡ true → (t : ℕ) × (o ≡ Some t)
+some_of None h = absurd (true≢false (sym h))
+some_of (Some t) h = (t, refl)
 
 -- the whole type is one union
 abbrev whole : Run

@@ -2,7 +2,7 @@
 use mathlib.Core.Path.{◌≡◌, refl, sym, ap, ◌∙◌}
 use mathlib.Core.Bool.{Bool, true, false, cond, ◌&&◌, and_assoc, and_comm, true≢false}
 use mathlib.Core.List.{List, [], ◌∷◌}
-use mathlib.Core.Option.{Option, none, some}
+use Rattle.std.proofs.Common.{is_some, Option, None, Some}
 use Prim.Native.Nat.{ℕ, zero, suc, ◌+◌, ◌-◌, ◌≤◌, ◌<◌}
 use native.Mathlib.Omega.{arith}
 use lib.Dec.{eqb, leb}
@@ -10,13 +10,13 @@ use borrow.Author.Tests.{eqb-true, eqb-false, eq-eqb, ne_eqb}
 use Rattle.value_table.specs.Value.{record_kind, max_depth}
 use Rattle.byte_records.specs.Inside.Chain.{Chain, done, next}
 use Rattle.byte_records.proofs.Tests.{and_parts}
-use Rattle.counting_theory.specs.Label.{Equivalence}
+use Rattle.counting_theory.specs.declared.equivalence.Equivalence.{Equivalence}
 use Rattle.removal_theory.specs.Encoding.{type_kind, type_key, type_span}
 use Rattle.removal_theory.specs.Inside.TypeBytes.{type_count}
 use Rattle.counting_theory.specs.WellFormed.{max_total}
 use Rattle.removal_theory.specs.WellFormed.{type_record}
 use Rattle.removal_arena.specs.Inside.Arena.{Labelled}
-use Rattle.removal_check.specs.Inside.Checker.{addends, fields, fits, ordered, agrees, check_run, is_some, has_total, addend_right, RunOf}
+use Rattle.removal_check.specs.Inside.Checker.{addends, fields, fits, ordered, agrees, check_run, has_total, addend_right, RunOf}
 use Rattle.removal_theory.proofs.WellFormed.Record.{type-record}
 use Rattle.removal_check.proofs.OnePass.Fits.{fits-record}
 use Rattle.removal_check.proofs.OnePass.OneRecord.{check-end, check-step}
@@ -29,19 +29,19 @@ regroup true o c d true = and_comm (o && c && d) true ∙ rw (and_assoc o c d) (
 
 module _ (e : Equivalence) (b : List ℕ) where
   addends-agree : (p depth last total : ℕ) (x : Option ℕ) → agrees b p (addends depth last total) x ≡ is_some x
-  addends-agree p depth last total none = refl
-  addends-agree p depth last total (some t) = refl
+  addends-agree p depth last total None = refl
+  addends-agree p depth last total (Some t) = refl
 
   fields-agree : (p depth of_record last_key : ℕ) (x : Option ℕ) → agrees b p (fields depth of_record last_key) x ≡ has_total (type_count b p) x
-  fields-agree p depth of_record last_key none = refl
-  fields-agree p depth of_record last_key (some t) = refl
+  fields-agree p depth of_record last_key None = refl
+  fields-agree p depth of_record last_key (Some t) = refl
 
   abbrev pub count_fits : ℕ → ℕ → Bool
   count_fits p total = leb 1 (type_count b p) && leb (total + type_count b p) max_total
 
   pub union-step : (p end depth last total : ℕ) → p < end →
       check_run e b p end (addends depth last total)
-      ≡ cond (addend_right e b p end depth && (count_fits p total && ordered e b last p)) (check_run e b (p + type_span b p) end (addends depth p (total + type_count b p))) none
+      ≡ cond (addend_right e b p end depth && (count_fits p total && ordered e b last p)) (check_run e b (p + type_span b p) end (addends depth p (total + type_count b p))) None
   unfolding fits
   union-step p end depth last total l =
       check-step e b p end (addends depth last total) l
@@ -50,11 +50,11 @@ module _ (e : Equivalence) (b : List ℕ) where
   pub fields-step : (p end depth of_record last_key : ℕ) → p < end →
       check_run e b p end (fields depth of_record last_key)
       ≡ cond (fits e b p end (fields depth of_record last_key) && has_total (type_count b p) (check_run e b (p + 1) (p + type_span b p) (addends (depth + 1) (p + 1) 0)))
-      (check_run e b (p + type_span b p) end (fields depth of_record (type_key b p))) none
+      (check_run e b (p + type_span b p) end (fields depth of_record (type_key b p))) None
   fields-step p end depth of_record last_key l =
       check-step e b p end (fields depth of_record last_key) l ∙ rw (fields-agree p depth of_record last_key) refl
 
-passed : (c : Bool) (x : Option ℕ) → is_some (cond c x none) ≡ true → (c ≡ true) × (is_some x ≡ true)
+passed : (c : Bool) (x : Option ℕ) → is_some (cond c x None) ≡ true → (c ≡ true) × (is_some x ≡ true)
 passed true x h = (refl, h)
 passed false x h = absurd (true≢false (sym h))
 

@@ -2,7 +2,7 @@
 use mathlib.Core.Path.{◌≡◌, refl, sym}
 use mathlib.Core.Bool.{Bool, true, false, cond, true≢false}
 use mathlib.Core.List.{List}
-use mathlib.Core.Option.{Option, none, some}
+use Rattle.std.proofs.Common.{Option, None, Some}
 use Prim.Native.Nat.{ℕ, ◌+◌, ◌≤◌}
 use native.Mathlib.Omega.{arith}
 use lib.Dec.{eqb, lit≤}
@@ -10,7 +10,8 @@ use borrow.Author.Tests.{eqb-true, eq-eqb}
 use Rattle.value_table.specs.Value.{record_kind}
 use Rattle.removal_theory.specs.Payload.{Payload}
 use Rattle.counting_theory.specs.Trie.{nil, node, total}
-use Rattle.counting_theory.specs.Label.{Equivalence, Label}
+use Rattle.counting_theory.specs.Label.{Label}
+use Rattle.counting_theory.specs.declared.equivalence.Equivalence.{Equivalence}
 use Rattle.removal_theory.specs.Label.{CountingType}
 use Rattle.removal_theory.specs.Encoding.{type_kind}
 use Rattle.removal_theory.specs.Inside.TypeBytes.{type_count}
@@ -42,12 +43,12 @@ module _ (b : List ℕ) (p : ℕ) where
   after-goes-on (addends depth last sum) = (refl, refl)
   after-goes-on (fields depth of_record last_key) = (refl, refl)
 
-  pub agrees-some : (r : Run) (o : Option ℕ) → agrees b p r o ≡ true → (t : ℕ) × (o ≡ some t) × Totals b p r t
-  agrees-some r none h = absurd (true≢false (sym h))
-  agrees-some (addends depth last sum) (some t) h = (t, refl, tt)
-  agrees-some (fields depth of_record last_key) (some t) h = (t, refl, eqb-true t (type_count b p) h)
+  pub agrees-some : (r : Run) (o : Option ℕ) → agrees b p r o ≡ true → (t : ℕ) × (o ≡ Some t) × Totals b p r t
+  agrees-some r None h = absurd (true≢false (sym h))
+  agrees-some (addends depth last sum) (Some t) h = (t, refl, tt)
+  agrees-some (fields depth of_record last_key) (Some t) h = (t, refl, eqb-true t (type_count b p) h)
 
-  pub some-agrees : (r : Run) (t : ℕ) → Totals b p r t → agrees b p r (some t) ≡ true
+  pub some-agrees : (r : Run) (t : ℕ) → Totals b p r t → agrees b p r (Some t) ≡ true
   some-agrees (addends depth last sum) t h = refl
   some-agrees (fields depth of_record last_key) t h = eq-eqb t (type_count b p) h
 

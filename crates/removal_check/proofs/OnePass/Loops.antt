@@ -3,20 +3,20 @@ use mathlib.Core.Path.{◌≡◌, refl, sym, ap, ◌∙◌}
 use mathlib.Core.Bool.{true, false}
 use mathlib.Core.List.{List}
 use mathlib.Core.Logic.{◌⊎◌, inl, inr}
-use mathlib.Core.Option.{none, some}
+use Rattle.std.proofs.Common.{is_some, None, Some}
 use Prim.Native.Nat.{ℕ, ◌+◌, ◌≤◌, ◌<◌}
 use native.Mathlib.Omega.{arith}
 use lib.Dec.{leb}
 use borrow.Author.Tests.{leb-true, eq-eqb}
 use Rattle.value_table.specs.Value.{record_kind}
 use Rattle.byte_records.proofs.Tests.{and_parts}
-use Rattle.counting_theory.specs.Label.{Equivalence}
+use Rattle.counting_theory.specs.declared.equivalence.Equivalence.{Equivalence}
 use Rattle.removal_theory.specs.Encoding.{type_kind, type_key, type_span}
 use Rattle.removal_theory.specs.Inside.TypeBytes.{type_count}
 use Rattle.counting_theory.specs.WellFormed.{max_total}
 use Rattle.removal_theory.specs.WellFormed.{type_record}
 use Rattle.removal_arena.specs.Inside.Arena.{RecordIn, Labelled}
-use Rattle.removal_check.specs.Inside.Checker.{addends, fields, fits, ordered, check_run, is_some, has_total, addend_right, RunOf}
+use Rattle.removal_check.specs.Inside.Checker.{addends, fields, fits, ordered, check_run, has_total, addend_right, RunOf}
 use Rattle.removal_check.proofs.OnePass.Fits.{fits-record}
 use Rattle.removal_check.proofs.OnePass.OneRecord.{check-end}
 use Rattle.removal_check.proofs.OnePass.CheckLoop.{count_fits, union-step, fields-step, addend-inside, record-span, wrong-record, with_nothing}
@@ -42,7 +42,7 @@ pub addends-start : (e : Equivalence) (b : List ℕ) (i end depth : ℕ) → i �
 addends-start e b i end depth h = record { upto = h; left = refl; limit = omega arith; before = inl refl }
 
 module _ {e : Equivalence} {b : List ℕ} {i end depth p last total : ℕ} (w : Addends e b i end depth p last total) where
-  pub addends-done : end ≤ p → some total ≡ check_run e b i end (addends depth i 0)
+  pub addends-done : end ≤ p → Some total ≡ check_run e b i end (addends depth i 0)
   addends-done l =
       let z : p ≡ end = omega (arith, w.upto) in
       sym (check-end e b end (addends depth last total)) ∙ rw z at w.left
@@ -56,18 +56,18 @@ module _ {e : Equivalence} {b : List ℕ} {i end depth p last total : ℕ} (w : 
 
   module _ (l : p < end) where
     -- each test that fails settles the union
-    pub wrong-addend : addend_right e b p end depth ≡ false → none ≡ check_run e b i end (addends depth i 0)
+    pub wrong-addend : addend_right e b p end depth ≡ false → None ≡ check_run e b i end (addends depth i 0)
     wrong-addend h = sym (rw h at (union-step e b p end depth last total l)) ∙ w.left
 
     module _ (right : addend_right e b p end depth ≡ true) where
-      pub wrong-count : count_fits e b p total ≡ false → none ≡ check_run e b i end (addends depth i 0)
+      pub wrong-count : count_fits e b p total ≡ false → None ≡ check_run e b i end (addends depth i 0)
       wrong-count h = sym (rw (right, h) at (union-step e b p end depth last total l)) ∙ w.left
 
       pub addend-span : (1 ≤ type_span b p) × (p + type_span b p ≤ end)
       addend-span = let f = record-span e b p end depth (and_parts _ _ right).0 in (f.0, f.1)
 
       module _ (counts : count_fits e b p total ≡ true) where
-        pub wrong-order : ordered e b last p ≡ false → none ≡ check_run e b i end (addends depth i 0)
+        pub wrong-order : ordered e b last p ≡ false → None ≡ check_run e b i end (addends depth i 0)
         wrong-order h = sym (rw (right, counts, h) at (union-step e b p end depth last total l)) ∙ w.left
 
         pub count-below : total + type_count b p ≤ max_total
@@ -87,17 +87,17 @@ module _ (e : Equivalence) (b : List ℕ) (q end depth : ℕ) (one : end ≡ q +
   start : Addends e b q end depth q q 0
   start = addends-start e b q end depth r.upto
 
-  pub wrong-scalar : type_record b q end false depth ≡ false → none ≡ check_run e b q end (addends depth q 0)
+  pub wrong-scalar : type_record b q end false depth ≡ false → None ≡ check_run e b q end (addends depth q 0)
   wrong-scalar h = wrong-addend start (omega arith) (sym (wrong-record e b q end depth h))
 
   module _ (h : type_record b q end false depth ≡ true) where
     right : addend_right e b q end depth ≡ true
     right = sym (with_nothing e b q end depth h scalar)
 
-    pub wrong-scalar-count : count_fits e b q 0 ≡ false → none ≡ check_run e b q end (addends depth q 0)
+    pub wrong-scalar-count : count_fits e b q 0 ≡ false → None ≡ check_run e b q end (addends depth q 0)
     wrong-scalar-count c = wrong-count start (omega arith) right c
 
-    pub scalar-total : count_fits e b q 0 ≡ true → some (type_count b q) ≡ check_run e b q end (addends depth q 0)
+    pub scalar-total : count_fits e b q 0 ≡ true → Some (type_count b q) ≡ check_run e b q end (addends depth q 0)
     scalar-total c =
         let o : ordered e b q q ≡ true = rw (eq-eqb q q refl) refl in
         let n = addends-next start (omega arith) right c r o in

@@ -10,7 +10,8 @@ use Rattle.value_table.specs.Value.{record_kind}
 use Rattle.byte_records.proofs.Tests.{and_parts}
 use Rattle.removal_theory.specs.Payload.{Payload}
 use Rattle.counting_theory.specs.Trie.{node, total}
-use Rattle.counting_theory.specs.Label.{Equivalence, Label, field_label, compare_label}
+use Rattle.counting_theory.specs.Label.{Label, field_label, compare_label}
+use Rattle.counting_theory.specs.declared.equivalence.Equivalence.{Equivalence}
 use Rattle.removal_theory.specs.Label.{CountingType}
 use Rattle.removal_theory.specs.Encoding.{type_key, type_span}
 use Rattle.counting_theory.specs.WellFormed.{field_count}

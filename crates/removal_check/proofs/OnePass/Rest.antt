@@ -7,7 +7,8 @@ use native.Mathlib.Omega.{arith}
 use lib.Dec.{eqb}
 use borrow.Author.Tests.{eq-eqb}
 use Rattle.counting_theory.specs.Trie.{nil, node, size, Before, total}
-use Rattle.counting_theory.specs.Label.{Equivalence, field_label, compare_label}
+use Rattle.counting_theory.specs.Label.{field_label, compare_label}
+use Rattle.counting_theory.specs.declared.equivalence.Equivalence.{Equivalence}
 use Rattle.removal_theory.specs.Label.{Counting, CountingType}
 use Rattle.removal_theory.specs.Encoding.{Tagged}
 use Rattle.removal_theory.specs.Inside.TypeBytes.{type_count}

@@ -9,7 +9,8 @@ use borrow.Author.Tests.{le-leb}
 use Rattle.value_table.specs.Value.{record_kind}
 use Rattle.removal_theory.specs.Payload.{Payload}
 use Rattle.counting_theory.specs.Trie.{node, Before, Sorted, total, largest_below}
-use Rattle.counting_theory.specs.Label.{Equivalence, Label, field_kind}
+use Rattle.counting_theory.specs.Label.{Label, field_kind}
+use Rattle.counting_theory.specs.declared.equivalence.Equivalence.{Equivalence}
 use Rattle.removal_theory.specs.Label.{Counting, CountingType}
 use Rattle.removal_theory.specs.Place.{FieldTotals}
 use Rattle.counting_theory.specs.WellFormed.{max_total}

@@ -1,27 +1,22 @@
 -- `addend_record` meets its contract.
-use mathlib.Core.Path.{sym, ◌∙◌}
-use Prim.Native.Nat.{◌-◌}
+use mathlib.Core.Path.{◌≡◌}
+use mathlib.Core.Bool.{not}
+use Rattle.std.proofs.lemmas.Grind.{common_steps}
+use Prim.Native.Nat.{ℕ, ◌-◌, ◌≤◌}
 use native.Mathlib.Omega.{arith}
-use borrow.Author.Tests.{eq-eqb, ne_eqb, le-leb}
+use lib.Dec.{eqb, leb}
+use Rattle.std.proofs.lemmas.Bool.Decides.{nat_tests}
 use Rattle.removal_theory.specs.WellFormed.{type_record}
 use Rattle.removal_check.proofs.addend_record.Goals as goal
 
-pub returns-then-not-placed : goal.returns-then-not-placed
-unfolding type_record
-returns-then-not-placed c = simp (sym c.placed.ensures ∙ c.if-not-placed.true)
+-- there is a level left exactly where the depth is allowed
+depth-left : (left : ℕ) → left ≤ 32 → leb (33 - left) 32 ≡ not (eqb left 0)
+depth-left left h = grind (arith, nat_tests)
 
-pub returns-then-not-kind_fits : goal.returns-then-not-kind_fits
+pub returns-then-left-ne0 : goal.returns-then-left-ne0
 unfolding type_record
-returns-then-not-kind_fits c = simp (sym c.placed.ensures ∙ c.if-not-placed.false, sym c.kind_fits.ensures ∙ c.if-not-kind_fits.true)
+returns-then-left-ne0 c = rw (depth-left c.args.left (omega arith)) (grind (arith, common_steps))
 
-pub returns-then-key_at-ne0 : goal.returns-then-key_at-ne0
+pub returns-else-left-ne0 : goal.returns-else-left-ne0
 unfolding type_record
-returns-then-key_at-ne0 c = simp (sym c.placed.ensures ∙ c.if-not-placed.false, sym c.kind_fits.ensures ∙ c.if-not-kind_fits.false, ← c.key_at.ensures, ne_eqb _ _ c.if-key_at-ne0.true)
-
-pub returns-then-left-eq0 : goal.returns-then-left-eq0
-unfolding type_record
-returns-then-left-eq0 c = simp (sym c.placed.ensures ∙ c.if-not-placed.false, sym c.kind_fits.ensures ∙ c.if-not-kind_fits.false, ← c.key_at.ensures, eq-eqb _ _ c.if-key_at-ne0.false, c.if-left-eq0.true)
-
-pub returns : goal.returns
-unfolding type_record
-returns c = simp (sym c.placed.ensures ∙ c.if-not-placed.false, sym c.kind_fits.ensures ∙ c.if-not-kind_fits.false, ← c.key_at.ensures, eq-eqb _ _ c.if-key_at-ne0.false, le-leb (33 - c.args.left) 32 (omega arith), ← c.scalar_fits.ensures)
+returns-else-left-ne0 c = rw (depth-left c.args.left (omega arith)) (grind (arith, common_steps))

@@ -1,11 +1,9 @@
 -- Well-formedness in one pass over the 16-byte records, as the code checks it: each addend against the one before it, each field against
 -- its record, and the total of each union on the way.
-use Rattle.std.specs.Prelude.{Bool, true, false, cond, ◌&&◌, ◌||◌, List, ℕ, zero, suc, ◌+◌, ◌*◌, ◌-◌, ◌≤◌, eqb, leb, ltb, length}
-use Rattle.std.proofs.Math.Option.{Option, none, some}
+use Rattle.std.specs.Prelude.{is_some, Option, Some, None, Bool, true, false, cond, ◌&&◌, ◌||◌, List, ℕ, zero, suc, ◌+◌, ◌*◌, ◌-◌, ◌≤◌, eqb, leb, ltb, length}
 use Rattle.value_table.specs.Value.{record_kind, max_length}
-use Rattle.removal_check.specs.declared.Checked.{Checked}
-use Rattle.removal_check.specs.declared.Checked.TheVariants.{Total, Faulty}
-use Rattle.counting_theory.specs.Label.{Equivalence, compare_label}
+use Rattle.counting_theory.specs.Label.{compare_label}
+use Rattle.counting_theory.specs.declared.equivalence.Equivalence.{Equivalence}
 use Rattle.removal_theory.specs.Encoding.{type_size, type_kind, type_key, type_span}
 use Rattle.removal_theory.specs.Inside.TypeBytes.{type_count}
 use Rattle.removal_arena.specs.Inside.Arena.{label_at}
@@ -49,32 +47,23 @@ content b p (addends depth last total) = inside b p depth
 content b p (fields depth of_record last_key) = addends (depth + 1) (p + 1) 0
 
 abbrev pub agrees : List ℕ → ℕ → Run → Option ℕ → Bool
-agrees b p r none = false
-agrees b p (addends depth last total) (some t) = true
-agrees b p (fields depth of_record last_key) (some t) = eqb t (type_count b p)
+agrees b p r None = false
+agrees b p (addends depth last total) (Some t) = true
+agrees b p (fields depth of_record last_key) (Some t) = eqb t (type_count b p)
 
 -- the total of the run of records p to end, or none where something is wrong; k bounds the number of records
 unfoldable pub check : Equivalence → List ℕ → ℕ → ℕ → ℕ → Run → Option ℕ
-check e b zero p end r = cond (eqb p end) (some (total_of r)) none
+check e b zero p end r = cond (eqb p end) (Some (total_of r)) None
 check e b (suc k) p end r =
     elim (eqb p end) [
-      | true ↦ some (total_of r)
+      | true ↦ Some (total_of r)
       | false ↦ cond (fits e b p end r && agrees b p r (check e b k (p + 1) (p + type_span b p) (content b p r)))
           (check e b k (p + type_span b p) end (after b p r))
-          none
+          None
     ]
 
 abbrev pub check_run : Equivalence → List ℕ → ℕ → ℕ → Run → Option ℕ
 check_run e b p end r = check e b (end - p) p end r
-
--- the code's verdict on a union
-abbrev pub checked_of : Checked → Option ℕ
-checked_of (Total t) = some t
-checked_of Faulty = none
-
-abbrev pub is_some : {A : Type 0} → Option A → Bool
-is_some none = false
-is_some (some x) = true
 
 -- records i to end stand in b, which is no longer than a type may be
 pub record RunOf (b : List ℕ) (i end : ℕ) : Type 0 where
@@ -87,5 +76,5 @@ abbrev pub addend_right : Equivalence → List ℕ → ℕ → ℕ → ℕ → B
 addend_right e b p end depth = type_record b p end false depth && is_some (check_run e b (p + 1) (p + type_span b p) (inside b p depth))
 
 abbrev pub has_total : ℕ → Option ℕ → Bool
-has_total count none = false
-has_total count (some t) = eqb t count
+has_total count None = false
+has_total count (Some t) = eqb t count

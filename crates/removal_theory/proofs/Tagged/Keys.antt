@@ -4,7 +4,8 @@ use mathlib.Core.Bool.{true}
 use mathlib.Core.List.{◌∷◌}
 use Prim.Native.Nat.Ordering.{eq as same}
 use Rattle.counting_theory.specs.Trie.{nil, node, reduce_step, reduce_node, reduce}
-use Rattle.counting_theory.specs.Label.{Equivalence, field_label, compare_label}
+use Rattle.counting_theory.specs.Label.{field_label, compare_label}
+use Rattle.counting_theory.specs.declared.equivalence.Equivalence.{Equivalence}
 use Rattle.removal_theory.specs.Label.{Counting, CountingType}
 use Rattle.removal_theory.specs.Encoding.{sibling_keys, Tagged}
 use Rattle.counting_theory.proofs.Label.{label-order}

@@ -4,7 +4,8 @@ use mathlib.Core.Bool.{Bool, true, false}
 use Rattle.counting_theory.proofs.Tagged.Parts.{holds_fields, listed-field}
 use Rattle.removal_theory.specs.Payload.{Payload}
 use Rattle.counting_theory.specs.Trie.{node}
-use Rattle.counting_theory.specs.Label.{Equivalence, Label, listed, label_of, field_label}
+use Rattle.counting_theory.specs.Label.{Label, listed, label_of, field_label}
+use Rattle.counting_theory.specs.declared.equivalence.Equivalence.{Equivalence}
 use Rattle.removal_theory.specs.Label.{CountingType}
 use Rattle.removal_theory.specs.Encoding.{sibling_keys, AddendShape, Tagged}
 use Rattle.counting_theory.proofs.Label.{kind-eq, keys-eq}

@@ -7,7 +7,8 @@ use Prim.Native.Nat.Ordering.{lt as less}
 use Prim.Native.Nat.{Ordering}
 use Rattle.removal_theory.specs.Payload.{Payload, join}
 use Rattle.counting_theory.specs.Trie.{nil, node, reduce_step, reduce_node, reduce}
-use Rattle.counting_theory.specs.Label.{Equivalence, Label, listed, compare_label}
+use Rattle.counting_theory.specs.Label.{Label, listed, compare_label}
+use Rattle.counting_theory.specs.declared.equivalence.Equivalence.{Equivalence}
 use Rattle.removal_theory.specs.Label.{Counting, CountingType}
 use Rattle.removal_theory.specs.Encoding.{sibling_keys, Tagged}
 use Rattle.counting_theory.proofs.Label.{label-order}

@@ -11,7 +11,7 @@ use borrow.Author.Tests.{eqb-true, not-false, ltb-false}
 use Rattle.value_table.specs.Value.{max_length}
 use Rattle.byte_records.proofs.Tests.{or_parts, and_parts}
 use Rattle.counting_theory.specs.Trie.{size}
-use Rattle.counting_theory.specs.Label.{Equivalence}
+use Rattle.counting_theory.specs.declared.equivalence.Equivalence.{Equivalence}
 use Rattle.removal_theory.specs.Label.{CountingType}
 use Rattle.removal_theory.specs.Encoding.{type_size, type_records, encode, type_of}
 use Rattle.removal_theory.specs.WellFormed.{laid_out, obeys, well_formed, bad_type_length, IsType, WellFormedIsType, TypeUnique}

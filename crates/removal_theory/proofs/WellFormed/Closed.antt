@@ -4,7 +4,7 @@ use mathlib.Core.Bool.{false}
 use mathlib.Core.List.{List}
 use Prim.Native.Nat.{ℕ}
 use Rattle.counting_theory.specs.Trie.{reduce}
-use Rattle.counting_theory.specs.Label.{Equivalence}
+use Rattle.counting_theory.specs.declared.equivalence.Equivalence.{Equivalence}
 use Rattle.removal_theory.specs.Label.{Counting, CountingType}
 use Rattle.removal_theory.specs.WellFormed.{IsType, ReduceIsType}
 use Rattle.counting_theory.proofs.Trie.Sorted.{sorted-reduce}

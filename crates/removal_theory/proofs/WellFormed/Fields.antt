@@ -12,7 +12,9 @@ use Rattle.value_table.specs.Value.{record_kind}
 use Rattle.byte_records.proofs.Tests.{and_parts}
 use Rattle.removal_theory.specs.Payload.{Payload, join}
 use Rattle.counting_theory.specs.Trie.{nil, node, reduce_step, reduce_node, reduce}
-use Rattle.counting_theory.specs.Label.{Equivalence, by_kind, by_label, Label, listed, field_label, compare_label}
+use Rattle.counting_theory.specs.Label.{Label, listed, field_label, compare_label}
+use Rattle.counting_theory.specs.declared.equivalence.Equivalence.{Equivalence}
+use Rattle.counting_theory.specs.declared.equivalence.Equivalence.TheVariants.{Kind as by_kind, Label as by_label}
 use Rattle.removal_theory.specs.Label.{Counting, CountingType}
 use Rattle.removal_theory.specs.Encoding.{sibling_keys, Tagged}
 use Rattle.removal_theory.specs.WellFormed.{fields_of}

@@ -9,7 +9,8 @@ use borrow.Author.Tests.{ne_eqb}
 use Rattle.value_table.specs.Value.{max_length, array_kind}
 use Rattle.removal_theory.specs.Payload.{Payload}
 use Rattle.counting_theory.specs.Trie.{nil, node, size, total, largest_below, largest_total}
-use Rattle.counting_theory.specs.Label.{Equivalence, Label, field_kind}
+use Rattle.counting_theory.specs.Label.{Label, field_kind}
+use Rattle.counting_theory.specs.declared.equivalence.Equivalence.{Equivalence}
 use Rattle.removal_theory.specs.Label.{weight_of, Counting, CountingType}
 use Rattle.removal_theory.specs.Place.{FieldTotals}
 use Rattle.removal_theory.specs.Encoding.{type_size, Tagged}

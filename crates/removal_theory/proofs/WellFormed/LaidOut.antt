@@ -10,7 +10,8 @@ use borrow.Author.Tests.{eqb-true, eq-eqb, ne_eqb}
 use Rattle.byte_records.specs.Number.{Bytes}
 use Rattle.removal_theory.specs.Payload.{Payload}
 use Rattle.counting_theory.specs.Trie.{nil, node, size, total}
-use Rattle.counting_theory.specs.Label.{Equivalence, Label, field_kind}
+use Rattle.counting_theory.specs.Label.{Label, field_kind}
+use Rattle.counting_theory.specs.declared.equivalence.Equivalence.{Equivalence}
 use Rattle.removal_theory.specs.Label.{Counting, CountingType}
 use Rattle.removal_theory.specs.Place.{FieldTotals}
 use Rattle.removal_theory.specs.Encoding.{type_size, type_kind, type_span, type_payload}

@@ -8,7 +8,8 @@ use Rattle.value_table.specs.Value.{record_kind}
 use Rattle.counting_theory.proofs.WellFormed.Nodes.{KeyOrDepth, depth_under}
 use Rattle.removal_theory.specs.Payload.{Payload, proper}
 use Rattle.counting_theory.specs.Trie.{nil, node, total}
-use Rattle.counting_theory.specs.Label.{Equivalence, Label}
+use Rattle.counting_theory.specs.Label.{Label}
+use Rattle.counting_theory.specs.declared.equivalence.Equivalence.{Equivalence}
 use Rattle.removal_theory.specs.Label.{Counting, CountingType}
 use Rattle.removal_theory.specs.WellFormed.{counted, fields_of, field_counts, measured, Shallow}
 use Rattle.counting_theory.proofs.Tagged.Parts.{holds_fields}

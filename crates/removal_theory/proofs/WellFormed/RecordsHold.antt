@@ -8,7 +8,8 @@ use lib.ListN.{length}
 use Rattle.byte_records.specs.Number.{Bytes}
 use Rattle.removal_theory.specs.Payload.{Payload}
 use Rattle.counting_theory.specs.Trie.{nil, node, size}
-use Rattle.counting_theory.specs.Label.{Equivalence, Label, listed, label_of}
+use Rattle.counting_theory.specs.Label.{Label, listed, label_of}
+use Rattle.counting_theory.specs.declared.equivalence.Equivalence.{Equivalence}
 use Rattle.removal_theory.specs.Label.{CountingType}
 use Rattle.removal_theory.specs.Encoding.{type_size, type_kind, type_key, type_span, type_payload, encode, sibling_keys}
 use Rattle.removal_theory.specs.Inside.TypeBytes.{Fitting}

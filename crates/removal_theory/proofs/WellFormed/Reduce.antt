@@ -11,7 +11,8 @@ use borrow.Author.Tests.{eqb-true}
 use Rattle.value_table.specs.Value.{record_kind}
 use Rattle.removal_theory.specs.Payload.{Payload, join}
 use Rattle.counting_theory.specs.Trie.{nil, node, total, reduce_step, reduce_node, reduce}
-use Rattle.counting_theory.specs.Label.{Equivalence, Label, listed, compare_label}
+use Rattle.counting_theory.specs.Label.{Label, listed, compare_label}
+use Rattle.counting_theory.specs.declared.equivalence.Equivalence.{Equivalence}
 use Rattle.removal_theory.specs.Label.{Counting, CountingType}
 use Rattle.removal_theory.specs.Encoding.{sibling_keys, Tagged}
 use Rattle.removal_theory.specs.WellFormed.{fields_of}

@@ -5,7 +5,8 @@ use lib.Dec.{eqb}
 use borrow.Author.Tests.{eqb-true, eq-eqb}
 use Rattle.byte_records.proofs.Tests.{and_parts}
 use Rattle.counting_theory.specs.Trie.{nil, node, Before, Sorted, total}
-use Rattle.counting_theory.specs.Label.{Equivalence, Label, field_kind, compare_label}
+use Rattle.counting_theory.specs.Label.{Label, field_kind, compare_label}
+use Rattle.counting_theory.specs.declared.equivalence.Equivalence.{Equivalence}
 use Rattle.counting_theory.proofs.WellFormed.Rules.{is_lt-true}
 use Rattle.removal_theory.specs.Label.{Counting, CountingType}
 use Rattle.removal_theory.specs.Place.{FieldTotals}

@@ -1,7 +1,7 @@
 -- Records of 16 bytes that hold a type.
 use Rattle.std.specs.Prelude.{◌≡◌, Bool, List, ◌++◌, ℕ, ◌+◌, ◌*◌, drop}
 use Rattle.counting_theory.specs.Trie.{size}
-use Rattle.counting_theory.specs.Label.{Equivalence}
+use Rattle.counting_theory.specs.declared.equivalence.Equivalence.{Equivalence}
 use Rattle.removal_theory.specs.Label.{CountingType}
 use Rattle.removal_theory.specs.Encoding.{type_size, encode, Tagged}
 use Rattle.removal_theory.specs.WellFormed.{Shallow}

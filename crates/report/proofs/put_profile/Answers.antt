@@ -1,37 +1,48 @@
 -- `put_profile` meets its contract.
-use mathlib.Core.Path.{refl, ap, ◌∙◌}
+use mathlib.Core.Path.{◌≡◌, refl, ap, ◌∙◌}
 use native.Mathlib.Omega.{arith}
-use Rattle.report.proofs.Program.{Told, told, told-type, told-place, told-length, told-report, told-refusal, small-number}
+use Rattle.value_table.specs.Outcome.{accepted}
+use Rattle.answers.specs.Outcomes.{refusal_of}
+use Rattle.report.specs.Line.{refusal_line}
+use Rattle.report.specs.Report.{printed}
+use Rattle.report.proofs.Program.{Told, told, told-type, told-place, told-length, told-report, told-refusal, refusal-number}
 use Rattle.report.proofs.put_profile.Goals as goal
-use Rattle.report.proofs.put_profile.Goals.{After-answer_of-answer}
+use Rattle.report.proofs.put_profile.Goals.{In-Ok, In-Err}
 
 -- the call has been answered
-answered : (c : goal.After-answer_of-answer) → Told c.args.input.now c.infer_input.new.arena c.answer_of-answer.result
-answered c =
-    let left = c.infer_input.ensures in
-    told _ _ _ _ _ refl refl c.infer_input.auto.arena (c.answer_of-answer.ensures ∙ ap (λ x. x.outcome) left) (ap (λ x. x.arena) left)
+inferred : (c : goal.In-Ok) → Told c.args.input.now c.infer_input.new.arena (accepted c.in-Ok.records)
+inferred c = told _ _ _ _ _ refl refl c.infer_input.auto.arena (ap (λ x. x.outcome) c.in-Ok.ensures) (ap (λ x. x.arena) c.in-Ok.ensures)
 
-pub overflow_mul-n : goal.overflow_mul-n
-overflow_mul-n c = omega (arith, (answered (goal.at.overflow_mul-n c).After-answer_of-answer).room, (answered (goal.at.overflow_mul-n c).After-answer_of-answer).whole)
+refused : (c : goal.In-Err) → Told c.args.input.now c.infer_input.new.arena (refusal_of c.in-Err.why)
+refused c = told _ _ _ _ _ refl refl c.infer_input.auto.arena (ap (λ x. x.outcome) c.in-Err.ensures) (ap (λ x. x.arena) c.in-Err.ensures)
+
+pub overflow_mul-arena : goal.overflow_mul-arena
+overflow_mul-arena c = let t = inferred c in omega (arith, t.room, t.whole)
 
 pub slice_bounds-arena-end : goal.slice_bounds-arena-end
-slice_bounds-arena-end c = (answered (goal.at.slice_bounds-arena-end c).After-answer_of-answer).room
+slice_bounds-arena-end c = (inferred c).room
 
 pub slice_bounds-put_report-end : goal.slice_bounds-put_report-end
-slice_bounds-put_report-end c = told-length (answered (goal.at.slice_bounds-put_report-end c).After-answer_of-answer)
+slice_bounds-put_report-end c = told-length (inferred (goal.at.slice_bounds-put_report-end c).In-Ok)
 
 pub put_report-requires : goal.put_report-requires
 put_report-requires c =
-    let t = answered (goal.at.put_report-requires c).After-answer_of-answer in
-    (told-type t (λ p. (c.type_inv.input p).fits) c.if-answer-eq0.true, omega (arith, t.room, t.whole, told-length t))
+    let t = inferred (goal.at.put_report-requires c).In-Ok in
+    (told-type t (λ p. (c.type_inv.input p).fits) refl, omega (arith, t.room, t.whole, told-length t))
 
-pub returns-then-answer-eq0 : goal.returns-then-answer-eq0
-returns-then-answer-eq0 c = rw (← told-report (answered (goal.at.returns-then-answer-eq0 c).After-answer_of-answer) c.if-answer-eq0.true) c.put_report.ensures
+pub returns-in-Ok : goal.returns-in-Ok
+returns-in-Ok c = rw (← told-report (inferred (goal.at.returns-in-Ok c).In-Ok) refl) c.put_report.ensures
 
 pub put_refusal-requires : goal.put_refusal-requires
 put_refusal-requires c =
-    let t = answered (goal.at.put_refusal-requires c).After-answer_of-answer in
-    (omega (arith, small-number c.infer_input.result, ap (λ o. o.number) c.answer_of-answer.ensures), omega (arith, told-place t (λ p. (c.type_inv.input p).fits)), omega arith)
+    let t = refused (goal.at.put_refusal-requires c).In-Err in
+    let e = c.from-answer.ensures in
+    (omega (arith, refusal-number c.in-Err.why, ap (λ o. o.number) e), omega (arith, told-place t (λ p. (c.type_inv.input p).fits), ap (λ o. o.place) e), omega arith)
 
-pub returns : goal.returns
-returns c = rw (← told-refusal (answered (goal.at.returns c).After-answer_of-answer) c.if-answer-eq0.false) c.put_refusal.ensures
+pub returns-in-Err : goal.returns-in-Err
+returns-in-Err c =
+    let t = refused (goal.at.returns-in-Err c).In-Err in
+    let e = c.from-answer.ensures in
+    let line : refusal_line c.from-answer.result.number c.from-answer.result.place ≡ printed c.args.input.now =
+    (λ i. refusal_line (e i).number (e i).place) ∙ told-refusal t (λ z. omega (arith, refusal-number c.in-Err.why)) in
+    rw (← line) c.put_refusal.ensures

@@ -10,7 +10,8 @@ use Rattle.tabulate.proofs.write_table.Goals as goal
 use Rattle.tabulate.proofs.write_table.Goals.{After-answer_of-answer}
 
 room : (c : goal.After-answer_of-answer) → record_size * c.answer_of-answer.result.count ≤ length c.read_text.new.table
-room c = answered-room _ _ _ _ c.answer_of-answer.result c.read_text.result c.read_text.auto.table c.answer_of-answer.ensures c.read_text.ensures
+room c =
+    answered-room _ _ _ _ c.answer_of-answer.result c.read_text.result _ c.read_text.auto.table (λ error a h. h) c.answer_of-answer.ensures c.read_text.ensures
 
 pub overflow_mul-n : goal.overflow_mul-n
 overflow_mul-n c =

@@ -1,12 +1,11 @@
 -- The same entries by one pass over the records of an arena, as the code writes them.
-use Rattle.std.specs.Prelude.{◌≡◌, cond, List, [], ◌++◌, ℕ, zero, suc, ◌+◌, ◌*◌, ◌≤◌, ◌<◌, eqb, length}
+use Rattle.std.specs.Prelude.{Result, Ok, Err, ◌≡◌, cond, List, [], ◌++◌, ℕ, zero, suc, ◌+◌, ◌*◌, ◌≤◌, ◌<◌, eqb, length}
 use Rattle.std.proofs.lemmas.List.Edits.{sets}
 use Rattle.value_table.specs.Value.{record_kind}
 use Rattle.counting_theory.specs.Encoding.{type_size, type_kind, type_key, type_span}
 use Rattle.type_arena.specs.Inside.Arena.{keys_in}
 use Rattle.key_word.specs.Inside.Fields.{WordFields}
-use Rattle.tag_bus.specs.declared.entries.Entries.{Entries}
-use Rattle.tag_bus.specs.declared.entries.Entries.TheVariants.{Written, Full}
+use Rattle.type_arena.specs.declared.record_store.NoRoom.{NoRoom}
 use Rattle.tag_bus.specs.Entries.{entry}
 
 -- what is written for record i
@@ -30,6 +29,6 @@ pub record WordRecords (b : List ℕ) (n : ℕ) : Type 0 where
   pub each : (i : ℕ) → i < n → type_kind b i ≡ record_kind → WordRecord b i
 
 -- the bytes es stand in the front of what was `before`, or have no room there
-abbrev pub EntriesPut : List ℕ → List ℕ → Entries → List ℕ → Type 0
-EntriesPut es before (Written k) b = (k ≡ length es) × (k ≤ length before) × (b ≡ sets before 0 es)
-EntriesPut es before Full b = length before < length es
+abbrev pub EntriesPut : List ℕ → List ℕ → Result ℕ NoRoom → List ℕ → Type 0
+EntriesPut es before (Ok k) b = (k ≡ length es) × (k ≤ length before) × (b ≡ sets before 0 es)
+EntriesPut es before (Err _) b = length before < length es

@@ -1,5 +1,5 @@
 -- What the functions between two items answer.
-use Rattle.std.specs.Prelude.{◌≡◌, Bool, true, false, cond, List, [], ◌∷◌, ℕ, ◌+◌, ◌*◌, ◌-◌, ◌≤◌, ◌<◌, eqb, ltb, length, get_or, take, drop}
+use Rattle.std.specs.Prelude.{◌≡◌, Bool, true, false, cond, Option, None, Some, Result, Ok, Err, List, [], ◌∷◌, ℕ, ◌+◌, ◌*◌, ◌-◌, ◌≤◌, ◌<◌, eqb, length, get_or, take, drop}
 use Rattle.value_table.specs.Value.{record_size, Head, Values, none, value, size, max_depth, max_length}
 use Rattle.json_theory.specs.Grammar.{is_space, Container, head_of}
 use Rattle.json_theory.specs.Parts.{Start, open'}
@@ -8,24 +8,34 @@ use Rattle.json_theory.specs.Book.{book_records}
 use Rattle.json_theory.specs.Reader.{depth, written, items_in, fine, fault_at, read_from}
 use Rattle.json_theory.specs.Inside.Scanning.{byte_at, Leads, Breaks}
 use Rattle.text_reader.specs.Answer.{number_of_text_fault, outcome_of_text}
-use Rattle.text_reader.specs.declared.call.TextAnswer.{TextAnswer}
+use Rattle.text_reader.specs.declared.call.TextError.{TextError}
 use Rattle.byte_records.specs.Number.{zeros}
 use Rattle.json_theory.specs.Reader.{Read}
-use Rattle.text_reader.specs.Inside.Progress.{ItemAt, reads_from, is_object, kind_started, Between, LevelsHold, AwaitsValue, Ready, in_object, own_record}
+use Rattle.text_reader.specs.Inside.Progress.{ItemAt, reads_from, is_object, kind_started, Between, LevelIs, LevelsHold, AwaitsValue, Ready}
 use Rattle.text_reader.specs.Inside.Laid.{TableHolds}
-use Rattle.json_items.specs.Inside.Items.{ColonTo}
+use Rattle.json_tokens.specs.declared.scan.BadByte.{BadByte}
 use Rattle.text_reader.specs.Inside.Marks.{mark_size, MarksHold}
-use Rattle.text_reader.specs.declared.TextFault.{TextFault}
-use Rattle.text_reader.specs.declared.TextFault.TheVariants.{Grammar}
+use Rattle.text_reader.specs.declared.fault.TextFault.TheVariants.{Grammar}
+use Rattle.text_reader.specs.declared.fault.Faulty.{Faulty}
 use Rattle.text_reader.specs.declared.Level.{Level}
 use Rattle.text_reader.specs.declared.field.Key.{Key}
-use Rattle.text_reader.specs.declared.field.Key.TheVariants.{Found, Wrong}
-use Rattle.text_reader.specs.declared.reader.ReadText.{ReadText}
-use Rattle.text_reader.specs.declared.reader.ReadText.TheVariants.{Accepted, Faulty}
-use Rattle.text_reader.specs.declared.value.Value.{Value}
-use Rattle.text_reader.specs.declared.value.Value.TheVariants.{Scalar, Opened, Refused}
-use Rattle.text_reader.specs.declared.between.Next.{Next}
-use Rattle.text_reader.specs.declared.between.Next.TheVariants.{End, Item, Bad}
+use Rattle.text_reader.specs.declared.value.Kind.{Kind}
+use Rattle.text_reader.specs.declared.value.Kind.TheVariants.{Null, Boolean, Number, String, Record, Array}
+use Rattle.text_reader.specs.declared.value.Begun.{Begun}
+use Rattle.text_reader.specs.declared.value.Begun.TheVariants.{Scalar, Opened}
+
+-- the kinds of values, by the numbers that their records have, and 0 for none
+abbrev pub kind_number : Kind → ℕ
+kind_number Null = 1
+kind_number Boolean = 2
+kind_number Number = 3
+kind_number String = 4
+kind_number Record = 5
+kind_number Array = 6
+
+abbrev pub kind_or_none : Option Kind → ℕ
+kind_or_none None = 0
+kind_or_none (Some kind) = kind_number kind
 
 -- the text ends, and these are all its messages
 pub record EndsFine (text : List ℕ) (σ : State) (p : ℕ) (around : Stack) : Type 0 where
@@ -33,17 +43,14 @@ pub record EndsFine (text : List ℕ) (σ : State) (p : ℕ) (around : Stack) : 
   pub is_base : around ≡ base messages
   pub reads : (name : List ℕ → ℕ) (room : ℕ) → read_from name room σ p (drop p text) ≡ fine messages
 
-abbrev pub NextIs : List ℕ → State → ℕ → Stack → Next → Type 0
-NextIs text σ p around End = EndsFine text σ p around
-NextIs text σ p around (Item q) = ItemAt text σ p around q
-NextIs text σ p around (Bad q) = Breaks text σ p q
-
-abbrev pub message_or_end : List ℕ → ℕ → Next
-message_or_end text p = cond (ltb p (length text)) (Item p) End
+abbrev pub NextIs : List ℕ → State → ℕ → Stack → Result (Option ℕ) BadByte → Type 0
+NextIs text σ p around (Ok None) = EndsFine text σ p around
+NextIs text σ p around (Ok (Some q)) = ItemAt text σ p around q
+NextIs text σ p around (Err bad) = Breaks text σ p bad.at
 
 -- the reading from state σ at byte p is refused
-abbrev pub RefusedBy : (text book : List ℕ) → ℕ → State → ℕ → TextFault → ℕ → Type 0
-RefusedBy text book room σ p why q = reads_from text book room σ p ≡ fault_at (number_of_text_fault why) q
+abbrev pub RefusedBy : (text book : List ℕ) → ℕ → State → ℕ → Faulty → Type 0
+RefusedBy text book room σ p faulty = reads_from text book room σ p ≡ fault_at (number_of_text_fault faulty.why) faulty.at
 
 -- a new key of the innermost level has been read and marked, and reading goes on in state τ at byte q
 pub record KeyRead (text book seen : List ℕ) (room : ℕ) (σ : State) (p : ℕ) (around : Stack) (k : ℕ) (τ : State) (q : ℕ) : Type 0 where
@@ -51,37 +58,21 @@ pub record KeyRead (text book seen : List ℕ) (room : ℕ) (σ : State) (p : �
   pub marks : MarksHold (book_records book) seen around (k ∷ [])
 
 -- where a key that was found from byte p on has led
-abbrev pub KeyPlace : List ℕ → ℕ → Key → Type 0
-KeyPlace text p (Found k q) = (p ≤ q) × (q ≤ length text)
-KeyPlace text p (Wrong why q) = Unit {0}
+abbrev pub KeyPlace : List ℕ → ℕ → Result Key Faulty → Type 0
+KeyPlace text p (Ok key) = (p ≤ key.end) × (key.end ≤ length text)
+KeyPlace text p (Err _) = Unit {0}
 
 -- up to its closing quote, and up to its value
-abbrev pub NewKeyIs : (text book seen : List ℕ) → ℕ → State → ℕ → Stack → Key → Type 0
-NewKeyIs text book seen room σ p around (Found k q) = KeyRead text book seen room σ p around k (colon k around) q
-NewKeyIs text book seen room σ p around (Wrong why q) = RefusedBy text book room σ p why q
+abbrev pub NewKeyIs : (text book seen : List ℕ) → ℕ → State → ℕ → Stack → Result Key Faulty → Type 0
+NewKeyIs text book seen room σ p around (Ok key) = KeyRead text book seen room σ p around key.number (colon key.number around) key.end
+NewKeyIs text book seen room σ p around (Err faulty) = RefusedBy text book room σ p faulty
 
-abbrev pub BehindColon : (text : List ℕ) → ℕ → Stack → ℕ → Key → Type 0
-BehindColon text key around p (Found k q) = (k ≡ key) × ColonTo text key around p q
-BehindColon text key around p (Wrong why q) = (why ≡ Grammar) × Breaks text (colon key around) p q
+abbrev pub FieldKeyIs : (text book seen : List ℕ) → ℕ → State → ℕ → Stack → Result Key Faulty → Type 0
+FieldKeyIs text book seen room σ p around (Ok key) =
+    KeyRead text book seen room σ p around key.number (need key.number around) key.end × (is_space (byte_at text key.end) ≡ false)
+FieldKeyIs text book seen room σ p around (Err faulty) = RefusedBy text book room σ p faulty
 
-abbrev pub FieldKeyIs : (text book seen : List ℕ) → ℕ → State → ℕ → Stack → Key → Type 0
-FieldKeyIs text book seen room σ p around (Found k q) = KeyRead text book seen room σ p around k (need k around) q × (is_space (byte_at text q) ≡ false)
-FieldKeyIs text book seen room σ p around (Wrong why q) = RefusedBy text book room σ p why q
-
--- the innermost of d open values, with so many items
-pub record InnermostIs (records : List ℕ) (objects : List Bool) (d items : ℕ) (lv : Level) : Type 0 where
-  pub depth_is : lv.depth ≡ d
-  pub record_is : lv.record ≡ cond (eqb d 0) 0 (get_or records (d - 1) 0)
-  pub object-is : lv.object ≡ cond (eqb d 0) false (get_or objects (d - 1) false)
-  pub items-are : lv.items ≡ items
-
-pub record LevelIs (around : Stack) (lv : Level) : Type 0 where
-  pub depth_is : depth around ≡ lv.depth
-  pub record_is : own_record around ≡ lv.record
-  pub object-is : in_object around ≡ lv.object
-  pub items-are : items_in around ≡ lv.items
-
--- its keys have their marks, and their mark is a number of two bytes
+-- the keys of the innermost level have their marks, and their mark is a number of two bytes
 pub record LevelFits (listed : ℕ) (seen : List ℕ) (lv : Level) : Type 0 where
   pub room : mark_size * (max_depth * listed) ≤ length seen
   pub small : length seen ≤ 2 * max_length
@@ -97,9 +88,9 @@ pub record ItemKey (text book seen : List ℕ) (room : ℕ) (σ : State) (p : �
   pub byte : is_space (byte_at text q) ≡ false
   pub ready : Ready text state q
 
-abbrev pub ItemKeyIs : (text book seen : List ℕ) → ℕ → State → ℕ → Stack → Key → Type 0
-ItemKeyIs text book seen room σ p around (Found k q) = ItemKey text book seen room σ p around k q
-ItemKeyIs text book seen room σ p around (Wrong why q) = RefusedBy text book room σ p why q
+abbrev pub ItemKeyIs : (text book seen : List ℕ) → ℕ → State → ℕ → Stack → Result Key Faulty → Type 0
+ItemKeyIs text book seen room σ p around (Ok key) = ItemKey text book seen room σ p around key.number key.end
+ItemKeyIs text book seen room σ p around (Err faulty) = RefusedBy text book room σ p faulty
 
 -- a scalar has been read up to byte q, and has its record
 pub record ScalarRead (text book table : List ℕ) (room : ℕ) (σ : State) (p key : ℕ) (around : Stack) (q : ℕ) : Type 0 where
@@ -115,22 +106,22 @@ pub record OpenRead (text book table : List ℕ) (room : ℕ) (σ : State) (p ke
   pub holds : TableHolds table (level container key none around)
   pub shallow : depth around < max_depth
 
-abbrev pub ValueIs : (text book table : List ℕ) → ℕ → State → (p key : ℕ) → Stack → Value → Type 0
-ValueIs text book table room σ p key around (Scalar q) = ScalarRead text book table room σ p key around q
-ValueIs text book table room σ p key around (Opened q is_obj) = OpenRead text book table room σ p key around q is_obj
-ValueIs text book table room σ p key around (Refused why q) = RefusedBy text book room σ p why q
+abbrev pub ValueIs : (text book table : List ℕ) → ℕ → State → (p key : ℕ) → Stack → Result Begun Faulty → Type 0
+ValueIs text book table room σ p key around (Ok (Scalar q)) = ScalarRead text book table room σ p key around q
+ValueIs text book table room σ p key around (Ok (Opened q is_obj)) = OpenRead text book table room σ p key around q is_obj
+ValueIs text book table room σ p key around (Err faulty) = RefusedBy text book room σ p faulty
 
 -- where a value has led from byte p on
-abbrev pub ValuePlace : List ℕ → ℕ → Value → Type 0
-ValuePlace text p (Scalar q) = (p < q) × (q ≤ length text)
-ValuePlace text p (Opened q is_obj) = (p < q) × (q ≤ length text)
-ValuePlace text p (Refused why q) = Unit {0}
+abbrev pub ValuePlace : List ℕ → ℕ → Result Begun Faulty → Type 0
+ValuePlace text p (Ok (Scalar q)) = (p < q) × (q ≤ length text)
+ValuePlace text p (Ok (Opened q _)) = (p < q) × (q ≤ length text)
+ValuePlace text p (Err _) = Unit {0}
 
 -- behind the first byte of a value, at p
-abbrev pub BegunIs : List ℕ → Start → (p key : ℕ) → Stack → Value → Type 0
-BegunIs text st p key around (Scalar q) = Leads text (begin st key around) p (after (add (value (head_of (kind_started st)) key none none) around)) q
-BegunIs text st p key around (Opened q is_obj) = (o : Container) × (st ≡ open' o) × (is_obj ≡ is_object o) × (q ≡ p)
-BegunIs text st p key around (Refused why q) = (why ≡ Grammar) × Breaks text (begin st key around) p q
+abbrev pub BegunIs : List ℕ → Start → (p key : ℕ) → Stack → Result Begun Faulty → Type 0
+BegunIs text st p key around (Ok (Scalar q)) = Leads text (begin st key around) p (after (add (value (head_of (kind_started st)) key none none) around)) q
+BegunIs text st p key around (Ok (Opened q is_obj)) = (o : Container) × (st ≡ open' o) × (is_obj ≡ is_object o) × (q ≡ p)
+BegunIs text st p key around (Err faulty) = (faulty.why ≡ Grammar) × Breaks text (begin st key around) p faulty.at
 
 -- an item has been read: a scalar up to byte q, or an array or object that is open there; it has its record, and its key is marked
 pub record ScalarItem (text book table seen : List ℕ) (room : ℕ) (σ : State) (p : ℕ) (around : Stack) (q : ℕ) : Type 0 where
@@ -143,24 +134,23 @@ pub record OpenItem (text book table seen : List ℕ) (room : ℕ) (σ : State) 
   pub read : OpenRead text book table room σ p key around q is_obj
   pub marks : MarksHold (book_records book) seen (level read.container key none around) []
 
-abbrev pub ItemIs : (text book table seen : List ℕ) → ℕ → State → ℕ → Stack → Value → Type 0
-ItemIs text book table seen room σ p around (Scalar q) = ScalarItem text book table seen room σ p around q
-ItemIs text book table seen room σ p around (Opened q is_obj) = OpenItem text book table seen room σ p around q is_obj
-ItemIs text book table seen room σ p around (Refused why q) = RefusedBy text book room σ p why q
+abbrev pub ItemIs : (text book table seen : List ℕ) → ℕ → State → ℕ → Stack → Result Begun Faulty → Type 0
+ItemIs text book table seen room σ p around (Ok (Scalar q)) = ScalarItem text book table seen room σ p around q
+ItemIs text book table seen room σ p around (Ok (Opened q is_obj)) = OpenItem text book table seen room σ p around q is_obj
+ItemIs text book table seen room σ p around (Err faulty) = RefusedBy text book room σ p faulty
 
 -- How far the text is read, between two items: the state, the open values, their records and marks, and that reading on from here is
 -- reading the whole text.
-pub record ReadUpTo (text book table seen : List ℕ) (room : ℕ) (records : List ℕ) (objects : List Bool) (before : List ℕ) (p count d items : ℕ) : Type 0 where
+pub record ReadUpTo (text book table seen : List ℕ) (room : ℕ) (levels : List Level) (p count : ℕ) (lv : Level) : Type 0 where
   pub state : State
   pub around : Stack
-  pub between : Between (eqb items 0) state around
+  pub between : Between (eqb lv.items 0) state around
   pub reads : reads_from text book room state p ≡ reads_from text book room (gap none) 0
   pub place : p ≤ length text
-  pub deep : depth around ≡ d
-  pub shallow : d ≤ max_depth
+  pub inner : LevelIs around lv
+  pub shallow : lv.depth ≤ max_depth
   pub counted : written around ≡ count
-  pub inner : items_in around ≡ items
-  pub levels : LevelsHold records objects before around
+  pub outer : LevelsHold levels around
   pub holds : TableHolds table around
   pub marks : MarksHold (book_records book) seen around []
 
@@ -171,13 +161,13 @@ pub record AllRead (text book table : List ℕ) (room n : ℕ) : Type 0 where
   pub counted : size messages ≡ n
   pub holds : TableHolds table (base messages)
 
-abbrev pub ReadIs : (text book table : List ℕ) → ℕ → ReadText → Type 0
-ReadIs text book table room (Accepted n) = AllRead text book table room n
-ReadIs text book table room (Faulty why q) = RefusedBy text book room (gap none) 0 why q
+abbrev pub ReadIs : (text book table : List ℕ) → ℕ → Result ℕ Faulty → Type 0
+ReadIs text book table room (Ok n) = AllRead text book table room n
+ReadIs text book table room (Err faulty) = RefusedBy text book room (gap none) 0 faulty
 
 -- before the rest of the table is cleared: the answer is that of r, and the table begins with the records that it counts
-pub record ReadInFront (r : Read) (answer : TextAnswer) (table : List ℕ) : Type 0 where
-  pub outcome : outcome_of_text answer ≡ r.outcome
+pub record ReadInFront (r : Read) (answered : Result ℕ TextError) (table : List ℕ) : Type 0 where
+  pub outcome : outcome_of_text answered ≡ r.outcome
   pub front : take (record_size * r.outcome.count) table ≡ take (record_size * r.outcome.count) r.table
   pub room : record_size * r.outcome.count ≤ length table
   pub rest : drop (record_size * r.outcome.count) r.table ≡ zeros (length table - record_size * r.outcome.count)

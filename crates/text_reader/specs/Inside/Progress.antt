@@ -7,6 +7,7 @@ use Rattle.json_theory.specs.Steps.{Stack, base, level, State, gap, after, need,
 use Rattle.json_theory.specs.Book.{key_number}
 use Rattle.json_theory.specs.Reader.{depth, written, items_in, Reading, read_from}
 use Rattle.json_theory.specs.Inside.Scanning.{byte_at, Leads}
+use Rattle.text_reader.specs.declared.Level.{Level}
 
 -- the reading of a text from state σ at byte p on, with the book's numbers
 abbrev pub reads_from : (text book : List ℕ) → ℕ → State → ℕ → Reading
@@ -15,13 +16,6 @@ reads_from text book room σ p = read_from (key_number book) room σ p (drop p t
 abbrev pub is_object : Container → Bool
 is_object array = false
 is_object object = true
-
--- the record of each open value, whether it is an object, and how many items stand before it, by depth
-abbrev pub LevelsHold : List ℕ → List Bool → List ℕ → Stack → Type 0
-LevelsHold records objects before (base ms) = Unit {0}
-LevelsHold records objects before (level o key _ outer) =
-    (get_or records (depth outer) 0 ≡ written outer) × (get_or objects (depth outer) false ≡ is_object o) × (get_or before (depth outer) 0 ≡ items_in outer)
-    × LevelsHold records objects before outer
 
 -- the state between two items of the innermost level: at the start, right behind a bracket, or behind a value
 pub data Between : Bool → State → Stack → Type 0 where
@@ -84,10 +78,26 @@ abbrev pub in_object : Stack → Bool
 in_object (base ms) = false
 in_object (level o key _ outer) = is_object o
 
--- the record of the innermost level, and whether the byte c shuts it
+-- the record of the innermost level
 abbrev pub own_record : Stack → ℕ
 own_record (base ms) = 0
 own_record (level o key _ outer) = written outer
 
+-- the innermost level as the loop holds it
+pub record LevelIs (around : Stack) (lv : Level) : Type 0 where
+  pub depth_is : depth around ≡ lv.depth
+  pub record_is : own_record around ≡ lv.«record»
+  pub object-is : in_object around ≡ lv.object
+  pub items-are : items_in around ≡ lv.items
+
+abbrev pub no_level : Level
+no_level = record { «record» = 0; object = false; depth = 0; items = 0 }
+
+-- the level around each open value, by depth
+abbrev pub LevelsHold : List Level → Stack → Type 0
+LevelsHold levels (base ms) = Unit {0}
+LevelsHold levels (level o key _ outer) = LevelIs outer (get_or levels (depth outer) no_level) × LevelsHold levels outer
+
+-- whether the byte c shuts the innermost of d levels
 abbrev pub shuts : ℕ → Bool → ℕ → Bool
 shuts d is_obj c = cond (eqb d 0) false (eqb c (cond is_obj 0x7D 0x5D))

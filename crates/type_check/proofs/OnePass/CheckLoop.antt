@@ -2,7 +2,7 @@
 use mathlib.Core.Path.{◌≡◌, refl, sym, ap, ◌∙◌}
 use mathlib.Core.Bool.{Bool, true, false, cond, ◌&&◌, and_comm, true≢false}
 use mathlib.Core.List.{List, [], ◌∷◌}
-use mathlib.Core.Option.{Option, none, some}
+use Rattle.std.proofs.Common.{is_some, Option, None, Some}
 use Prim.Native.Nat.{ℕ, zero, suc, ◌+◌, ◌-◌, ◌≤◌, ◌<◌}
 use native.Mathlib.Omega.{arith}
 use lib.Dec.{eqb}
@@ -10,13 +10,13 @@ use borrow.Author.Tests.{eqb-true, eqb-false, eq-eqb, ne_eqb}
 use Rattle.value_table.specs.Value.{record_kind, array_kind, max_depth}
 use Rattle.byte_records.specs.Inside.Chain.{Chain, done, next}
 use Rattle.byte_records.proofs.Tests.{and_parts}
-use Rattle.counting_theory.specs.Label.{Equivalence}
+use Rattle.counting_theory.specs.declared.equivalence.Equivalence.{Equivalence}
 use Rattle.counting_theory.specs.Payload.{no_lengths}
 use Rattle.counting_theory.specs.Encoding.{type_kind, type_key, type_span, type_payload}
 use Rattle.counting_theory.specs.Inside.TypeBytes.{type_count}
 use Rattle.counting_theory.specs.WellFormed.{type_record}
 use Rattle.type_arena.specs.Inside.Arena.{Labelled}
-use Rattle.type_check.specs.Inside.Checker.{addends, fields, count_fits, fits, ordered, check_run, is_some, has_total, proper_within, inside, addend_right, RunOf}
+use Rattle.type_check.specs.Inside.Checker.{addends, fields, count_fits, fits, ordered, check_run, has_total, proper_within, inside, addend_right, RunOf}
 use Rattle.counting_theory.proofs.Payload.{proper-other}
 use Rattle.counting_theory.proofs.WellFormed.Record.{type-record}
 use Rattle.type_check.proofs.OnePass.Fits.{fits-record}
@@ -31,32 +31,32 @@ regroup true true o s = and_comm o s
 module _ (e : Equivalence) (b : List ℕ) where
   pub union-step : (p end depth last total : ℕ) → p < end →
       check_run e b p end (addends depth last total)
-      ≡ cond (count_fits b p total && (addend_right e b p end depth && ordered e b last p)) (check_run e b (p + type_span b p) end (addends depth p (total + type_count b p))) none
+      ≡ cond (count_fits b p total && (addend_right e b p end depth && ordered e b last p)) (check_run e b (p + type_span b p) end (addends depth p (total + type_count b p))) None
   unfolding fits
   union-step p end depth last total l = check-step e b p end (addends depth last total) l ∙ rw regroup refl
 
   pub fields-step : (p end depth of_record last_key : ℕ) → p < end →
       check_run e b p end (fields depth of_record last_key)
       ≡ cond (fits e b p end (fields depth of_record last_key) && has_total (type_count b p) (check_run e b (p + 1) (p + type_span b p) (addends (depth + 1) (p + 1) 0)))
-      (check_run e b (p + type_span b p) end (fields depth of_record (type_key b p))) none
+      (check_run e b (p + type_span b p) end (fields depth of_record (type_key b p))) None
   fields-step p end depth of_record last_key l = check-step e b p end (fields depth of_record last_key) l
 
 -- what a payload asks of what stands inside: that it is right, and lengths for an array alone
 module _ (b : List ℕ) (p : ℕ) where
   within-some : (o : Option ℕ) → proper_within b p o ≡ true → is_some o ≡ true
-  within-some none h = h
-  within-some (some t) h = refl
+  within-some None h = h
+  within-some (Some t) h = refl
 
   module _ (other : ¬ (type_kind b p ≡ array_kind)) where
     other-within : no_lengths (type_payload b p) ≡ true → (o : Option ℕ) → proper_within b p o ≡ is_some o
-    other-within h none = refl
-    other-within h (some t) = proper-other (type_kind b p) (type_payload b p) t other ∙ h
+    other-within h None = refl
+    other-within h (Some t) = proper-other (type_kind b p) (type_payload b p) t other ∙ h
 
     wrong-within : no_lengths (type_payload b p) ≡ false → (o : Option ℕ) → proper_within b p o ≡ false
-    wrong-within h none = refl
-    wrong-within h (some t) = proper-other (type_kind b p) (type_payload b p) t other ∙ h
+    wrong-within h None = refl
+    wrong-within h (Some t) = proper-other (type_kind b p) (type_payload b p) t other ∙ h
 
-passed : (c : Bool) (x : Option ℕ) → is_some (cond c x none) ≡ true → (c ≡ true) × (is_some x ≡ true)
+passed : (c : Bool) (x : Option ℕ) → is_some (cond c x None) ≡ true → (c ≡ true) × (is_some x ≡ true)
 passed true x h = (refl, h)
 passed false x h = absurd (true≢false (sym h))
 
@@ -131,3 +131,11 @@ module _ (e : Equivalence) (b : List ℕ) (p end depth : ℕ) where
             ∙ ap (λ n. is_some (check_run e b (p + 1) (p + n) (addends (depth + 1) (p + 1) 0))) (sym one)
             ∙ sym (other-within b p other z (check_run e b (p + 1) (p + type_span b p) (addends (depth + 1) (p + 1) 0)))
             ∙ with-union (λ i. omega arith)
+
+      -- an addend with nothing inside
+      pub scalar-right : type_kind b p < record_kind → no_lengths (type_payload b p) ≡ addend_right e b p end depth
+      scalar-right k = go (no_lengths (type_payload b p)) refl
+        where
+          go : (t : Bool) → no_lengths (type_payload b p) ≡ t → t ≡ addend_right e b p end depth
+          go true z = with_nothing z k
+          go false z = wrong-lengths z

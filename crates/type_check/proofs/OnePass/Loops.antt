@@ -1,32 +1,27 @@
 -- The loops of the checker, over the addends of a union and over the fields of a record.
 use mathlib.Core.Path.{◌≡◌, refl, sym, ap, ◌∙◌}
-use mathlib.Core.Bool.{true, false}
+use mathlib.Core.Bool.{Bool, true, false, ◌&&◌}
 use mathlib.Core.List.{List}
 use mathlib.Core.Logic.{◌⊎◌, inl, inr}
-use mathlib.Core.Option.{none, some}
+use Rattle.std.proofs.Common.{is_some, None, Some}
 use Prim.Native.Nat.{ℕ, ◌+◌, ◌≤◌, ◌<◌}
 use native.Mathlib.Omega.{arith}
+use lib.Dec.{eqb}
 use borrow.Author.Tests.{eq-eqb}
 use Rattle.value_table.specs.Value.{record_kind}
 use Rattle.byte_records.proofs.Tests.{and_parts}
-use Rattle.counting_theory.specs.Label.{Equivalence}
+use Rattle.counting_theory.specs.declared.equivalence.Equivalence.{Equivalence}
 use Rattle.counting_theory.specs.Payload.{no_lengths}
 use Rattle.counting_theory.specs.Encoding.{type_kind, type_key, type_span, type_payload}
 use Rattle.counting_theory.specs.Inside.TypeBytes.{type_count}
 use Rattle.counting_theory.specs.WellFormed.{max_total, type_record}
 use Rattle.type_arena.specs.Inside.Arena.{RecordIn, Labelled}
-use Rattle.type_check.specs.Inside.Checker.{addends, fields, count_fits, fits, ordered, check_run, is_some, has_total, addend_right, RunOf}
+use Rattle.type_check.specs.Inside.Checker.{addends, fields, count_fits, fits, ordered, check_run, has_total, addend_right, RunOf}
 use Rattle.type_check.proofs.OnePass.Fits.{fits-record, count-told}
 use Rattle.type_check.proofs.OnePass.OneRecord.{check-end}
 use Rattle.type_check.proofs.OnePass.CheckLoop.{union-step, fields-step, addend-inside, record-span, wrong-record, wrong-lengths, with_nothing}
 
--- parts of a run stand where the run does
-pub run-from : {b : List ℕ} {i end p : ℕ} → RunOf b i end → p ≤ end → RunOf b p end
-run-from r h = record { upto = h; within = r.within; short = r.short }
-
-pub run-within : {b : List ℕ} {i end q stop : ℕ} → RunOf b i end → q ≤ stop → stop ≤ end → RunOf b q stop
-run-within r h l = record { upto = h; within = omega (arith, r.within); short = r.short }
-
+-- the records of a run stand where it does
 pub in_table : {b : List ℕ} {p end : ℕ} → RunOf b p end → p < end → RecordIn b p
 in_table r l = record { whole = omega (arith, r.within); short = r.short }
 
@@ -41,7 +36,7 @@ pub addends-start : (e : Equivalence) (b : List ℕ) (i end depth : ℕ) → i �
 addends-start e b i end depth h = record { upto = h; left = refl; limit = omega arith; before = inl refl }
 
 module _ {e : Equivalence} {b : List ℕ} {i end depth p last total : ℕ} (w : Addends e b i end depth p last total) where
-  pub addends-done : end ≤ p → some total ≡ check_run e b i end (addends depth i 0)
+  pub addends-done : end ≤ p → Some total ≡ check_run e b i end (addends depth i 0)
   addends-done l =
       let z : p ≡ end = omega (arith, w.upto) in
       sym (check-end e b end (addends depth last total)) ∙ rw z at w.left
@@ -55,21 +50,21 @@ module _ {e : Equivalence} {b : List ℕ} {i end depth p last total : ℕ} (w : 
 
   module _ (l : p < end) where
     -- each test that fails settles the union
-    pub wrong-count : count_fits b p total ≡ false → none ≡ check_run e b i end (addends depth i 0)
+    pub wrong-count : count_fits b p total ≡ false → None ≡ check_run e b i end (addends depth i 0)
     wrong-count h = sym (rw h at (union-step e b p end depth last total l)) ∙ w.left
 
     module _ (counts : count_fits b p total ≡ true) where
       pub count-bounds : (1 ≤ type_count b p) × (total + type_count b p ≤ max_total)
       count-bounds = count-told e b p total counts
 
-      pub wrong-addend : addend_right e b p end depth ≡ false → none ≡ check_run e b i end (addends depth i 0)
+      pub wrong-addend : addend_right e b p end depth ≡ false → None ≡ check_run e b i end (addends depth i 0)
       wrong-addend h = sym (rw (counts, h) at (union-step e b p end depth last total l)) ∙ w.left
 
       module _ (right : addend_right e b p end depth ≡ true) where
         pub addend-span : (1 ≤ type_span b p) × (p + type_span b p ≤ end)
         addend-span = let f = record-span e b p end depth (and_parts _ _ right).0 in (f.0, f.1)
 
-        pub wrong-order : ordered e b last p ≡ false → none ≡ check_run e b i end (addends depth i 0)
+        pub wrong-order : ordered e b last p ≡ false → None ≡ check_run e b i end (addends depth i 0)
         wrong-order h = sym (rw (counts, right, h) at (union-step e b p end depth last total l)) ∙ w.left
 
         pub addends-next : RunOf b p end → ordered e b last p ≡ true → Addends e b i end depth (p + type_span b p) p (total + type_count b p)
@@ -86,23 +81,34 @@ module _ (e : Equivalence) (b : List ℕ) (q end depth : ℕ) (one : end ≡ q +
   start : Addends e b q end depth q q 0
   start = addends-start e b q end depth r.upto
 
-  pub wrong-scalar-count : count_fits b q 0 ≡ false → none ≡ check_run e b q end (addends depth q 0)
+  wrong-scalar-count : count_fits b q 0 ≡ false → None ≡ check_run e b q end (addends depth q 0)
   wrong-scalar-count c = wrong-count start (omega arith) c
 
   module _ (c : count_fits b q 0 ≡ true) where
-    pub wrong-scalar : type_record b q end false depth ≡ false → none ≡ check_run e b q end (addends depth q 0)
+    wrong-scalar : type_record b q end false depth ≡ false → None ≡ check_run e b q end (addends depth q 0)
     wrong-scalar h = wrong-addend start (omega arith) c (sym (wrong-record e b q end depth h))
 
     module _ (h : type_record b q end false depth ≡ true) where
-      pub wrong-scalar-lengths : no_lengths (type_payload b q) ≡ false → none ≡ check_run e b q end (addends depth q 0)
+      wrong-scalar-lengths : no_lengths (type_payload b q) ≡ false → None ≡ check_run e b q end (addends depth q 0)
       wrong-scalar-lengths z = wrong-addend start (omega arith) c (sym (wrong-lengths e b q end depth h (λ i. omega arith) z))
 
-      pub scalar-total : no_lengths (type_payload b q) ≡ true → some (type_count b q) ≡ check_run e b q end (addends depth q 0)
+      scalar-total : no_lengths (type_payload b q) ≡ true → Some (type_count b q) ≡ check_run e b q end (addends depth q 0)
       scalar-total z =
           let o : ordered e b q q ≡ true = rw (eq-eqb q q refl) refl in
           let n = addends-next start (omega arith) c (sym (with_nothing e b q end depth h (λ i. omega arith) z scalar)) r o in
           let m : 0 + type_count b q ≡ type_count b q = omega arith in
           rw m at (addends-done n (omega (arith, (record-span e b q end depth h).0)))
+
+  -- its tests
+  pub scalar-right : (count : ℕ) → has_total count (check_run e b q end (addends depth q 0)) ≡ (count_fits b q 0 && type_record b q end false depth && no_lengths (type_payload b q) && eqb (type_count b q) count)
+  scalar-right count = go (count_fits b q 0) (type_record b q end false depth) (no_lengths (type_payload b q)) refl refl refl
+    where
+      go : (x y z : Bool) → count_fits b q 0 ≡ x → type_record b q end false depth ≡ y → no_lengths (type_payload b q) ≡ z →
+          has_total count (check_run e b q end (addends depth q 0)) ≡ (x && y && z && eqb (type_count b q) count)
+      go false y z h i j = ap (has_total count) (sym (wrong-scalar-count h))
+      go true false z h i j = ap (has_total count) (sym (wrong-scalar h i))
+      go true true false h i j = ap (has_total count) (sym (wrong-scalar-lengths h i j))
+      go true true true h i j = ap (has_total count) (sym (scalar-total h i j))
 
 -- The fields of a record at the field at p, behind the key `last`.
 pub record Fields (e : Equivalence) (b : List ℕ) (i end depth of_record p last : ℕ) : Type 0 where

@@ -10,7 +10,8 @@ use Rattle.value_table.specs.Value.{record_kind}
 use Rattle.byte_records.proofs.Tests.{and_parts}
 use Rattle.counting_theory.specs.Payload.{Payload}
 use Rattle.counting_theory.specs.Trie.{node, total}
-use Rattle.counting_theory.specs.Label.{Equivalence, Label, field_label, compare_label, CountingType}
+use Rattle.counting_theory.specs.Label.{Label, field_label, compare_label, CountingType}
+use Rattle.counting_theory.specs.declared.equivalence.Equivalence.{Equivalence}
 use Rattle.counting_theory.specs.Encoding.{type_key, type_span}
 use Rattle.counting_theory.specs.WellFormed.{field_count, fields_of}
 use Rattle.type_arena.specs.Inside.Arena.{label_at}

@@ -2,17 +2,17 @@
 use mathlib.Core.Path.{◌≡◌, refl, sym, ◌∙◌}
 use mathlib.Core.Bool.{Bool, true, false, cond, ◌&&◌}
 use mathlib.Core.List.{List}
-use mathlib.Core.Option.{Option, none, some}
+use Rattle.std.proofs.Common.{Option, None, Some}
 use Prim.Native.Nat.{ℕ, zero, suc, ◌+◌, ◌-◌, ◌≤◌, ◌<◌}
 use native.Mathlib.Omega.{arith}
 use lib.Dec.{eqb}
 use borrow.Author.Tests.{eqb-true, eqb-false, eq-eqb, ne_eqb}
-use Rattle.counting_theory.specs.Label.{Equivalence}
+use Rattle.counting_theory.specs.declared.equivalence.Equivalence.{Equivalence}
 use Rattle.counting_theory.specs.Encoding.{type_span}
 use Rattle.type_check.specs.Inside.Checker.{Run, total_of, fits, after, content, agrees, check, check_run}
 use Rattle.type_check.proofs.OnePass.Fits.{fits-record}
 
-step-cong : (t : Bool) (g : Option ℕ → Bool) (x x' y y' : Option ℕ) → (t ≡ true → (x ≡ x') × (y ≡ y')) → cond (t && g x) y none ≡ cond (t && g x') y' none
+step-cong : (t : Bool) (g : Option ℕ → Bool) (x x' y y' : Option ℕ) → (t ≡ true → (x ≡ x') × (y ≡ y')) → cond (t && g x) y None ≡ cond (t && g x') y' None
 step-cong true g x x' y y' h = rw ((h refl).0, (h refl).1)
 step-cong false g x x' y y' h = refl
 
@@ -22,10 +22,10 @@ module _ (e : Equivalence) (b : List ℕ) where
   step_with k j p end r =
       cond (fits e b p end r && agrees b p r (check e b k (p + 1) (p + type_span b p) (content b p r)))
       (check e b j (p + type_span b p) end (after b p r))
-      none
+      None
 
   module _ (p end : ℕ) (r : Run) where
-    check-stop : (k : ℕ) → p ≡ end → check e b k p end r ≡ some (total_of r)
+    check-stop : (k : ℕ) → p ≡ end → check e b k p end r ≡ Some (total_of r)
     unfolding check
     check-stop zero z = rw (eq-eqb p end z) refl
     check-stop (suc k) z = rw (eq-eqb p end z, check) refl
@@ -60,12 +60,12 @@ module _ (e : Equivalence) (b : List ℕ) where
           let less : p < end = omega (arith, eqb-false p end z) in
           check-on p end r k less ∙ i ∙ sym (check-on p end r j less)
 
-  pub check-end : (end : ℕ) (r : Run) → check_run e b end end r ≡ some (total_of r)
+  pub check-end : (end : ℕ) (r : Run) → check_run e b end end r ≡ Some (total_of r)
   check-end end r = check-stop end end r (end - end) refl
 
   pub check-step : (p end : ℕ) (r : Run) → p < end →
       check_run e b p end r
-      ≡ cond (fits e b p end r && agrees b p r (check_run e b (p + 1) (p + type_span b p) (content b p r))) (check_run e b (p + type_span b p) end (after b p r)) none
+      ≡ cond (fits e b p end r && agrees b p r (check_run e b (p + 1) (p + type_span b p) (content b p r))) (check_run e b (p + type_span b p) end (after b p r)) None
   unfolding step_with
   check-step p end r h =
       let k : ℕ = end - p - 1 in

@@ -9,7 +9,8 @@ use borrow.Author.Tests.{le-leb}
 use Rattle.value_table.specs.Value.{record_kind}
 use Rattle.counting_theory.specs.Payload.{Payload, proper}
 use Rattle.counting_theory.specs.Trie.{node, Before, Sorted, total, largest_below}
-use Rattle.counting_theory.specs.Label.{Equivalence, Label, field_kind, Counting, CountingType}
+use Rattle.counting_theory.specs.Label.{Label, field_kind, Counting, CountingType}
+use Rattle.counting_theory.specs.declared.equivalence.Equivalence.{Equivalence}
 use Rattle.counting_theory.specs.Place.{FieldTotals}
 use Rattle.counting_theory.specs.WellFormed.{max_total, counted, fields_of, field_counts, measured}
 use Rattle.counting_theory.proofs.WellFormed.Tests.{three, implies}

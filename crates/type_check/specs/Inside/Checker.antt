@@ -1,11 +1,10 @@
 -- Well-formedness in one pass over the records, as the code checks it: each addend against the one before it, each field against
 -- its record, and the total of each union on the way.
-use Rattle.std.specs.Prelude.{Bool, true, false, cond, ◌&&◌, ◌||◌, List, ℕ, zero, suc, ◌+◌, ◌*◌, ◌-◌, ◌≤◌, eqb, leb, ltb, length}
-use Rattle.std.proofs.Math.Option.{Option, none, some}
+use Rattle.std.specs.Prelude.{Option, Some, None, Bool, true, false, cond, ◌&&◌, ◌||◌, List, ℕ, zero, suc, ◌+◌, ◌*◌, ◌-◌, ◌≤◌, eqb, leb, ltb, length}
+use Rattle.std.specs.Option.{option_eq}
 use Rattle.value_table.specs.Value.{record_kind, max_length}
-use Rattle.type_check.specs.declared.Checked.{Checked}
-use Rattle.type_check.specs.declared.Checked.TheVariants.{Total, Faulty}
-use Rattle.counting_theory.specs.Label.{Equivalence, compare_label}
+use Rattle.counting_theory.specs.Label.{compare_label}
+use Rattle.counting_theory.specs.declared.equivalence.Equivalence.{Equivalence}
 use Rattle.counting_theory.specs.Payload.{no_lengths, proper}
 use Rattle.counting_theory.specs.Encoding.{type_size, type_kind, type_key, type_span, type_payload}
 use Rattle.counting_theory.specs.Inside.TypeBytes.{type_count}
@@ -48,12 +47,11 @@ after b p (fields depth of_record last_key) = fields depth of_record (type_key b
 
 -- what stands inside has this total; or a total that the payload of the record at p fits
 abbrev pub has_total : ℕ → Option ℕ → Bool
-has_total count none = false
-has_total count (some t) = eqb t count
+has_total count o = option_eq eqb o (Some count)
 
 abbrev pub proper_within : List ℕ → ℕ → Option ℕ → Bool
-proper_within b p none = false
-proper_within b p (some t) = proper (type_kind b p) (type_payload b p) t
+proper_within b p None = false
+proper_within b p (Some t) = proper (type_kind b p) (type_payload b p) t
 
 -- what is expected inside the record at p, and what its total must be
 abbrev pub content : List ℕ → ℕ → Run → Run
@@ -66,26 +64,17 @@ agrees b p (fields depth of_record last_key) o = has_total (type_count b p) o
 
 -- the total of the run of records p to end, or none where something is wrong; k bounds the number of records
 unfoldable pub check : Equivalence → List ℕ → ℕ → ℕ → ℕ → Run → Option ℕ
-check e b zero p end r = cond (eqb p end) (some (total_of r)) none
+check e b zero p end r = cond (eqb p end) (Some (total_of r)) None
 check e b (suc k) p end r =
     elim (eqb p end) [
-      | true ↦ some (total_of r)
+      | true ↦ Some (total_of r)
       | false ↦ cond (fits e b p end r && agrees b p r (check e b k (p + 1) (p + type_span b p) (content b p r)))
           (check e b k (p + type_span b p) end (after b p r))
-          none
+          None
     ]
 
 abbrev pub check_run : Equivalence → List ℕ → ℕ → ℕ → Run → Option ℕ
 check_run e b p end r = check e b (end - p) p end r
-
--- the code's verdict on a union
-abbrev pub checked_of : Checked → Option ℕ
-checked_of (Total t) = some t
-checked_of Faulty = none
-
-abbrev pub is_some : {A : Type 0} → Option A → Bool
-is_some none = false
-is_some (some x) = true
 
 -- records i to end stand in b, which is no longer than a type may be
 pub record RunOf (b : List ℕ) (i end : ℕ) : Type 0 where

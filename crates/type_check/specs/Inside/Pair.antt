@@ -1,14 +1,12 @@
 -- What a call on two types answers before its work, and what the code's judgement of them says.
-use Rattle.std.specs.Prelude.{◌≡◌, cond, not, ◌||◌, List, ℕ, length}
+use Rattle.std.specs.Prelude.{Result, Ok, Err, ◌≡◌, cond, not, ◌||◌, List, ℕ, length}
 use Rattle.std.proofs.Math.Option.{Option, none, some}
-use Rattle.counting_theory.specs.Label.{Equivalence}
+use Rattle.counting_theory.specs.declared.equivalence.Equivalence.{Equivalence}
 use Rattle.counting_theory.specs.Encoding.{type_of}
 use Rattle.counting_theory.specs.WellFormed.{well_formed, bad_type_length, IsType}
 use Rattle.counting_theory.specs.Answers.{equivalence_of, Written, turned_down}
-use Rattle.type_arena.specs.Inside.Arena.{by_flag}
-use Rattle.answers.specs.Outcomes.{number_of_refusal}
-use Rattle.type_check.specs.declared.pair.Pair.{Pair}
-use Rattle.type_check.specs.declared.pair.Pair.TheVariants.{Formed, Refused}
+use Rattle.answers.specs.Outcomes.{refusal_of}
+use Rattle.answers.specs.declared.Refusal.{Refusal}
 
 -- what a call on two types answers, whose work under an equivalence gives `work`: 1, 2, 8, 9 come first
 abbrev pub pair_under : (Equivalence → Written) → Option Equivalence → List ℕ → List ℕ → Written
@@ -24,10 +22,10 @@ on_pair work first second equivalence arena =
     (pair_under work (equivalence_of equivalence) first second)
 
 -- what the code's answer says
-abbrev pub PairJudged : List ℕ → List ℕ → ℕ → ℕ → Pair → Type 0
-PairJudged first second equivalence arena (Formed label) =
-    IsType (by_flag label) first (type_of (by_flag label) first)
-    × IsType (by_flag label) second (type_of (by_flag label) second)
-    × ((work : Equivalence → Written) → on_pair work first second equivalence arena ≡ work (by_flag label))
-PairJudged first second equivalence arena (Refused why) =
-    (work : Equivalence → Written) → on_pair work first second equivalence arena ≡ turned_down (number_of_refusal why) 0
+abbrev pub PairJudged : List ℕ → List ℕ → ℕ → ℕ → Result Equivalence Refusal → Type 0
+PairJudged first second equivalence arena (Ok e) =
+    IsType e first (type_of e first)
+    × IsType e second (type_of e second)
+    × ((work : Equivalence → Written) → on_pair work first second equivalence arena ≡ work e)
+PairJudged first second equivalence arena (Err why) =
+    (work : Equivalence → Written) → on_pair work first second equivalence arena ≡ turned_down (refusal_of why).number (refusal_of why).place

@@ -1,5 +1,4 @@
 -- `count_values` meets its contract.
-use mathlib.Core.Path.{refl}
 use mathlib.Core.List.{List}
 use Prim.Native.Nat.{ℕ, ◌+◌, ◌*◌, ◌/◌, ◌≤◌, ◌<◌}
 use native.Mathlib.Omega.{arith}
@@ -7,12 +6,9 @@ use lib.ListN.{length}
 use Rattle.value_table.specs.Value.{record_size, max_length}
 use Rattle.inference.specs.Inside.Inferring.{step_at}
 use Rattle.inference.proofs.InPlace.Runs.{whole-records}
-use Rattle.inference.proofs.InPlace.Elements.{none_passed, passed-step, passed-next, all-passed}
+use Rattle.inference.proofs.InPlace.Elements.{passed-step, passed-next, all-passed}
 use Rattle.inference.proofs.elements.count_values.Goals as goal
 use Rattle.inference.proofs.elements.count_values.Goals.{In-loop-i}
-
-pub loop-i-init : goal.loop-i-init
-loop-i-init c = (refl, omega arith, λ vs r. none_passed r)
 
 -- the value at i
 module _ (c : goal.In-loop-i) where
@@ -27,12 +23,6 @@ module _ (c : goal.In-loop-i) where
 
   step : (1 ≤ step_at t c.loop-i.i) × (record_size * (c.loop-i.i + step_at t c.loop-i.i) ≤ length t)
   step = let s = c.requires in passed-step short (c.loop-i.invariant.2 s.values s.run) within
-
-pub overflow_add-n : goal.overflow_add-n
-overflow_add-n c = omega (arith, c.loop-i.invariant.1, within c, short c)
-
-pub step_at-i-requires : goal.step_at-i-requires
-step_at-i-requires c = omega (arith, within c)
 
 pub overflow_add-i : goal.overflow_add-i
 overflow_add-i c = omega (arith, step (goal.at.overflow_add-i c).In-loop-i, short (goal.at.overflow_add-i c).In-loop-i, c.step_at-i.ensures)

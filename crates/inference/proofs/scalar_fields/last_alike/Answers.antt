@@ -1,16 +1,17 @@
 -- `last_alike` meets its contract.
 use mathlib.Core.List.{List}
-use mathlib.Core.Bool.{Bool, true}
+use mathlib.Core.Bool.{true}
 use Prim.Native.Nat.{ℕ, ◌+◌, ◌≤◌, ◌<◌}
 use native.Mathlib.Omega.{arith}
 use Rattle.counting_theory.specs.Label.{CountingType}
 use Rattle.counting_theory.specs.Encoding.{type_key, type_span}
-use Rattle.type_arena.specs.Inside.Arena.{by_flag, RecordIn}
+use Rattle.type_arena.specs.Inside.Arena.{RecordIn}
 use Rattle.inference.specs.Inside.Inferring.{ArenaHolds, Starts}
 use Rattle.inference.specs.Inside.ScalarFields.{BelowAt}
 use Rattle.inference.proofs.InPlace.Scalars.{table_at, reach-at, starts-behind, next-below}
 use Rattle.inference.proofs.scalar_fields.last_alike.Goals as goal
 use Rattle.inference.proofs.scalar_fields.last_alike.Goals.{In-loop-next, Start}
+use Rattle.counting_theory.specs.declared.equivalence.Equivalence.{Equivalence}
 
 -- the field behind the one at the loop's head
 module _ (c : goal.In-loop-next) where
@@ -21,7 +22,7 @@ module _ (c : goal.In-loop-next) where
   behind =
       let g = start.requires.0 in
       let v = c.loop-next.invariant in
-      starts-behind g.label g.holds start.args.key (v.3 g.label g.rest g.f g.q g.free g.holds g.starts) v.2
+      starts-behind g.equivalence g.holds start.args.key (v.3 g.equivalence g.rest g.f g.q g.free g.holds g.starts) v.2
 
   table : RecordIn start.args.b.now c.loop-next.next
   table = table_at start.requires.0.holds behind c.loop-next-test.true
@@ -29,10 +30,10 @@ module _ (c : goal.In-loop-next) where
   reach : (1 ≤ type_span start.args.b.now c.loop-next.next) × (c.loop-next.next + type_span start.args.b.now c.loop-next.next ≤ start.args.n)
   reach = reach-at start.requires.0.holds behind c.loop-next-test.true
 
-  module _ (below : type_key start.args.b.now c.loop-next.next < start.args.key) (label : Bool) (rest : ℕ) (f : CountingType) (q free : List ℕ)
-      (h : ArenaHolds (by_flag label) true start.args.b.now start.args.n rest f q free) (s : Starts start.args.from f) where
+  module _ (below : type_key start.args.b.now c.loop-next.next < start.args.key) (e : Equivalence) (rest : ℕ) (f : CountingType) (q free : List ℕ)
+      (h : ArenaHolds e true start.args.b.now start.args.n rest f q free) (s : Starts start.args.from f) where
     passed : BelowAt start.args.b.now start.args.n start.args.key f c.loop-next.next
-    passed = let v = c.loop-next.invariant in next-below label h start.args.key (v.3 label rest f q free h s) v.2 c.loop-next-test.true below
+    passed = let v = c.loop-next.invariant in next-below e h start.args.key (v.3 e rest f q free h s) v.2 c.loop-next-test.true below
 
 pub span_at-like-requires : goal.span_at-like-requires
 span_at-like-requires c = let x = c.requires in (table_at x.0.holds x.0.starts x.1).whole
@@ -40,16 +41,8 @@ span_at-like-requires c = let x = c.requires in (table_at x.0.holds x.0.starts x
 pub overflow_add-next : goal.overflow_add-next
 overflow_add-next c = let x = c.requires in omega (arith, reach-at x.0.holds x.0.starts x.1, c.span_at-like.ensures.0)
 
-pub loop-next-init : goal.loop-next-init
-loop-next-init c =
-    let x = c.requires in
-    (omega arith, c.span_at-like.ensures.0, omega (arith, c.span_at-like.ensures.0), λ label rest f q free h s. record { starts = s; within = x.1; below = x.2 })
-
 pub key_at-requires : goal.key_at-requires
 key_at-requires c = (table c).whole
-
-pub returns-then-key-key_at : goal.returns-then-key-key_at
-returns-then-key-key_at c = let v = c.loop-next.invariant in (v.0, v.3)
 
 pub span_at-requires : goal.span_at-requires
 span_at-requires c = (table (goal.at.span_at-requires c).In-loop-next).whole
@@ -73,6 +66,3 @@ loop-next-preserved c =
       omega (arith, c.span_at.ensures.0, c.if-span_at-like.false),
       passed (goal.at.loop-next-preserved c).In-loop-next (omega (arith, c.key_at.ensures, c.if-key-key_at.false)),
     )
-
-pub returns : goal.returns
-returns c = let v = c.loop-next.invariant in (v.0, v.3)

@@ -1,15 +1,7 @@
 -- `colon_end` meets its contract.
 use mathlib.Core.Path.{sym, ◌∙◌}
-use native.Mathlib.Omega.{arith}
-use Rattle.json_theory.proofs.Scanning.{byte_inside}
 use Rattle.json_items.proofs.Items.{colon-leads, colon-breaks}
-use borrow.Author.Rules.{rules}
 use Rattle.json_items.proofs.item.colon_end.Goals as goal
-
-pub space_end-requires : goal.space_end-requires
-space_end-requires c =
-    let text = c.args.text.now in
-    let i = byte_inside text c.space_end-at.result (omega (arith, c.byte_at.ensures)) in search rules
 
 pub returns-then-byte_at-eq58 : goal.returns-then-byte_at-eq58
 returns-then-byte_at-eq58 c =

@@ -1,10 +1,18 @@
 -- `string_end` meets its contract.
-use mathlib.Core.Path.{sym, ◌∙◌}
-use Rattle.json_tokens.proofs.Strings.{chars-plain, quoted-on}
+use Rattle.std.proofs.lemmas.Result.{err_from_is_err_and}
+use Rattle.json_theory.proofs.Scanning.{stops-on}
+use Rattle.json_tokens.proofs.Strings.{chars-plain, chars-on, string-upto}
 use Rattle.json_tokens.proofs.quoted.string_end.Goals as goal
 
-pub returns-then-byte_at-eq34 : goal.returns-then-byte_at-eq34
-returns-then-byte_at-eq34 c = record { chars = chars-plain c.plain_end-at.ensures.running; shut = sym c.byte_at.ensures ∙ c.if-byte_at-eq34.true }
+pub loop-from-init : goal.loop-from-init
+loop-from-init c = (chars-plain c.plain_end-quote.ensures.running, c.plain_end-quote.ensures.running.upto)
 
-pub returns-else-byte_at-eq34 : goal.returns-else-byte_at-eq34
-returns-else-byte_at-eq34 c = quoted-on (chars-plain c.plain_end-at.ensures.running) c.rest_end.result c.rest_end.ensures
+pub returns-in_err-quote : goal.returns-in_err-quote
+returns-in_err-quote c =
+    let p = err_from_is_err_and c.from_residual.result c.from_residual.ensures.1 in
+    rw (p.1, p.2) (stops-on c.loop-from.invariant.0.goes c.in_err-quote.ensures)
+
+pub loop-from-preserved : goal.loop-from-preserved
+loop-from-preserved c =
+    let h = c.in_ok-quote.ensures in
+    (chars-on _ _ _ _ _ c.byte_at-c.ensures c.loop-from.invariant.0 h, string-upto h.goes c.loop-from.invariant.1)

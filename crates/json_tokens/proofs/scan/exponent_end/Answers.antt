@@ -1,34 +1,19 @@
 -- `exponent_end` meets its contract.
-use mathlib.Core.Path.{◌≡◌, refl, sym, ap, ◌∙◌}
-use mathlib.Core.Bool.{true}
-use Prim.Native.Nat.{◌<◌}
-use native.Mathlib.Omega.{arith}
-use lib.ListN.{length}
-use borrow.Author.Rules.{rules}
-use Rattle.json_theory.specs.Parts.{is_e, e}
-use Rattle.json_theory.specs.Inside.Scanning.{byte_at}
-use Rattle.json_tokens.proofs.Tokens.{test-inside}
+use Rattle.std.proofs.Common.{arith, rules, ◌∙◌}
+use Rattle.json_theory.specs.Parts.{e}
+use Rattle.json_theory.proofs.Scanning.{byte_inside}
 use Rattle.json_tokens.proofs.Strings.{stuck-if}
-use Rattle.json_tokens.proofs.Numbers.{number-upto, part-here, exponent}
+use Rattle.json_tokens.proofs.Numbers.{either-byte, neither-byte, number-upto, part-here, exponent}
 use Rattle.json_tokens.proofs.scan.exponent_end.Goals as goal
-use Rattle.json_tokens.proofs.scan.exponent_end.Goals.{Else-not-is_e}
-
-an-e : (c : goal.Else-not-is_e) → is_e (byte_at c.args.text.now c.args.from) ≡ true
-an-e c = ap is_e (sym c.byte_at.ensures) ∙ sym c.is_e.ensures ∙ c.if-not-is_e.false
-
-inside : (c : goal.Else-not-is_e) → c.args.from < length c.args.text.now
-inside c = let entry = c.before.before.before.before.before in test-inside is_e entry.args.text.now entry.args.from refl (an-e c)
-
-pub returns-then-not-is_e : goal.returns-then-not-is_e
-returns-then-not-is_e c =
-    λ a m h. part-here m
-    (h ∙ stuck-if _ e (ap is_e (sym c.byte_at.ensures) ∙ sym c.is_e.ensures ∙ c.if-not-is_e.true))
-
-pub overflow_add-from : goal.overflow_add-from
-overflow_add-from c = let i = inside c in search rules
 
 pub some_digits-requires : goal.some_digits-requires
-some_digits-requires c = number-upto c.sign_end.ensures.goes (omega (arith, inside (goal.at.some_digits-requires c).Else-not-is_e))
+some_digits-requires c =
+    number-upto c.sign_end.ensures.goes (omega (arith, byte_inside c.args.text.now c.args.from (omega (arith, c.byte_at.ensures, c.in-101.is))))
 
-pub returns : goal.returns
-returns c = λ a m h. exponent _ a _ _ h (an-e (goal.at.returns c).Else-not-is_e) c.sign_end.ensures c.some_digits.result c.some_digits.ensures
+pub returns-in-101 : goal.returns-in-101
+returns-in-101 c =
+    λ a m h. exponent _ a _ _ h (either-byte 0x45 0x65 _ _ c.byte_at.ensures c.in-101.is) c.sign_end.ensures c.some_digits.result c.some_digits.ensures
+
+pub returns-in_default : goal.returns-in_default
+returns-in_default c =
+    λ a m h. part-here m (h ∙ stuck-if _ e (neither-byte 0x45 0x65 _ _ c.byte_at.ensures (search rules)))

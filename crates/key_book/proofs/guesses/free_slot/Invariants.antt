@@ -1,10 +1,7 @@
 -- `free_slot` meets its contract.
-use Prim.Native.Nat.{◌-◌, ◌<◌}
+use Prim.Native.Nat.{◌<◌}
 use Rattle.key_book.specs.Inside.Records.{places}
 use Rattle.key_book.proofs.guesses.free_slot.Given as goal
 
-abbrev pub invariant-loop-tries : goal.invariant-loop-tries
-invariant-loop-tries l = l.at < places
-
-abbrev pub decreases-loop-tries : goal.decreases-loop-tries
-decreases-loop-tries l = 8 - l.tries
+abbrev pub invariant-loop : goal.invariant-loop
+invariant-loop l = l.at < places

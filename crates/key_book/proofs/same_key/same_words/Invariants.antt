@@ -1,10 +1,7 @@
 -- `same_words` meets its contract.
-use Prim.Native.Nat.{◌+◌, ◌-◌, ◌≤◌}
+use Prim.Native.Nat.{◌*◌}
 use Rattle.key_book.proofs.Matching.{Comparing}
 use Rattle.key_book.proofs.same_key.same_words.Given as goal
 
-abbrev pub invariant-loop-k : goal.invariant-loop-k
-invariant-loop-k l = (l.from + l.k ≤ l.to) × Comparing l.book l.i l.text l.from l.to l.k
-
-abbrev pub decreases-loop-k : goal.decreases-loop-k
-decreases-loop-k l = l.to - (l.from + l.k)
+abbrev pub invariant-loop-word : goal.invariant-loop-word
+invariant-loop-word l = Comparing l.book l.i l.text l.from l.to (8 * l.word)

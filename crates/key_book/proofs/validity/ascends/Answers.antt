@@ -1,25 +1,7 @@
 -- `ascends` meets its contract.
-use native.Mathlib.Omega.{arith}
-use borrow.Author.Rules.{rules}
-use Rattle.key_book.proofs.GoodBook.{alike-start, alike-on, alike-less, alike-more, alike_end}
+use mathlib.Core.Path.{◌∙◌}
+use Rattle.key_book.proofs.GoodBook.{before_from_cmp}
 use Rattle.key_book.proofs.validity.ascends.Goals as goal
 
-pub loop-k-init : goal.loop-k-init
-loop-k-init c = (search rules, alike-start c.requires)
-
-pub returns-then-a-b : goal.returns-then-a-b
-returns-then-a-b c =
-    alike-less c.loop-k.invariant.1 (search rules) (omega (arith, c.key_byte-a.ensures, c.key_byte-b.ensures))
-
-pub returns-then-b-a : goal.returns-then-b-a
-returns-then-b-a c =
-    alike-more c.loop-k.invariant.1 (search rules) (omega (arith, c.key_byte-a.ensures, c.key_byte-b.ensures))
-
-pub loop-k-preserved : goal.loop-k-preserved
-loop-k-preserved c = (
-  search rules,
-  alike-on c.loop-k.invariant.1 (search rules) (omega (arith, c.key_byte-a.ensures, c.key_byte-b.ensures)),
-)
-
 pub returns : goal.returns
-returns c = alike_end c.loop-k.invariant.1 (search rules)
+returns c = rw (← c.record.ensures.0, ← c.record-2.ensures.0) (c.is_lt.ensures ∙ before_from_cmp _ _ c.cmp.result c.cmp.ensures)

@@ -1,16 +1,16 @@
 -- `good_at` meets its contract.
-use mathlib.Core.Path.{sym, ◌∙◌}
+use mathlib.Core.Path.{sym, ◌∙◌, ap}
 use native.Mathlib.Omega.{arith}
+use Rattle.json_theory.specs.Book.{good_record}
 use Rattle.key_book.proofs.GoodBook.{bad-record, good-last}
 use Rattle.key_book.proofs.validity.good_at.Goals as goal
 
-pub returns-then-not-good_key : goal.returns-then-not-good_key
-returns-then-not-good_key c = bad-record _ _ (omega arith) (sym c.good_key.ensures ∙ c.if-not-good_key.true)
+pub returns-else-good_key : goal.returns-else-good_key
+returns-else-good_key c =
+    rw c.if-good_key.false
+    (bad-record _ _ (omega arith) (sym (ap good_record c.record.ensures.0) ∙ sym c.good_key.ensures ∙ c.if-good_key.false))
 
-pub returns-then-keys-i : goal.returns-then-keys-i
-returns-then-keys-i c = record { good = sym c.good_key.ensures ∙ c.if-not-good_key.false; up = λ l. absurd (omega arith) }
-
-pub returns : goal.returns
-returns c =
-    good-last _ _ c.ascends.result (sym c.good_key.ensures ∙ c.if-not-good_key.false) (omega arith)
+pub returns-else-keys-i : goal.returns-else-keys-i
+returns-else-keys-i c =
+    good-last _ _ c.ascends.result (sym (ap good_record c.record.ensures.0) ∙ sym c.good_key.ensures ∙ c.if-good_key.true) (omega arith)
     c.ascends.ensures

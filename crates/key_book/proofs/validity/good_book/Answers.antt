@@ -1,19 +1,21 @@
 -- `good_book` meets its contract.
-use mathlib.Core.Path.{subst}
+use mathlib.Core.Path.{◌≡◌}
+use mathlib.Core.Bool.{true}
+use Prim.Native.Nat.{◌/◌}
+use lib.ListN.{length}
 use native.Mathlib.Omega.{arith}
-use Rattle.key_book.specs.Inside.Records.{GoodAt}
-use Rattle.key_book.proofs.GoodBook.{fine_more, book-fine}
+use borrow.Author.Rules.{rules}
+use borrow.Author.Tests.{tests}
+use Rattle.json_theory.specs.Book.{bad_book}
+use Rattle.key_book.specs.Inside.Records.{Fine}
+use Rattle.std.proofs.lemmas.Iterator.{YieldsList-from_range, cases_from_all}
+use Rattle.key_book.proofs.GoodBook.{book-judged}
 use Rattle.key_book.proofs.validity.good_book.Goals as goal
 
-pub loop-i-init : goal.loop-i-init
-loop-i-init c = λ j l. absurd (omega arith)
-
-pub returns-then-not-good_at : goal.returns-then-not-good_at
-returns-then-not-good_at c = subst (GoodAt _ _) c.if-not-good_at.true c.good_at.ensures
-
-pub loop-i-preserved : goal.loop-i-preserved
-loop-i-preserved c =
-    fine_more _ _ c.loop-i.invariant (subst (GoodAt _ _) c.if-not-good_at.false c.good_at.ensures)
-
 pub returns : goal.returns
-returns c = book-fine c.args.book.now (λ j l. c.loop-i.invariant j (omega arith))
+returns c =
+    let b = c.args.book.now in
+    let keys = length b / 32 in
+    book-judged b c.all.result
+    (cases_from_all _ _ c.all.result (Fine b) (λ i. bad_book b ≡ true) c.all.ensures.ran (YieldsList-from_range 0 keys keys (cc) (omega arith))
+    (λ i q k. search (rules, tests)) (λ i q k. search (rules, tests)))

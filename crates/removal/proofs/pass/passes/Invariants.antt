@@ -1,7 +1,7 @@
 -- `passes` meets its contract. The loop's invariant: no count so far is above the limit.
 use mathlib.Core.Bool.{Bool}
 use lib.ListN.{length}
-use Rattle.counting_theory.specs.Label.{Equivalence}
+use Rattle.counting_theory.specs.declared.equivalence.Equivalence.{Equivalence}
 use Rattle.removal_arena.specs.Inside.Addend.{Coded}
 use Rattle.removal.proofs.CountLimit.{Seeking}
 use Rattle.removal.proofs.pass.passes.Given as goal

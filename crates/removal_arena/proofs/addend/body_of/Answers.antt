@@ -1,9 +1,8 @@
 -- `body_of` meets its contract.
-use mathlib.Core.Path.{ap}
-use Prim.Native.Nat.{◌*◌}
+use Rattle.std.proofs.Common.{◌*◌, ap}
 use Rattle.removal_theory.specs.Encoding.{type_size}
 use Rattle.removal_arena.proofs.FirstAddend.{body_is}
 use Rattle.removal_arena.proofs.addend.body_of.Goals as goal
 
 pub returns : goal.returns
-returns c = body_is c.args.x.now _ (ap (λ n. type_size * n) c.span_at-n.ensures.0)
+returns c = body_is c.args.x.now _ (ap (λ n. type_size * n) c.span_at.ensures.0)

@@ -1,5 +1,5 @@
 -- `bad_length` meets its contract.
-use borrow.Author.Tests.{eq-eqb, ne_eqb}
+use Rattle.std.proofs.Common.{eq-eqb, ne_eqb}
 use Rattle.removal_theory.specs.WellFormed.{bad_type_length}
 use Rattle.removal_arena.proofs.type_record.bad_length.Goals as goal
 
@@ -7,6 +7,6 @@ pub returns-then-n-ne0 : goal.returns-then-n-ne0
 unfolding bad_type_length
 returns-then-n-ne0 c = simp (ne_eqb _ _ c.if-n-ne0.true)
 
-pub returns : goal.returns
+pub returns-else-n-ne0 : goal.returns-else-n-ne0
 unfolding bad_type_length
-returns c = simp (eq-eqb _ _ c.if-n-ne0.false)
+returns-else-n-ne0 c = simp (eq-eqb _ _ c.if-n-ne0.false)

@@ -7,6 +7,6 @@ pub returns-then-n-ne0 : goal.returns-then-n-ne0
 unfolding bad_book_length
 returns-then-n-ne0 c = simp (ne_eqb _ _ c.if-n-ne0.true)
 
-pub returns : goal.returns
+pub returns-else-n-ne0 : goal.returns-else-n-ne0
 unfolding bad_book_length
-returns c = simp (eq-eqb _ _ c.if-n-ne0.false)
+returns-else-n-ne0 c = simp (eq-eqb _ _ c.if-n-ne0.false)

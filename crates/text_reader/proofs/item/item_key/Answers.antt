@@ -1,26 +1,14 @@
 -- `item_key` meets its contract.
 use mathlib.Core.Path.{◌∙◌}
-use borrow.Author.Rules.{rules}
 use Rattle.text_reader.proofs.ItemRead.{in-object, no_key, field-item}
 use Rattle.text_reader.proofs.item.item_key.Goals as goal
 
-pub field_key-requires : goal.field_key-requires
-field_key-requires c =
-    record { place_in = (c.requires.0, c.requires.1, c.requires.2); level_fits = (c.requires.3, c.if-level.true) }
+pub returns-then-level-clause-by_index : goal.returns-then-level-clause-by_index
+returns-then-level-clause-by_index c = λ room σ around w a r l m.
+    let b = in-object around (l.object-is ∙ c.if-level.true) in
+    field-item c.args.text.now c.args.book.now c.field_key.new.seen room σ c.args.at around b c.field_key.result
+    (c.field_key.ensures.by_index room b.key b.done b.outer σ (rw b.is at w) a r (rw b.is at l) (rw b.is at m))
 
-pub returns-then-level : goal.returns-then-level
-returns-then-level c =
-    record {
-      key_place = c.field_key.ensures.key_place;
-      by_index = λ room σ around w a r l m.
-          let b = in-object around (l.object-is ∙ c.if-level.true) in
-          field-item c.args.text.now c.args.book.now c.field_key.new.seen room σ c.args.at around b c.field_key.result
-          (c.field_key.ensures.by_index room b.key b.done b.outer σ (rw b.is at w) a r (rw b.is at l) (rw b.is at m));
-    }
-
-pub returns-else-level : goal.returns-else-level
-returns-else-level c =
-    record {
-      key_place = search rules;
-      by_index = λ room σ around w a r l m. no_key c.args.text.now c.args.book.now c.args.seen.now room σ c.args.at around w (l.object-is ∙ c.if-level.false) a r m;
-    }
+pub returns-else-level-clause-by_index : goal.returns-else-level-clause-by_index
+returns-else-level-clause-by_index c = λ room σ around w a r l m.
+    no_key c.args.text.now c.args.book.now c.args.seen.now room σ c.args.at around w (l.object-is ∙ c.if-level.false) a r m

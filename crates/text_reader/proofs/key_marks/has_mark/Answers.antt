@@ -18,11 +18,11 @@ overflow_add-level c = omega (arith, row_low c.requires, c.requires.listed-key)
 pub overflow_mul-level-2 : goal.overflow_mul-level-2
 overflow_mul-level-2 c = omega (arith, row_low c.requires, c.requires.listed-key)
 
-pub number16-requires : goal.number16-requires
-number16-requires c = omega (arith, slot-inside c.requires)
+pub number-requires : goal.number-requires
+number-requires c = omega (arith, slot-inside c.requires)
 
 pub returns : goal.returns
 returns c =
     let a = c.args in
     let there = numbers-at 2 (max_depth * a.listed) (slot_of a.listed a.level a.key) a.seen.now (slot-below c.requires) in
-    ap (λ n. eqb n a.mark) (c.number16.ensures.0 ∙ sym there)
+    ap (λ n. eqb n a.mark) (c.number.ensures.0 ∙ sym there)

@@ -17,11 +17,11 @@ overflow_add-level c = omega (arith, row_low c.requires.0, c.requires.0.listed-k
 pub overflow_mul-level-2 : goal.overflow_mul-level-2
 overflow_mul-level-2 c = omega (arith, row_low c.requires.0, c.requires.0.listed-key)
 
-pub store16-requires : goal.store16-requires
-store16-requires c = omega (arith, slot-inside c.requires.0)
+pub store_number-requires : goal.store_number-requires
+store_number-requires c = omega (arith, slot-inside c.requires.0)
 
 pub returns : goal.returns
 returns c =
     let a = c.args in
-    ap (marks_of a.listed) c.store16.ensures
+    ap (marks_of a.listed) c.store_number.ensures
     ∙ numbers-set 2 a.mark c.requires.1 (max_depth * a.listed) (slot_of a.listed a.level a.key) a.seen.now (slot-below c.requires.0) c.requires.0.room

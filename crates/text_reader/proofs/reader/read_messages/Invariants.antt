@@ -8,8 +8,8 @@ use Rattle.text_reader.proofs.reader.read_messages.Given as goal
 
 abbrev pub invariant-loop-at : goal.invariant-loop-at
 invariant-loop-at l =
-    ReadUpTo l.text l.book l.table l.seen (length l.initial.table / record_size) l.open.records l.open.objects l.open.before l.at l.count l.open.depth l.items
-    × (length l.open.records ≡ max_depth) × (length l.open.objects ≡ max_depth) × (length l.open.before ≡ max_depth) × (length l.table ≡ length l.initial.table) × (length l.seen ≡ length l.initial.seen)
+    ReadUpTo l.text l.book l.table l.seen (length l.initial.table / record_size) l.outer l.at l.count l.level
+    × (length l.outer ≡ max_depth) × (length l.table ≡ length l.initial.table) × (length l.seen ≡ length l.initial.seen)
 
 abbrev pub decreases-loop-at : goal.decreases-loop-at
 decreases-loop-at l = length l.text - l.at

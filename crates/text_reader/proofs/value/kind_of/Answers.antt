@@ -1,5 +1,6 @@
 -- `kind_of` meets its contract.
 use mathlib.Core.Path.{◌≡◌, refl, sym}
+use Rattle.std.proofs.Common.{inl, inr}
 use Prim.Native.Nat.{ℕ, ◌≤◌, ◌<◌}
 use native.Mathlib.Omega.{arith}
 use Rattle.json_theory.specs.Parts.{start}
@@ -16,32 +17,28 @@ pub returns-in-34 : goal.returns-in-34
 unfolding start
 returns-in-34 c = let e : c.args.c ≡ 0x22 = omega arith in rw e refl
 
-pub returns-in-45 : goal.returns-in-45
-unfolding start
-returns-in-45 c = let e : c.args.c ≡ 0x2D = omega arith in rw e refl
-
 pub returns-in-91 : goal.returns-in-91
 unfolding start
 returns-in-91 c = let e : c.args.c ≡ 0x5B = omega arith in rw e refl
 
 pub returns-in-102 : goal.returns-in-102
 unfolding start
-returns-in-102 c = let e : c.args.c ≡ 0x66 = omega arith in rw e refl
+returns-in-102 c = elim c.in-102.is [ inl e ↦ rw e refl | inr e ↦ rw e refl ]
 
 pub returns-in-110 : goal.returns-in-110
 unfolding start
 returns-in-110 c = let e : c.args.c ≡ 0x6E = omega arith in rw e refl
 
-pub returns-in-116 : goal.returns-in-116
-unfolding start
-returns-in-116 c = let e : c.args.c ≡ 0x74 = omega arith in rw e refl
-
 pub returns-in-123 : goal.returns-in-123
 unfolding start
 returns-in-123 c = let e : c.args.c ≡ 0x7B = omega arith in rw e refl
 
-pub returns-in-48-to-57 : goal.returns-in-48-to-57
-returns-in-48-to-57 c = sym (digit-kind c.args.c (omega arith) (omega arith))
+pub returns-in-45 : goal.returns-in-45
+unfolding start
+returns-in-45 c = let e : c.args.c ≡ 0x2D = omega arith in rw e refl
+
+pub returns-in-45-2 : goal.returns-in-45-2
+returns-in-45-2 c = sym (digit-kind c.args.c (omega arith) (omega arith))
 
 pub returns-in_default : goal.returns-in_default
 returns-in_default c =
@@ -49,4 +46,4 @@ returns-in_default c =
 
 pub returns-in_default-2 : goal.returns-in_default-2
 returns-in_default-2 c =
-    sym (other-kind c.args.c (λ e. absurd (omega arith)) (λ e. absurd (omega arith)) (λ e. absurd (omega arith)) (λ e. absurd (omega arith)) (λ e. absurd (omega arith)) (λ e. absurd (omega arith)) (λ e. absurd (omega arith)) (λ l h. above _ (omega arith) h))
+    sym (other-kind c.args.c (λ e. absurd (omega arith)) (λ e. absurd (omega arith)) (λ e. absurd (omega arith)) (λ e. absurd (grind arith)) (λ e. absurd (omega arith)) (λ e. absurd (grind arith)) (λ e. absurd (omega arith)) (λ l h. above _ (omega arith) h))

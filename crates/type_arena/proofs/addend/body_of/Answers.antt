@@ -5,4 +5,4 @@ use Rattle.type_arena.proofs.FirstAddend.{body_is}
 use Rattle.type_arena.proofs.addend.body_of.Goals as goal
 
 pub returns : goal.returns
-returns c = body_is c.args.x.now _ (ap (λ n. type_size * n) c.span_at-n.ensures.0)
+returns c = body_is c.args.x.now _ (ap (λ n. type_size * n) c.span_at.ensures.0)

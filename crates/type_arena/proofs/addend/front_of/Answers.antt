@@ -1,11 +1,8 @@
 -- `front_of` meets its contract.
-use Rattle.std.proofs.Common.{◌*◌, sym, ap, arith, length-take-le}
+use Rattle.std.proofs.Common.{◌*◌, ap}
 use Rattle.counting_theory.specs.Encoding.{type_size}
 use Rattle.type_arena.proofs.FirstAddend.{front-is}
 use Rattle.type_arena.proofs.addend.front_of.Goals as goal
 
-pub slice_bounds-result-end : goal.slice_bounds-result-end
-slice_bounds-result-end c = sym (length-take-le _ _ (omega arith))
-
 pub returns : goal.returns
-returns c = front-is c.args.x.now _ (ap (λ n. type_size * n) c.span_at-n.ensures.0)
+returns c = front-is c.args.x.now _ (ap (λ n. type_size * n) c.span_at.ensures.0)

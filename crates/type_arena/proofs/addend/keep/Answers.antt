@@ -1,19 +1,7 @@
 -- `keep` meets its contract.
-use Rattle.std.proofs.Common.{◌+◌, length, ap, ◌∙◌, arith}
-use lib.Seq.{sets}
+use Rattle.std.proofs.Common.{length, ap, arith}
 use Rattle.type_arena.proofs.FirstAddend.{front-le}
 use Rattle.type_arena.proofs.addend.keep.Goals as goal
 
 pub append-requires : goal.append-requires
 append-requires c = omega (arith, front-le c.args.x.now, ap length c.front_of.ensures)
-
-pub returns : goal.returns
-returns c =
-    let a = c.args in
-    let f = c.front_of.ensures in
-    let e = c.append.ensures in
-    record {
-      bytes = e.0 ∙ ap (sets a.out.now a.at.now) f;
-      upto = e.1 ∙ ap (λ u. a.at.now + length u) f;
-      left = c.rest_of.ensures;
-    }

@@ -5,4 +5,4 @@ use Rattle.type_arena.proofs.FirstAddend.{rest-is}
 use Rattle.type_arena.proofs.addend.rest_of.Goals as goal
 
 pub returns : goal.returns
-returns c = rest-is c.args.x.now _ (ap (λ n. type_size * n) c.span_at-n.ensures.0)
+returns c = rest-is c.args.x.now _ (ap (λ n. type_size * n) c.span_at.ensures.0)

@@ -1,6 +1,6 @@
 -- `union_total` meets its contract. The loop's invariant: the sum so far and what is left give the total.
 use Rattle.std.proofs.Common.{false, length}
-use Rattle.counting_theory.specs.Label.{Equivalence}
+use Rattle.counting_theory.specs.declared.equivalence.Equivalence.{Equivalence}
 use Rattle.type_arena.specs.Inside.Addend.{Coded}
 use Rattle.type_arena.proofs.UnionTotal.{Adding}
 use Rattle.type_arena.proofs.addend.union_total.Given as goal

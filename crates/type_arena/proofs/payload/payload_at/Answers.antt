@@ -7,4 +7,4 @@ use Rattle.type_arena.proofs.payload.payload_at.Goals as goal
 
 pub returns : goal.returns
 unfolding payload_of type_payload of_numbers fields_from field_at
-returns c = λ i. record { count = c.number64.ensures i; shortest = c.number32.ensures.0 i; longest = c.number32-2.ensures.0 i }
+returns c = λ i. record { count = c.number.ensures.0 i; shortest = c.number-2.ensures.0 i; longest = c.number-3.ensures.0 i }

@@ -1,17 +1,20 @@
 -- `repeats` meets its contract.
 use borrow.Author.Rules.{rules}
+use borrow.Author.Tests.{lt-leb}
 use Rattle.value_table.proofs.EarlierFields.{unrepeated, siblings, repeated-member}
 use Rattle.value_table.proofs.Latest.{unrepeated-latest}
 use Rattle.value_table.proofs.faults.repeats.Goals as goal
 
-pub returns-then-first-eq0 : goal.returns-then-first-eq0
-returns-then-first-eq0 c = λ f ks h. unrepeated c.if-first-eq0.true h
-
-pub returns-then-latest-bucket_of : goal.returns-then-latest-bucket_of
-returns-then-latest-bucket_of c = λ f ks h. unrepeated-latest c.requires.2 (rw c.bucket_of.ensures.0 at c.if-latest-bucket_of.true) h
+pub returns-in-None : goal.returns-in-None
+returns-in-None c = λ f ks h. unrepeated (rw c.in-None.is at h)
 
 pub key_before-requires : goal.key_before-requires
-key_before-requires c = (search rules, siblings c.if-first-eq0.false c.requires.1.before)
+key_before-requires c = (search rules, siblings (rw c.in-Some.is at c.requires.1.before))
 
-pub returns : goal.returns
-returns c = λ f ks h. repeated-member c.if-first-eq0.false h (c.key_before.ensures ks)
+pub returns-then-first-latest : goal.returns-then-first-latest
+returns-then-first-latest c = λ f ks h. repeated-member (rw c.in-Some.is at h) (c.key_before.ensures ks)
+
+pub returns-else-first-latest : goal.returns-else-first-latest
+returns-else-first-latest c =
+    λ f ks h. let l = c.if-first-latest.false in
+    rw (lt-leb _ _ l) (unrepeated-latest c.requires.2 (rw c.bucket_of.ensures.0 at l) (rw c.in-Some.is at h))

@@ -12,4 +12,4 @@ unfolding kind_at zero_at field_at
 returns c =
     let t = c.args.table.now in
     let p = record_size * c.args.i in
-    rw add-zero (omega (arith, c.number16.ensures.0, number_at-add 1 1 t p (omega arith)))
+    rw (add-zero p) (omega (arith, c.number.ensures.0, number_at-add 1 1 t p (omega arith)))

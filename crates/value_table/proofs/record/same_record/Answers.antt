@@ -14,6 +14,6 @@ returns c =
     let t = c.args.table.now in
     let known : Bytes t = λ p. (c.type_inv.table p).fits in (
       λ e. part_same record_size t t (record_size * c.args.i) (record_size * c.args.j) known known (omega (arith, c.requires)) (omega (arith, c.requires))
-          (sym c.number64.ensures ∙ eqb-true _ _ e ∙ c.number64-2.ensures),
-      λ e. eq-eqb _ _ (c.number64.ensures ∙ ap number_of e ∙ sym c.number64-2.ensures),
+          (sym c.number.ensures.0 ∙ eqb-true _ _ e ∙ c.number-2.ensures.0),
+      λ e. eq-eqb _ _ (c.number.ensures.0 ∙ ap number_of e ∙ sym c.number-2.ensures.0),
     )

@@ -1,18 +1,23 @@
 -- `innermost` meets its contract.
+use mathlib.Core.Path.{◌≡◌, refl, ◌∙◌}
 use mathlib.Core.List.{List}
-use mathlib.Core.Path.{◌≡◌, refl, sym, ap}
 use Prim.Native.Nat.{ℕ, zero, suc, ◌-◌}
 use native.Mathlib.Omega.{arith}
-use lib.ListN.{get_or}
-use Rattle.value_table.specs.Inside.EarlierFields.{innermost_of}
+use borrow.Author.Tests.{eq-eqb, ne_eqb}
+use Rattle.value_table.specs.declared.faults.Level.{Level}
+use Rattle.value_table.specs.Inside.EarlierFields.{level_at, innermost}
 use Rattle.value_table.proofs.walk.innermost.Goals as goal
 
-inner : (levels : List ℕ) (depth outside : ℕ) → (depth ≡ 0 → ⊥) → get_or levels (depth - 1) 0 ≡ innermost_of levels depth outside
-inner levels zero outside n = absurd (n refl)
-inner levels (suc depth) outside n = ap (λ d. get_or levels d 0) (omega arith)
+outside : (levels : List Level) (d i : ℕ) → ((level_at levels 0).end ≡ i → ⊥) → (level_at levels d).end ≡ i → innermost levels (d - 1) i ≡ innermost levels d i
+outside levels zero i n e = absurd (n e)
+outside levels (suc d) i n e = let s : suc d - 1 ≡ d = omega arith in rw (s, eq-eqb _ _ e) refl
 
-pub returns-then-depth-eq0 : goal.returns-then-depth-eq0
-returns-then-depth-eq0 c = ap (λ d. innermost_of c.args.levels.now d c.args.outside) (sym c.if-depth-eq0.true)
+found : (levels : List Level) (d i : ℕ) → ((level_at levels d).end ≡ i → ⊥) → d ≡ innermost levels d i
+found levels zero i n = refl
+found levels (suc d) i n = rw (ne_eqb _ _ n) refl
 
-pub returns-else-depth-eq0 : goal.returns-else-depth-eq0
-returns-else-depth-eq0 c = inner _ _ _ c.if-depth-eq0.false
+pub loop-d-preserved : goal.loop-d-preserved
+loop-d-preserved c = let v = c.loop-d.invariant in (omega arith, outside _ _ _ c.requires.1 c.loop-d-test.true ∙ v.1)
+
+pub returns : goal.returns
+returns c = let v = c.loop-d.invariant in (found _ _ _ c.loop-d-test.false ∙ v.1, v.0)

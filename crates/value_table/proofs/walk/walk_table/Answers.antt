@@ -1,107 +1,45 @@
 -- `walk_table` meets its contract.
-use mathlib.Core.Path.{◌≡◌, refl, sym, ap, ◌∙◌}
-use Prim.Native.Nat.{◌+◌, ◌-◌, ◌≤◌, ◌<◌}
+use mathlib.Core.Path.{refl}
 use native.Mathlib.Omega.{arith}
-use lib.ListN.{set}
-use Rattle.value_table.specs.Inside.EarlierFields.{number_of_finding, innermost_of, Latest}
-use Rattle.value_table.specs.Value.{max_depth, records}
 use Rattle.byte_records.specs.Number.{Bytes}
 use Rattle.value_table.proofs.Latest.{latest-start, latest-next}
-use Rattle.value_table.proofs.WalkLoop.{Walking, FaultHere, walking_start, walking-done, walking-close, walking-parent, walking-inside, walking-refused, walking-room, walking_skip, walking-enter, fault-positive}
+use Rattle.value_table.proofs.WalkLoop.{no-level-eq, walking_start, walking-done, outermost-goes-on, walking-inner, walking-inside, walking-parent, walking-refused, walking-room, walking_skip, walking-enter, fault-positive, Inside}
 use Rattle.value_table.proofs.walk.walk_table.Goals as goal
-use Rattle.value_table.proofs.walk.walk_table.Goals.{After-bucket_of, After-fault_at-finding, After-latest-1, In-loop-i, In_default, Then-end-i}
+use Rattle.value_table.proofs.walk.walk_table.Goals.{After-innermost-depth, then-span-gt1, else-span-gt1}
 
--- the turn of the loop in which record i is looked at
-abbrev turn : goal.After-latest-1 → goal.In-loop-i
-turn c = (record { before = c.before.before.before.before.before.before.before.before; type_inv = record { table = c.type_inv.table } })
-
-abbrev looked : goal.In_default → goal.After-latest-1
-looked c = (record { before = c.before.before.before; type_inv = record { table = c.type_inv.table } })
-
--- no open value ends at record i
-inner : (c : goal.After-latest-1) → let v = (turn c).loop-i in innermost_of v.walk.ends v.walk.depth (records (turn c).args.table.now) ≡ v.i → ⊥
-inner c e = c.if-end-i.false (c.innermost-end.ensures ∙ e)
-
-bytes : (c : goal.After-latest-1) → Bytes (turn c).args.table.now
-bytes c p = ((turn c).shared_slice_known-1.given p).fits
-
--- what `fault_at` found is the fault of record i
-found : (c : goal.After-fault_at-finding) → FaultHere (turn (record { before = c.before.before; type_inv = record { table = c.type_inv.table } })).loop-i.invariant.0 (number_of_finding c.fault_at-finding.result)
-found c = rw (← c.innermost-end.ensures, ← c.innermost-first.ensures) c.fault_at-finding.ensures
-
-fine : (c : goal.In_default) → FaultHere (turn (looked c)).loop-i.invariant.0 0
-fine c f ks h n = sym (ap number_of_finding c.in_default.is) ∙ found (record { before = c.before.before; type_inv = record { table = c.type_inv.table } }) f ks h n
-
-room : (c : goal.In_default) → (turn (looked c)).loop-i.walk.depth < max_depth
-room c =
-    let p = looked c in
-    walking-room (turn p).loop-i.invariant.0 (turn p).loop-i-test.true (inner p) (bytes p) (fine c)
-
-latest-after : (c : goal.After-bucket_of) → Latest c.args.table.now (c.loop-i.i + 1) (set c.loop-i.latest c.bucket_of.result c.loop-i.i)
-latest-after c = rw c.bucket_of.ensures.0 (latest-next c.loop-i.invariant.1)
+inner : (c : goal.After-innermost-depth) → Inside c.args.largest c.args.table.now c.loop-i.walk.levels c.innermost-depth.result c.loop-i.i
+inner c = rw c.innermost-depth.ensures.0 (walking-inner c.loop-i.walk.depth c.loop-i.invariant.0 c.loop-i-test.true)
 
 pub loop-i-init : goal.loop-i-init
-loop-i-init c = (walking_start _ _ _ _ refl refl, latest-start _ _ refl)
+loop-i-init c = (rw (no-level-eq _ c.default.ensures) (walking_start _ _), latest-start _ _ refl)
 
--- the innermost open value ends at record i
-closing : (c : goal.Then-end-i) → let v = c.loop-i in (1 ≤ v.walk.depth) × Walking c.args.largest c.args.table.now v.walk.ends v.walk.fields v.walk.counts (v.walk.depth - 1) v.i
-closing c = walking-close c.loop-i.invariant.0 c.loop-i-test.true (sym c.innermost-end.ensures ∙ c.if-end-i.true)
+pub innermost-depth-requires : goal.innermost-depth-requires
+innermost-depth-requires c = let w = c.loop-i.invariant.0 in (w.shallow, outermost-goes-on w c.loop-i-test.true)
 
-pub overflow_sub-walk : goal.overflow_sub-walk
-overflow_sub-walk c = omega (arith, (closing c).0)
+pub fault_at-requires : goal.fault_at-requires
+fault_at-requires c =
+    let v = inner (goal.at.fault_at-requires c).After-innermost-depth in
+    (omega arith, omega arith, walking-inside v.walking c.loop-i-test.true v.goes-on, walking-parent v.walking, c.loop-i.invariant.1)
 
-pub loop-i-smaller-then-end-i : goal.loop-i-smaller-then-end-i
-loop-i-smaller-then-end-i c = omega (arith, (closing c).0)
+pub returns-in-Some : goal.returns-in-Some
+returns-in-Some c =
+    let v = inner (goal.at.returns-in-Some c).After-innermost-depth in
+    walking-refused v.walking c.loop-i-test.true v.goes-on (fault-positive c.in-Some.fault) c.in-Some.ensures
 
-pub loop-i-preserved-then-end-i : goal.loop-i-preserved-then-end-i
-loop-i-preserved-then-end-i c = ((closing c).1, c.loop-i.invariant.1)
-
-pub bounds-walk-depth : goal.bounds-walk-depth
-bounds-walk-depth c = omega (arith, c.loop-i.invariant.0.shallow)
-
-pub fault_at-finding-requires : goal.fault_at-finding-requires
-fault_at-finding-requires c =
-    let v = (turn c).loop-i in (
-      omega arith,
-      omega arith,
-      rw c.innermost-end.ensures (walking-inside v.invariant.0 (turn c).loop-i-test.true (inner c)),
-      rw c.innermost-first.ensures (walking-parent v.invariant.0),
-      v.invariant.1,
-    )
-
-pub returns-in-Found : goal.returns-in-Found
-returns-in-Found c =
-    walking-refused (turn (goal.at.returns-in-Found c).After-latest-1).loop-i.invariant.0 (turn (goal.at.returns-in-Found c).After-latest-1).loop-i-test.true (inner (goal.at.returns-in-Found c).After-latest-1) (fault-positive c.in-Found.fault) (λ f ks h n. sym (ap number_of_finding c.in-Found.is) ∙ found (goal.at.returns-in-Found c).After-fault_at-finding f ks h n)
-
-pub overflow_add-walk : goal.overflow_add-walk
-overflow_add-walk c =
-    let v = (turn (looked (goal.at.overflow_add-walk c).In_default)).loop-i in
-    omega (arith, v.invariant.0.few v.walk.depth, v.invariant.0.upto)
-
-pub bounds-walk-depth-in-loop-i : goal.bounds-walk-depth-in-loop-i
-bounds-walk-depth-in-loop-i c = omega (arith, room (goal.at.bounds-walk-depth-in-loop-i c).In_default)
-
-pub loop-i-preserved-then-span-eq1 : goal.loop-i-preserved-then-span-eq1
-loop-i-preserved-then-span-eq1 c =
-    let p = looked (goal.at.loop-i-preserved-then-span-eq1 c).In_default in (
-      walking_skip (turn p).loop-i.invariant.0 (turn p).loop-i-test.true (inner p) (bytes p) (fine (goal.at.loop-i-preserved-then-span-eq1 c).In_default) (sym c.span_at-span.ensures.0 ∙ c.if-span-eq1.true),
-      latest-after (goal.at.loop-i-preserved-then-span-eq1 c).After-bucket_of,
-    )
-
-pub bounds-walk-depth-in-loop-i-2 : goal.bounds-walk-depth-in-loop-i-2
-bounds-walk-depth-in-loop-i-2 c = room (goal.at.bounds-walk-depth-in-loop-i-2 c).In_default
-
-pub bounds-walk-depth-in-loop-i-3 : goal.bounds-walk-depth-in-loop-i-3
-bounds-walk-depth-in-loop-i-3 c = room (goal.at.bounds-walk-depth-in-loop-i-3 c).In_default
-
-pub bounds-walk-depth-in-loop-i-4 : goal.bounds-walk-depth-in-loop-i-4
-bounds-walk-depth-in-loop-i-4 c = omega (arith, room (goal.at.bounds-walk-depth-in-loop-i-4 c).In_default)
+pub bounds-walk-depth-then-span-gt1 : goal.bounds-walk-depth-then-span-gt1
+bounds-walk-depth-then-span-gt1 c =
+    let v = inner (goal.at.bounds-walk-depth-then-span-gt1 c).After-innermost-depth in
+    omega (arith, walking-room v.walking c.loop-i-test.true v.goes-on (λ p. (c.type_inv.table p).fits) c.in_default.ensures)
 
 pub loop-i-preserved : goal.loop-i-preserved
 loop-i-preserved c =
-    let p = looked (goal.at.loop-i-preserved c).In_default in (
-      rw (c.span_at-span.ensures.0, c.first_of.ensures) (walking-enter (turn p).loop-i.invariant.0 (turn p).loop-i-test.true (inner p) (bytes p) (fine (goal.at.loop-i-preserved c).In_default)),
-      latest-after (goal.at.loop-i-preserved c).After-bucket_of,
+    let v = inner (goal.at.loop-i-preserved c).After-innermost-depth in
+    let bytes : Bytes c.args.table.now = λ p. (c.type_inv.table p).fits in (
+      elim c.if-span-gt1.branch [
+        | then-span-gt1 w ↦ rw (w.walk-is, w.first_of.ensures, c.span_at-span.ensures.0) (walking-enter v.walking c.loop-i-test.true v.goes-on bytes c.in_default.ensures)
+        | else-span-gt1 w ↦ rw (w.walk-is) (walking_skip v.walking c.loop-i-test.true v.goes-on bytes c.in_default.ensures (omega (arith, w.if-span-gt1.false, c.span_at-span.ensures.0)))
+      ],
+      rw c.bucket_of.ensures.0 (latest-next c.loop-i.invariant.1),
     )
 
 pub returns : goal.returns

@@ -1,6 +1,0 @@
--- `store32` meets its contract.
-use Rattle.byte_records.proofs.Sets.{sets-bytes}
-use Rattle.byte_records.proofs.store.store32.Goals as goal
-
-pub returns : goal.returns
-returns c = let a = c.args in cc (sets-bytes 2 2 a.v a.out.now a.at)

@@ -1,0 +1,2 @@
+-- The law behind the exported functions; a folder for each function's proof.
+pub mod Told

@@ -1,8 +1,0 @@
--- `count_agrees` meets its contract.
-use Rattle.type_check.proofs.count_agrees.Goals as goal
-
-pub returns-then-label : goal.returns-then-label
-returns-then-label c = simp c.if-label.true
-
-pub returns-else-label : goal.returns-else-label
-returns-else-label c = simp c.if-label.false
