@@ -11,12 +11,12 @@ ghost use Rattle.counting_theory.specs.Label.{Counting, CountingType};
 ghost use Rattle.counting_theory.specs.Raw.{profile_of};
 ghost use Rattle.counting_theory.specs.Encoding.{type_size};
 ghost use Rattle.inference.specs.Inside.Inferring.{keys_per_record, AcceptedTable, KeysFit, ArenaHolds, HeldRun, Added};
-ghost use Rattle.gathering.specs.Inside.Gathering.{slot_size, slots_of, slot_raw, SameMessage, Slot, Roomy, Gathering, GatheredTo};
+ghost use Rattle.gathering.specs.Inside.Gathering.{slot_size, slots_of, message_raw, SameMessage, Waits, Roomy, Gathering, GatheredTo};
 
 use counting_theory::equivalence::Equivalence;
 use inference::inferring::add_run;
 use inference::repeats::equal_records;
-use slots::{SLOT_SIZE, put_slot, read_slot};
+use slots::{SLOT_SIZE, Waiting, put_slot, read_slot};
 use type_arena::record_store::NoRoom;
 use type_arena::type_record;
 use value_table::record;
@@ -33,9 +33,6 @@ const HASHES: usize = 4294967296;
 
 // 2^32 by the golden ratio, which scatters neighbouring keys.
 const SCATTER: usize = 2654435769;
-
-// What one message adds to the number in its slot; below it stands the record at which the first of them begins.
-const ONE: usize = 8192;
 
 // Whether the messages at records j and i have the same bytes.
 fn same_message(t: &[u8], j: usize, i: usize) -> bool
@@ -72,25 +69,24 @@ impl Source<'_> {
         &self,
         a: &mut [u8],
         m: usize,
-        slot: usize,
+        waiting: Waiting,
         keys: &mut [u8],
     ) -> Result<usize, NoRoom>
-        requires { HeldRun self.now.equivalence false a.old m 0 × Slot self.now.table.now (records self.now.table.now) slot ×
+        requires { HeldRun self.now.equivalence false a.old m 0 × Waits self.now.table.now (records self.now.table.now) waiting.first waiting.count ×
             (length self.now.table.now ≤ max_length) × (length a.old ≤ keys_per_record * length keys.old) × KeysFit self.now.words self.now.table.now }
         ensures { (f : CountingType) (free : List ℕ) → ArenaHolds self.now.equivalence false a.old m 0 f [] free →
-            Added (add Counting (slot_raw self.now.equivalence self.now.table.now slot) f) [] 0 result a.new }
+            Added (add Counting (message_raw self.now.equivalence self.now.table.now waiting.first waiting.count) f) [] 0 result a.new }
     {
-        if slot < ONE {
+        if waiting.count == 0 {
             return Ok(m);
         }
-        let start = slot % ONE;
-        let from = record::SIZE * start;
-        let stop = record::SIZE * (start + span_at(self.table, start));
+        let from = record::SIZE * waiting.first;
+        let stop = record::SIZE * (waiting.first + span_at(self.table, waiting.first));
         add_run(
             a,
             m,
             0,
-            slot / ONE,
+            waiting.count,
             &self.table[from..stop],
             false,
             self.equivalence,
@@ -114,13 +110,17 @@ impl Source<'_> {
     {
         let end = i + span_at(self.table, i).min(HASHED);
         let k = slot_of(self.table, i, end, slots.len() / SLOT_SIZE);
-        let slot = read_slot(slots, k);
-        if same_message(self.table, slot % ONE, i) {
-            put_slot(slots, k, slot + ONE);
+        let waiting = read_slot(slots, k);
+        if same_message(self.table, waiting.first, i) {
+            let more = Waiting {
+                count: waiting.count + 1,
+                ..waiting
+            };
+            put_slot(slots, k, more);
             return Ok(m);
         }
-        put_slot(slots, k, i + ONE);
-        self.add_waiting(a, m, slot, keys)
+        put_slot(slots, k, Waiting { first: i, count: 1 });
+        self.add_waiting(a, m, waiting, keys)
     }
 
     // Takes all messages of the table into slots.

@@ -84,6 +84,7 @@ pub struct Line {
 }
 
 impl Line {
+    // Stores the line.
     pub fn put(self, out: &mut [u8], at: usize) -> usize
         requires room { at + line_limit ≤ length out.old }
         requires depth { self.depth ≤ max_total }

@@ -31,6 +31,7 @@ struct Filled {
     entries: usize,
 }
 
+// What a refused call leaves in the fronts.
 const NOTHING: Filled = Filled {
     records: 0,
     entries: 0,

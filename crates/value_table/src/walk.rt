@@ -1,9 +1,9 @@
 // The walk over the records of a table.
-ghost use Rattle.std.specs.Prelude.{◌≡◌, ◌≢◌, [], ◌+◌, ◌*◌, ◌%◌, ◌≤◌, length};
+ghost use Rattle.std.specs.Prelude.{◌≡◌, [], ◌+◌, ◌*◌, ◌%◌, ◌≤◌, length};
 ghost use Rattle.value_table.specs.Value.{record_size, max_length, max_depth, records, kind_at};
 ghost use Rattle.value_table.specs.Outcome.{outcome_of};
 ghost use Rattle.value_table.specs.Judged.{walk};
-ghost use Rattle.value_table.specs.Inside.EarlierFields.{level_at, innermost, first_of};
+ghost use Rattle.value_table.specs.Inside.EarlierFields.{innermost, first_of};
 
 use crate::faults::{Level, bucket_of, fault_at};
 use crate::record::{kind_at, span_at};
@@ -19,16 +19,17 @@ struct Walk {
     depth: usize,
 }
 
-// The innermost of the levels up to `depth` that doesn't end at record i, at which the outermost goes on.
+// The innermost of the levels up to `depth` that doesn't end at record i, or else the outermost.
 fn innermost(levels: &[Level; LEVELS], depth: usize, i: usize) -> usize
-    requires { (depth ≤ max_depth) × ((level_at levels.now 0).end ≢ i) }
+    requires { depth ≤ max_depth }
     ensures { (result ≡ innermost levels.now depth i) × (result ≤ depth) }
 {
-    let mut d = depth;
-    while levels[d].end == i {
-        d -= 1;
+    for d in (1..=depth).rev() {
+        if levels[d].end != i {
+            return d;
+        }
     }
-    d
+    0
 }
 
 // The first field of the value that record i opens, if it is a record.

@@ -2,7 +2,7 @@
 use mathlib.Core.Path.{◌≡◌, refl, sym, ◌∙◌, ap}
 use mathlib.Core.Bool.{false}
 use mathlib.Core.List.{List, []}
-use Prim.Native.Nat.{ℕ, zero, suc, ◌+◌, ◌-◌, ◌*◌, ◌/◌, ◌≤◌, ◌<◌}
+use Prim.Native.Nat.{ℕ, zero, suc, ◌+◌, ◌-◌, ◌*◌, ◌≤◌}
 use native.Mathlib.Nat.{mul_comm, mul_assoc}
 use native.Mathlib.Omega.{arith}
 use lib.ListN.{length, take, drop, length-take, length-drop}
@@ -14,40 +14,34 @@ use Rattle.counting_theory.specs.Raw.{raw}
 use Rattle.std.specs.Prelude.{Ok}
 use Rattle.counting_theory.specs.Inside.Times.{times}
 use Rattle.inference.specs.Inside.Inferring.{ArenaHolds, Added, Weighed}
-use Rattle.gathering.specs.Inside.Gathering.{slot_start, slot_count, bytes_of_message, message_at, message_raw, slot_raw, MessageAt, Slot}
+use Rattle.gathering.specs.Inside.Gathering.{bytes_of_message, message_at, message_raw, MessageAt, Waits}
 
-pub waited-nothing : {e : Equivalence} {a free : List ℕ} {m : ℕ} {f : CountingType} (t : List ℕ) (v : ℕ) → v < 8192 → ArenaHolds e false a m 0 f [] free →
-    Added (add Counting (slot_raw e t v) f) [] 0 (Ok m) a
+pub waited-nothing : {e : Equivalence} {a free : List ℕ} {m : ℕ} {f : CountingType} (t : List ℕ) (first count : ℕ) → count ≡ 0 → ArenaHolds e false a m 0 f [] free →
+    Added (add Counting (message_raw e t first count) f) [] 0 (Ok m) a
 unfolding message_raw add
-waited-nothing {free = free} t v h x =
-    let c : v / 8192 ≡ 0 = omega arith in
-    rw c (record { count = x.count; free = free; bytes = x.bytes })
+waited-nothing {free = free} t first count c x = rw c (record { count = x.count; free = free; bytes = x.bytes })
 
-module _ {t : List ℕ} {v : ℕ} (x : Slot t (records t) v) (short : length t ≤ max_length) (some : 8192 ≤ v) where
-  pub waits : MessageAt t (slot_start v)
-  waits = x.message (omega arith)
+module _ {t : List ℕ} {first count : ℕ} (x : Waits t (records t) first count) (short : length t ≤ max_length) (some : 1 ≤ count) where
+  pub waits : MessageAt t first
+  waits = x.message some
 
   -- the part of the table that the code hands on
-  pub part-is : (from stop : ℕ) → from ≡ record_size * slot_start v → stop ≡ record_size * (slot_start v + span_at t (slot_start v)) →
-      take (stop - from) (drop from t) ≡ bytes_of_message t (slot_start v)
+  pub part-is : (from stop : ℕ) → from ≡ record_size * first → stop ≡ record_size * (first + span_at t first) →
+      take (stop - from) (drop from t) ≡ bytes_of_message t first
   part-is from stop f s =
-      let n : stop - from ≡ record_size * span_at t (slot_start v) = omega arith in
+      let n : stop - from ≡ record_size * span_at t first = omega arith in
       rw (n, f) refl
 
-  part_length : length (bytes_of_message t (slot_start v)) ≡ record_size * span_at t (slot_start v)
-  part_length = omega (arith, length-take (record_size * span_at t (slot_start v)) (drop (record_size * slot_start v) t), length-drop (record_size * slot_start v) t, waits.within)
+  part_length : length (bytes_of_message t first) ≡ record_size * span_at t first
+  part_length = omega (arith, length-take (record_size * span_at t first) (drop (record_size * first) t), length-drop (record_size * first) t, waits.within)
 
-  pub weighed : Weighed (slot_count v) (bytes_of_message t (slot_start v))
+  pub weighed : Weighed (count) (bytes_of_message t first)
   weighed =
-      let c = slot_count v in
-      let s = span_at t (slot_start v) in
-      let z : c * (record_size * s) ≡ record_size * (c * s) = sym (mul_assoc c record_size s) ∙ ap (λ k. k * s) (mul_comm c record_size) ∙ mul_assoc record_size c s in
+      let s = span_at t first in
+      let z : count * (record_size * s) ≡ record_size * (count * s) = sym (mul_assoc count record_size s) ∙ ap (λ k. k * s) (mul_comm count record_size) ∙ mul_assoc record_size count s in
       record { some = omega arith; small = omega (arith, x.few); bound = rw part_length (omega (arith, z, x.bound)) }
 
-pub slot-times : (e : Equivalence) (t : List ℕ) (v : ℕ) → 8192 ≤ v → times (slot_count v) (raw e false (message_at t (slot_start v))) ≡ slot_raw e t v
+pub slot-times : (e : Equivalence) (t : List ℕ) (first count : ℕ) → 1 ≤ count → times count (raw e false (message_at t first)) ≡ message_raw e t first count
 unfolding message_raw
-slot-times e t v h = go (slot_count v) (omega arith)
-  where
-    go : (n : ℕ) → 1 ≤ n → times n (raw e false (message_at t (slot_start v))) ≡ message_raw e t (slot_start v) n
-    go zero l = absurd (omega arith)
-    go (suc n) l = refl
+slot-times e t first zero h = absurd (omega arith)
+slot-times e t first (suc n) h = refl

@@ -26,7 +26,7 @@ use Rattle.counting_theory.proofs.Trie.Growth.{add-grows}
 use Rattle.std.specs.Prelude.{Result, Ok, Err}
 use Rattle.type_arena.specs.declared.record_store.NoRoom.{NoRoom}
 use Rattle.inference.specs.Inside.Inferring.{InferredSiblings, ArenaHolds, Grown, Added}
-use Rattle.gathering.specs.Inside.Gathering.{slot_start, slot_count, message_at, message_raw, slot_raw, waiting, SameMessage, MessageAt, Slot, Slots, Gathering, GatheredTo}
+use Rattle.gathering.specs.Inside.Gathering.{slot_start, slot_count, message_at, message_raw, slot_raw, waiting, SameMessage, MessageAt, Waits, Slot, Slots, Gathering, GatheredTo}
 use Rattle.inference.proofs.InPlace.Runs.{FirstValue, first_of, whole-records}
 use Rattle.inference.proofs.InPlace.Material.{times-siblings}
 use Rattle.gathering.proofs.Waiting.Messages.{message-is, message-at, same-message-at}
@@ -51,7 +51,7 @@ module _ (e : Equivalence) (ms : Values) (f : CountingType) (sorted : Sorted Cou
   is-profile h = canonical counting-laws sorted (sorted-profile counting-laws (raw e false ms)) (λ p. h p ∙ sym (lookup-profile counting-laws (raw e false ms) p))
 
 -- the slots, as more of the table has been read, and with one of them set
-pub slot-later : {t : List ℕ} {i j v : ℕ} → i ≤ j → Slot t i v → Slot t j v
+pub slot-later : {t : List ℕ} {i j first count : ℕ} → i ≤ j → Waits t i first count → Waits t j first count
 slot-later h x = record { start = omega (arith, x.start); few = omega (arith, x.few); bound = omega (arith, x.bound); message = x.message }
 
 slots_set : {t : List ℕ} {i : ℕ} (slots : List ℕ) (k v : ℕ) → Slots t i slots → Slot t i v → Slots t i (set slots k v)

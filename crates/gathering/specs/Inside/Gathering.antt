@@ -27,6 +27,9 @@ slot_start v = v % 8192
 abbrev pub slot_count : ℕ → ℕ
 slot_count v = v / 8192
 
+abbrev pub slot_number : (first count : ℕ) → ℕ
+slot_number first count = first + 8192 * count
+
 -- the bytes of the message at record i of a table, and the message
 abbrev pub bytes_of_message : List ℕ → ℕ → List ℕ
 bytes_of_message t i = take (record_size * span_at t i) (drop (record_size * i) t)
@@ -56,12 +59,16 @@ pub record MessageAt (t : List ℕ) (i : ℕ) : Type 0 where
   pub within : record_size * (i + span_at t i) ≤ length t
   pub run : TableRun false (bytes_of_message t i) (message_at t i)
 
--- slot v holds messages of t before record i
-pub record Slot (t : List ℕ) (i v : ℕ) : Type 0 where
-  pub start : slot_start v ≤ i
-  pub few : slot_count v ≤ i
-  pub bound : slot_count v * span_at t (slot_start v) ≤ i
-  pub message : 1 ≤ slot_count v → MessageAt t (slot_start v)
+-- `count` messages of t before record i wait, all like the one at record `first`
+pub record Waits (t : List ℕ) (i first count : ℕ) : Type 0 where
+  pub start : first ≤ i
+  pub few : count ≤ i
+  pub bound : count * span_at t first ≤ i
+  pub message : 1 ≤ count → MessageAt t first
+
+-- they wait in slot v
+abbrev pub Slot : List ℕ → ℕ → ℕ → Type 0
+Slot t i v = Waits t i (slot_start v) (slot_count v)
 
 abbrev pub Slots : List ℕ → ℕ → List ℕ → Type 0
 Slots t i slots = (k : ℕ) → k < length slots → Slot t i (get_or slots k 0)

@@ -3,7 +3,7 @@ use mathlib.Core.Path.{refl}
 use native.Mathlib.Omega.{arith}
 use Rattle.byte_records.specs.Number.{Bytes}
 use Rattle.value_table.proofs.Latest.{latest-start, latest-next}
-use Rattle.value_table.proofs.WalkLoop.{no-level-eq, walking_start, walking-done, outermost-goes-on, walking-inner, walking-inside, walking-parent, walking-refused, walking-room, walking_skip, walking-enter, fault-positive, Inside}
+use Rattle.value_table.proofs.WalkLoop.{no-level-eq, walking_start, walking-done, walking-inner, walking-inside, walking-parent, walking-refused, walking-room, walking_skip, walking-enter, fault-positive, Inside}
 use Rattle.value_table.proofs.walk.walk_table.Goals as goal
 use Rattle.value_table.proofs.walk.walk_table.Goals.{After-innermost-depth, then-span-gt1, else-span-gt1}
 
@@ -14,7 +14,7 @@ pub loop-i-init : goal.loop-i-init
 loop-i-init c = (rw (no-level-eq _ c.default.ensures) (walking_start _ _), latest-start _ _ refl)
 
 pub innermost-depth-requires : goal.innermost-depth-requires
-innermost-depth-requires c = let w = c.loop-i.invariant.0 in (w.shallow, outermost-goes-on w c.loop-i-test.true)
+innermost-depth-requires c = c.loop-i.invariant.0.shallow
 
 pub fault_at-requires : goal.fault_at-requires
 fault_at-requires c =
