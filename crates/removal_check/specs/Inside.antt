@@ -1,3 +1,3 @@
--- What contracts inside the crate and its proofs, and those of removal, cite, and no public promise.
-pub mod Checker
+-- What the contracts inside are stated with: how the check reads 16-byte records, and the judging of two types before a call.
+pub mod Reading
 pub mod Pair

@@ -16,11 +16,12 @@ use Rattle.counting_theory.specs.declared.equivalence.Equivalence.{Equivalence}
 use Rattle.removal_theory.specs.Label.{CountingType}
 use Rattle.removal_theory.specs.Encoding.{type_records, type_of}
 use Rattle.removal_theory.specs.WellFormed.{well_formed, measured, bad_type_length}
-use Rattle.removal_check.specs.Inside.Checker.{Run, addends, check_run}
+use Rattle.type_check.specs.Inside.Checker.{Run, addends, check_run}
 use Rattle.removal_theory.proofs.WellFormed.Rules.{Rules}
 use Rattle.removal_theory.proofs.WellFormed.AcceptsExactly.{type-holds, type-rules, holds-type, type-unique, well-formed-type}
 use Rattle.removal_check.proofs.OnePass.Rest.{Rest}
 use Rattle.removal_check.proofs.OnePass.Accepts.{check-complete, check_sound}
+use Rattle.removal_check.specs.Inside.Reading.{counts_alone}
 
 same_truth : (s t : Bool) → (s ≡ true → t ≡ true) → (t ≡ true → s ≡ true) → s ≡ t
 same_truth true t h i = sym (h refl)
@@ -57,9 +58,9 @@ module _ (e : Equivalence) (b : List ℕ) (f : CountingType) where
       record { counts = r.counts; limit = totals-limit f (omega (arith, r.below, x.beside.1)); sorted = r.sorted; totals = r.totals; fields = r.fields; payloads = all-proper f }
 
 pub check-well-formed : (e : Equivalence) (b : List ℕ) → Bytes b → bad_type_length (length b) ≡ false →
-    well_formed e b ≡ is_some (check_run e b 0 (type_records b) (addends 1 0 0))
+    well_formed e b ≡ is_some (check_run counts_alone e b 0 (type_records b) (addends 1 0 0))
 check-well-formed e b bytes fits =
-    same_truth (well_formed e b) (is_some (check_run e b 0 (type_records b) whole))
+    same_truth (well_formed e b) (is_some (check_run counts_alone e b 0 (type_records b) whole))
     (λ w.
     let f = type_of e b in
     let t = (well-formed-type e b bytes fits).0 w in

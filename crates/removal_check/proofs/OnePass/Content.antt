@@ -17,12 +17,13 @@ use Rattle.removal_theory.specs.Encoding.{type_kind}
 use Rattle.removal_theory.specs.Inside.TypeBytes.{type_count}
 use Rattle.counting_theory.specs.WellFormed.{max_total, depth_inside}
 use Rattle.removal_theory.specs.WellFormed.{holds_fields as fields_inside}
-use Rattle.removal_check.specs.Inside.Checker.{Run, addends, fields, total_of, after, content, agrees}
+use Rattle.type_check.specs.Inside.Checker.{Run, addends, fields, total_of, after, content, agrees}
 use Rattle.removal_theory.proofs.WellFormed.Fitting.{weight-addend}
 use Rattle.removal_theory.specs.Inside.RecordsHold.{RecordsHold}
 use Rattle.removal_theory.proofs.WellFormed.RecordsHold.{holds-first}
-use Rattle.removal_check.proofs.OnePass.Fits.{is_fields, depth_of, Follows}
+use Rattle.type_check.proofs.OnePass.Fits.{is_fields, depth_of, Follows}
 use Rattle.removal_check.proofs.OnePass.Rest.{sum_of, Totals}
+use Rattle.removal_check.specs.Inside.Reading.{counts_alone}
 
 -- a run of this kind, at this depth, in which nothing has been seen
 pub record Starts (r : Run) (field : Bool) (depth : ℕ) : Type 0 where
@@ -31,7 +32,7 @@ pub record Starts (r : Run) (field : Bool) (depth : ℕ) : Type 0 where
   pub total-is : total_of r ≡ 0
 
 module _ (b : List ℕ) (p : ℕ) where
-  pub content-starts : (r : Run) → Starts (content b p r) (fields_inside b p (is_fields r)) (depth_inside (fields_inside b p (is_fields r)) (depth_of r))
+  pub content-starts : (r : Run) → Starts (content counts_alone b p r) (fields_inside b p (is_fields r)) (depth_inside (fields_inside b p (is_fields r)) (depth_of r))
   content-starts (fields depth of_record last_key) = record { fields-is = refl; depth_is = refl; total-is = refl }
   content-starts (addends depth last sum) = go (eqb (type_kind b p) record_kind)
     where
@@ -39,16 +40,17 @@ module _ (b : List ℕ) (p : ℕ) where
       go true = record { fields-is = refl; depth_is = refl; total-is = refl }
       go false = record { fields-is = refl; depth_is = refl; total-is = refl }
 
-  pub after-goes-on : (r : Run) → (is_fields (after b p r) ≡ is_fields r) × (depth_of (after b p r) ≡ depth_of r)
+  pub after-goes-on : (r : Run) → (is_fields (after counts_alone b p r) ≡ is_fields r) × (depth_of (after counts_alone b p r) ≡ depth_of r)
   after-goes-on (addends depth last sum) = (refl, refl)
   after-goes-on (fields depth of_record last_key) = (refl, refl)
 
-  pub agrees-some : (r : Run) (o : Option ℕ) → agrees b p r o ≡ true → (t : ℕ) × (o ≡ Some t) × Totals b p r t
-  agrees-some r None h = absurd (true≢false (sym h))
+  pub agrees-some : (r : Run) (o : Option ℕ) → agrees counts_alone b p r o ≡ true → (t : ℕ) × (o ≡ Some t) × Totals b p r t
+  agrees-some (addends depth last sum) None h = absurd (true≢false (sym h))
+  agrees-some (fields depth of_record last_key) None h = absurd (true≢false (sym h))
   agrees-some (addends depth last sum) (Some t) h = (t, refl, tt)
   agrees-some (fields depth of_record last_key) (Some t) h = (t, refl, eqb-true t (type_count b p) h)
 
-  pub some-agrees : (r : Run) (t : ℕ) → Totals b p r t → agrees b p r (Some t) ≡ true
+  pub some-agrees : (r : Run) (t : ℕ) → Totals b p r t → agrees counts_alone b p r (Some t) ≡ true
   some-agrees (addends depth last sum) t h = refl
   some-agrees (fields depth of_record last_key) t h = eq-eqb t (type_count b p) h
 
@@ -58,12 +60,12 @@ sum-nil (addends depth last sum) = omega arith
 sum-nil (fields depth of_record last_key) = refl
 
 module _ (e : Equivalence) (b : List ℕ) (p : ℕ) where
-  pub total-follows : (r : Run) → Follows e b p r → total_of (after b p r) ≤ max_total
+  pub total-follows : (r : Run) → Follows counts_alone e b p r → total_of (after counts_alone b p r) ≤ max_total
   total-follows (addends depth last sum) h = h.2
   total-follows (fields depth of_record last_key) h = lit≤ tt
 
   pub sum-node : (end : ℕ) (l : Label) (a : Payload) (c s : CountingType) (r : Run) → RecordsHold e b p end (is_fields r) (depth_of r) (node l a c s) →
-      sum_of (after b p r) s ≡ sum_of r (node l a c s)
+      sum_of (after counts_alone b p r) s ≡ sum_of r (node l a c s)
   unfolding total
   sum-node end l a c s (addends depth last sum) h =
       omega (arith, (holds-first e b p end false depth l a c s h).is-node.count-is, weight-addend l a h.tagged.0.kind-high)

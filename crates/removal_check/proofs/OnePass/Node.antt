@@ -1,5 +1,5 @@
 -- What a run asks of one of removal's types is what it asks of its first record, of the content of this record, and of the records behind.
-use mathlib.Core.Path.{◌≡◌, sym, ◌∙◌, ap}
+use mathlib.Core.Path.{◌≡◌, refl, sym, ◌∙◌, ap}
 use mathlib.Core.Bool.{true, false, true≢false}
 use mathlib.Core.List.{List}
 use Prim.Native.Nat.{ℕ, ◌+◌}
@@ -17,7 +17,7 @@ use Rattle.removal_theory.specs.Encoding.{type_key, type_span}
 use Rattle.counting_theory.specs.WellFormed.{field_count}
 use Rattle.removal_theory.specs.WellFormed.{fields_of}
 use Rattle.removal_arena.specs.Inside.Arena.{label_at}
-use Rattle.removal_check.specs.Inside.Checker.{Run, addends, fields, after, content}
+use Rattle.type_check.specs.Inside.Checker.{Run, addends, fields, after, content}
 use Rattle.counting_theory.proofs.Order.{compare-less, less-compare}
 use Rattle.counting_theory.proofs.Label.{kind-eq, compare-fields}
 use Rattle.counting_theory.proofs.WellFormed.Tests.{both}
@@ -26,17 +26,18 @@ use Rattle.removal_theory.proofs.WellFormed.Record.{TypeRecord}
 use Rattle.removal_theory.specs.Inside.RecordsHold.{RecordsHold}
 use Rattle.removal_theory.proofs.WellFormed.RecordsHold.{holds-first}
 use Rattle.removal_arena.proofs.Nodes.{fitting-heads, node_in}
-use Rattle.removal_check.proofs.OnePass.Fits.{is_fields, depth_of, Follows}
+use Rattle.type_check.proofs.OnePass.Fits.{is_fields, depth_of, Follows}
 use Rattle.removal_check.proofs.OnePass.Ruled.{NodeRuled, ruled-node, ruled-parts}
 use Rattle.removal_check.proofs.OnePass.Rest.{sum_of, Totals, Rest, total-positive, inside-told, inside-holds}
+use Rattle.removal_check.specs.Inside.Reading.{counts_alone}
 
 module _ (e : Equivalence) (b : List ℕ) (p end : ℕ) (l : Label) (a : Payload) (c s : CountingType) where
   -- what the first record, its content and the records behind are asked
   pub record Parts (r : Run) : Type 0 where
-    pub follows : Follows e b p r
-    pub totals : Totals b p r (sum_of (content b p r) c)
-    pub inside : Rest e b (p + 1) (content b p r) c
-    pub behind : Rest e b (p + type_span b p) (after b p r) s
+    pub follows : Follows counts_alone e b p r
+    pub totals : Totals b p r (sum_of (content counts_alone b p r) c)
+    pub inside : Rest e b (p + 1) (content counts_alone b p r) c
+    pub behind : Rest e b (p + type_span b p) (after counts_alone b p r) s
 
   label-held : (depth : ℕ) → RecordsHold e b p end false depth (node l a c s) → label_at e b p ≡ l
   label-held depth h = (node_in b p l a c s _ (fitting-heads _ h.fitting) h.bytes).label_is e false h.tagged
@@ -75,7 +76,7 @@ module _ (e : Equivalence) (b : List ℕ) (p end : ℕ) (l : Label) (a : Payload
         ruled = ruled-node e l a c s own x.inside.ruled x.behind.ruled;
         beside = (
           ap (compare_label (field_label last_key)) (sym label) ∙ compare-fields last_key (type_key b p) ∙ less-compare last_key (type_key b p) x.follows.0,
-          both (rw n.count-is at x.follows.1) x.behind.beside.1,
+          both (rw n.count-is at x.follows.2) x.behind.beside.1,
         );
       }
 
@@ -101,7 +102,7 @@ module _ (e : Equivalence) (b : List ℕ) (p end : ℕ) (l : Label) (a : Payload
       let key = sym (compare-fields last_key (type_key b p)) ∙ ap (compare_label (field_label last_key)) label ∙ x.beside.0 in
       let inner = inside-holds e b p depth a.count c false (depth + 1) h.tagged.1 h.shallow.2 own.within (λ z. absurd (true≢false (sym z))) in
       record {
-        follows = (compare-less last_key (type_key b p) key, rw n.count-is counts.0);
+        follows = (compare-less last_key (type_key b p) key, refl, rw n.count-is counts.0);
         totals = omega (arith, n.count-is, own.field-total (kind-eq h.tagged.0));
         inside = record { ruled = ruled_c; beside = inner };
         behind = record { ruled = ruled_s; beside = (rw label own.before, counts.1) };

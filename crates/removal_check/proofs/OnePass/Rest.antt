@@ -15,7 +15,7 @@ use Rattle.removal_theory.specs.Inside.TypeBytes.{type_count}
 use Rattle.counting_theory.specs.WellFormed.{max_total}
 use Rattle.removal_theory.specs.WellFormed.{counted, fields_of, Shallow}
 use Rattle.removal_arena.specs.Inside.Arena.{label_at}
-use Rattle.removal_check.specs.Inside.Checker.{Run, addends, fields}
+use Rattle.type_check.specs.Inside.Checker.{Run, addends, fields}
 use Rattle.counting_theory.proofs.Order.{less-compare}
 use Rattle.counting_theory.proofs.Label.{kind-eq, compare-fields}
 use Rattle.removal_theory.proofs.WellFormed.Nodes.{counted-parts}

@@ -21,11 +21,13 @@ use Rattle.counting_theory.proofs.WellFormed.Record.{TypeRecord}
 use Rattle.counting_theory.specs.Inside.RecordsHold.{RecordsHold}
 use Rattle.counting_theory.proofs.WellFormed.RecordsHold.{holds-nil, holds-first, label_with}
 use Rattle.counting_theory.proofs.WellFormed.LaidOut.{inside-label, record-held, holds-record}
-use Rattle.type_check.proofs.OnePass.Fits.{is_fields, depth_of, Follows, fits-record, record-fits}
+use Rattle.type_check.proofs.OnePass.Fits.{is_fields, depth_of, Follows}
+use Rattle.type_check.proofs.OnePass.OwnRecords.{fits-record, record-fits}
 use Rattle.type_check.proofs.OnePass.OneRecord.{check-end, check-step}
 use Rattle.type_check.proofs.OnePass.Rest.{sum_of, Totals, Beside, Rest}
 use Rattle.type_check.proofs.OnePass.Node.{rest-node, rest-parts}
 use Rattle.type_check.proofs.OnePass.Content.{content-starts, after-goes-on, agrees-some, some-agrees, sum-nil, total-follows, sum-node}
+use Rattle.type_check.specs.Inside.Reading.{full}
 
 cond-some : (t : Bool) (o : Option ℕ) (u : ℕ) → cond t o None ≡ Some u → (t ≡ true) × (o ≡ Some u)
 cond-some true o u h = (refl, h)
@@ -35,26 +37,26 @@ module _ (e : Equivalence) (b : List ℕ) where
   abbrev HoldsRun : ℕ → ℕ → Run → CountingType → Type 0
   HoldsRun p end r f = RecordsHold e b p end (is_fields r) (depth_of r) f
 
-  pub check-complete : (p end : ℕ) (r : Run) (f : CountingType) → HoldsRun p end r f → Rest e b p r f → check_run e b p end r ≡ Some (sum_of r f)
+  pub check-complete : (p end : ℕ) (r : Run) (f : CountingType) → HoldsRun p end r f → Rest e b p r f → check_run full e b p end r ≡ Some (sum_of r f)
   unfolding size
   check-complete p end r nil h x =
       let z : p ≡ end = omega (arith, h.ends) in
-      rw z (check-end e b end r ∙ ap Some (sum-nil r))
+      rw z (check-end full e b end r ∙ ap Some (sum-nil r))
   check-complete p end r (node l a c s) h x =
       let y = holds-first e b p end (is_fields r) (depth_of r) l a c s h in
       let q = rest-parts e b p end l a c s r h x in
       let m = content-starts b p r in
       let n = after-goes-on b p r in
       let right = record-held e b p end (is_fields r) (depth_of r) l a c s h (counted-parts l a c s x.ruled.counts).0 x.ruled.totals.0 in
-      let inner : HoldsRun (p + 1) (p + type_span b p) (content b p r) c =
+      let inner : HoldsRun (p + 1) (p + type_span b p) (content full b p r) c =
       rw (m.fields-is, m.depth_is, inside-label b p (is_fields r) l y.is-node.kind-is) y.in-children in
-      let others : HoldsRun (p + type_span b p) end (after b p r) s = rw (n.0, n.1) y.in-next in
-      check-step e b p end r (omega (arith, h.ends))
+      let others : HoldsRun (p + type_span b p) end (after full b p r) s = rw (n.0, n.1) y.in-next in
+      check-step full e b p end r (omega (arith, h.ends))
       ∙ rw (
         record-fits e b p end r right q.follows,
-        check-complete (p + 1) (p + type_span b p) (content b p r) c inner q.inside,
-        some-agrees b p r (sum_of (content b p r) c) q.totals,
-        check-complete (p + type_span b p) end (after b p r) s others q.behind,
+        check-complete (p + 1) (p + type_span b p) (content full b p r) c inner q.inside,
+        some-agrees b p r (sum_of (content full b p r) c) q.totals,
+        check-complete (p + type_span b p) end (after full b p r) s others q.behind,
       )
       (ap Some (sum-node e b p end l a c s r h))
 
@@ -70,10 +72,10 @@ module _ (e : Equivalence) (b : List ℕ) where
   beside-nil p (addends depth last sum) h = (λ z. tt, omega arith)
   beside-nil p (fields depth of_record last_key) h = (tt, refl)
 
-  accepted-nil : (p end : ℕ) (r : Run) (t : ℕ) → total_of r ≤ max_total → p ≡ end → check_run e b p end r ≡ Some t → Accepted p end r t
+  accepted-nil : (p end : ℕ) (r : Run) (t : ℕ) → total_of r ≤ max_total → p ≡ end → check_run full e b p end r ≡ Some t → Accepted p end r t
   unfolding largest_below counted field_counts measured
   accepted-nil p end r t m z h =
-      let i : Some (total_of r) ≡ Some t = sym (check-end e b end r) ∙ (rw z at h) in
+      let i : Some (total_of r) ≡ Some t = sym (check-end full e b end r) ∙ (rw z at h) in
       let j : t ≡ total_of r = cc in
       record {
         type = nil;
@@ -83,8 +85,8 @@ module _ (e : Equivalence) (b : List ℕ) where
       }
 
   module _ (bytes : Bytes b) where
-    accepted-node : (p end : ℕ) (r : Run) (t u : ℕ) → type_size * end ≤ length b → TypeRecord b p end (is_fields r) (depth_of r) → Follows e b p r → Totals b p r u →
-        Accepted (p + 1) (p + type_span b p) (content b p r) u → Accepted (p + type_span b p) end (after b p r) t → Accepted p end r t
+    accepted-node : (p end : ℕ) (r : Run) (t u : ℕ) → type_size * end ≤ length b → TypeRecord b p end (is_fields r) (depth_of r) → Follows full e b p r → Totals b p r u →
+        Accepted (p + 1) (p + type_span b p) (content full b p r) u → Accepted (p + type_span b p) end (after full b p r) t → Accepted p end r t
     accepted-node p end r t u room right follows totals x y =
         let c = x.type in
         let s = y.type in
@@ -102,23 +104,23 @@ module _ (e : Equivalence) (b : List ℕ) where
         }
 
     pub check_sound : (k p end : ℕ) (r : Run) (t : ℕ) → type_size * end ≤ length b → p ≤ end → end - p ≤ k → total_of r ≤ max_total →
-        check_run e b p end r ≡ Some t → Accepted p end r t
+        check_run full e b p end r ≡ Some t → Accepted p end r t
     check_sound zero p end r t room h n m z = accepted-nil p end r t m (omega arith) z
     check_sound (suc k) p end r t room h n m z =
         go (eqb p end) refl
-        (λ x y u. check_sound k (p + 1) (p + type_span b p) (content b p r) u (omega arith) (omega arith) (omega arith) (omega (arith, (content-starts b p r).total-is)))
-        (λ x y. check_sound k (p + type_span b p) end (after b p r) t room (omega arith) (omega arith))
+        (λ x y u. check_sound k (p + 1) (p + type_span b p) (content full b p r) u (omega arith) (omega arith) (omega arith) (omega (arith, (content-starts b p r).total-is)))
+        (λ x y. check_sound k (p + type_span b p) end (after full b p r) t room (omega arith) (omega arith))
       where
         go : (q : Bool) → eqb p end ≡ q →
-            (1 ≤ type_span b p → p + type_span b p ≤ end → (u : ℕ) → check_run e b (p + 1) (p + type_span b p) (content b p r) ≡ Some u →
-            Accepted (p + 1) (p + type_span b p) (content b p r) u) →
-            (1 ≤ type_span b p → p + type_span b p ≤ end → total_of (after b p r) ≤ max_total → check_run e b (p + type_span b p) end (after b p r) ≡ Some t →
-            Accepted (p + type_span b p) end (after b p r) t) →
+            (1 ≤ type_span b p → p + type_span b p ≤ end → (u : ℕ) → check_run full e b (p + 1) (p + type_span b p) (content full b p r) ≡ Some u →
+            Accepted (p + 1) (p + type_span b p) (content full b p r) u) →
+            (1 ≤ type_span b p → p + type_span b p ≤ end → total_of (after full b p r) ≤ max_total → check_run full e b (p + type_span b p) end (after full b p r) ≡ Some t →
+            Accepted (p + type_span b p) end (after full b p r) t) →
             Accepted p end r t
         go true i hc hs = accepted-nil p end r t m (eqb-true p end i) z
         go false i hc hs =
-            let w = cond-some _ _ t (sym (check-step e b p end r (omega (arith, eqb-false p end i))) ∙ z) in
-            let v = and_parts (fits e b p end r) _ w.0 in
+            let w = cond-some _ _ t (sym (check-step full e b p end r (omega (arith, eqb-false p end i))) ∙ z) in
+            let v = and_parts (fits full e b p end r) _ w.0 in
             let x = fits-record e b p end r v.0 in
             let y = agrees-some b p r _ v.1 in
             accepted-node p end r t y.0 room x.0 x.1 y.2 (hc x.0.span-low x.0.span_fits y.0 y.1)

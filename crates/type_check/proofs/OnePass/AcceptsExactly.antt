@@ -19,6 +19,7 @@ use Rattle.counting_theory.proofs.WellFormed.Rules.{Rules}
 use Rattle.counting_theory.proofs.WellFormed.AcceptsExactly.{type-holds, type-rules, holds-type, type-unique, well-formed-type}
 use Rattle.type_check.proofs.OnePass.Rest.{Rest}
 use Rattle.type_check.proofs.OnePass.Accepts.{check-complete, check_sound}
+use Rattle.type_check.specs.Inside.Reading.{full}
 
 same_truth : (s t : Bool) → (s ≡ true → t ≡ true) → (t ≡ true → s ≡ true) → s ≡ t
 same_truth true t h i = sym (h refl)
@@ -49,9 +50,9 @@ module _ (e : Equivalence) (b : List ℕ) (f : CountingType) where
       record { counts = r.counts; limit = totals-limit f (omega (arith, r.below, x.beside.1)); sorted = r.sorted; totals = r.totals; fields = r.fields; payloads = r.payloads }
 
 pub check-well-formed : (e : Equivalence) (b : List ℕ) → Bytes b → bad_type_length (length b) ≡ false →
-    well_formed e b ≡ is_some (check_run e b 0 (type_records b) (addends 1 0 0))
+    well_formed e b ≡ is_some (check_run full e b 0 (type_records b) (addends 1 0 0))
 check-well-formed e b bytes fits =
-    same_truth (well_formed e b) (is_some (check_run e b 0 (type_records b) whole))
+    same_truth (well_formed e b) (is_some (check_run full e b 0 (type_records b) whole))
     (λ w.
     let f = type_of e b in
     let t = (well-formed-type e b bytes fits).0 w in

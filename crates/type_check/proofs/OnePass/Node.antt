@@ -12,9 +12,10 @@ use Rattle.counting_theory.specs.Payload.{Payload}
 use Rattle.counting_theory.specs.Trie.{node, total}
 use Rattle.counting_theory.specs.Label.{Label, field_label, compare_label, CountingType}
 use Rattle.counting_theory.specs.declared.equivalence.Equivalence.{Equivalence}
-use Rattle.counting_theory.specs.Encoding.{type_key, type_span}
+use Rattle.counting_theory.specs.Encoding.{type_kind, type_key, type_span}
 use Rattle.counting_theory.specs.WellFormed.{field_count, fields_of}
 use Rattle.type_arena.specs.Inside.Arena.{label_at}
+use Rattle.type_arena.specs.Inside.Layout.{label_by}
 use Rattle.type_check.specs.Inside.Checker.{Run, addends, fields, after, content}
 use Rattle.counting_theory.proofs.Payload.{proper-other}
 use Rattle.counting_theory.proofs.Order.{compare-less, less-compare}
@@ -28,16 +29,18 @@ use Rattle.type_arena.proofs.Nodes.{fitting-heads, node_in}
 use Rattle.type_check.proofs.OnePass.Fits.{is_fields, depth_of, Follows}
 use Rattle.type_check.proofs.OnePass.Ruled.{NodeRuled, ruled-node, ruled-parts}
 use Rattle.type_check.proofs.OnePass.Rest.{sum_of, Totals, Rest, total-positive, sum_inside, inside-told, inside-holds}
+use Rattle.type_check.specs.Inside.Reading.{full}
 
 module _ (e : Equivalence) (b : List ℕ) (p end : ℕ) (l : Label) (a : Payload) (c s : CountingType) where
   -- what the first record, its content and the records behind are asked
   pub record Parts (r : Run) : Type 0 where
-    pub follows : Follows e b p r
-    pub totals : Totals b p r (sum_of (content b p r) c)
-    pub inside : Rest e b (p + 1) (content b p r) c
-    pub behind : Rest e b (p + type_span b p) (after b p r) s
+    pub follows : Follows full e b p r
+    pub totals : Totals b p r (sum_of (content full b p r) c)
+    pub inside : Rest e b (p + 1) (content full b p r) c
+    pub behind : Rest e b (p + type_span b p) (after full b p r) s
 
-  label-held : (depth : ℕ) → RecordsHold e b p end false depth (node l a c s) → label_at e b p ≡ l
+  label-held : (depth : ℕ) → RecordsHold e b p end false depth (node l a c s) → label_by type_kind type_key type_span e b p ≡ l
+  unfolding label_by label_at
   label-held depth h = (node_in b p l a c s _ (fitting-heads _ h.fitting) h.bytes).label_is e false h.tagged
 
   pub rest-node : (r : Run) → RecordsHold e b p end (is_fields r) (depth_of r) (node l a c s) → TypeRecord b p end (is_fields r) (depth_of r) → Parts r → Rest e b p r (node l a c s)

@@ -10,10 +10,10 @@ use Rattle.counting_theory.specs.Trie.{nil, node, size, Before, total}
 use Rattle.counting_theory.specs.Label.{field_label, compare_label, Counting, CountingType}
 use Rattle.counting_theory.specs.declared.equivalence.Equivalence.{Equivalence}
 use Rattle.counting_theory.specs.Payload.{proper}
-use Rattle.counting_theory.specs.Encoding.{type_kind, type_payload, Tagged}
+use Rattle.counting_theory.specs.Encoding.{type_kind, type_key, type_span, type_payload, Tagged}
 use Rattle.counting_theory.specs.Inside.TypeBytes.{type_count}
 use Rattle.counting_theory.specs.WellFormed.{max_total, counted, fields_of, Shallow}
-use Rattle.type_arena.specs.Inside.Arena.{label_at}
+use Rattle.type_arena.specs.Inside.Layout.{label_by}
 use Rattle.type_check.specs.Inside.Checker.{Run, addends, fields}
 use Rattle.counting_theory.proofs.Order.{less-compare}
 use Rattle.counting_theory.proofs.Label.{kind-eq, compare-fields}
@@ -51,7 +51,7 @@ module _ (e : Equivalence) where
 module _ (e : Equivalence) (b : List ℕ) where
   -- f against what came before it
   abbrev pub Beside : ℕ → Run → CountingType → Type 0
-  Beside p (addends depth last sum) f = (eqb last p ≡ false → Before Counting (label_at e b last) f) × (sum + total Counting f ≤ max_total)
+  Beside p (addends depth last sum) f = (eqb last p ≡ false → Before Counting (label_by type_kind type_key type_span e b last) f) × (sum + total Counting f ≤ max_total)
   Beside p (fields depth of_record last_key) f = Before Counting (field_label last_key) f × (fields_of e of_record f ≡ true)
 
   pub record Rest (p : ℕ) (r : Run) (f : CountingType) : Type 0 where

@@ -1,5 +1,5 @@
 -- The checker: unions by addends, addends by their inner unions, fields between, with a remaining depth that falls.
-use mathlib.Core.Path.{◌≡◌, sym, ap, ◌∙◌}
+use mathlib.Core.Path.{◌≡◌, sym, ◌∙◌}
 use mathlib.Core.Bool.{Bool, true, false}
 use mathlib.Core.List.{List}
 use Prim.Native.Nat.{ℕ, ◌+◌, ◌-◌, ◌≤◌}
@@ -7,140 +7,109 @@ use native.Mathlib.Omega.{arith}
 use Rattle.std.proofs.iter.Serving.{serving}
 use Rattle.std.proofs.Common.{Option, Some, None, MatchOption}
 use Rattle.value_table.specs.Value.{max_depth, array_kind}
-use Rattle.counting_theory.specs.Payload.{Payload, no_lengths, proper}
-use Rattle.counting_theory.specs.Encoding.{type_kind, type_span, type_payload}
-use Rattle.counting_theory.specs.Inside.TypeBytes.{type_count}
-use Rattle.counting_theory.specs.WellFormed.{type_record}
-use Rattle.counting_theory.proofs.Encoding.Header.{payload-count}
-use Rattle.counting_theory.proofs.Payload.{proper-array}
-use Rattle.type_arena.specs.Inside.Payload.{payload_of}
-use Rattle.type_check.specs.declared.Checker.{Checker}
-use Rattle.type_check.specs.Inside.Checker.{RunOf, has_total, proper_within, addends, check_run}
+use Rattle.type_check.specs.Inside.Reading.{Reading}
+use Rattle.type_check.specs.Inside.Checker.{has_total, proper_within, addends, type_record, check_run}
 use Rattle.type_check.proofs.OnePass.CheckLoop.{addend-inside, record-span, with-found, wrong-lengths, with-fields, scalar-right}
-use Rattle.type_check.proofs.OnePass.Loops.{in_table, addends-start, addends-done, last-inside, wrong-count, count-bounds, wrong-addend, wrong-order, addend-span, addends-next, fields-start, fields-done, wrong-field, field-span, wrong-total, fields-next}
+use Rattle.type_check.proofs.OnePass.Loops.{addends-done, last-inside, wrong-count, wrong-addend, wrong-order, addend-span, addends-next, fields-done, wrong-field, field-span, wrong-total, fields-next}
+use Rattle.type_check.proofs.Checker.+check_addend_check_field_check_fields_check_union.Given as given
 use Rattle.type_check.proofs.Checker.+check_addend_check_field_check_fields_check_union.Goals as goal
-use Rattle.type_check.proofs.Checker.+check_addend_check_field_check_fields_check_union.Goals.{check_union-then-not-count_fits-via-then-not-count_fits, check_union-then-not-count_fits-via-else-not-count_fits+then-not-check_addend, check_union-then-not-count_fits-via-else-not-count_fits+else-not-check_addend+then-not-in_order, check_addend-After-kind_at, check_fields-After-check_field, check_union-After-span_at-p}
+use Rattle.type_check.proofs.Checker.+check_addend_check_field_check_fields_check_union.Goals.{check_union-then-not-count_fits-via-then-not-count_fits, check_union-then-not-count_fits-via-else-not-count_fits+then-not-check_addend, check_union-then-not-count_fits-via-else-not-count_fits+else-not-check_addend+then-not-in_order, check_addend-After-kind, check_fields-After-check_field, check_union-After-span-p}
 
--- the records that a checker goes over
-run : (x : Checker) (i : ℕ) → i ≤ x.end → RunOf x.b.now i x.end
-run x i h = record { upto = h; within = x.within; short = x.short }
-
-module _ {t : ℕ} where
+module _ (g : given.Over) {t : ℕ} where
   -- what is known of an addend whose record is right
-  module _ (c : goal.check_addend-After-kind_at t) where
-    abbrev bytes : List ℕ
-    bytes = c.args.self.b.now
-
-    right : type_record bytes c.args.p c.args.self.end false (33 - c.args.self.left) ≡ true
+  module _ (c : goal.check_addend-After-kind g t) where
+    right : type_record g.L.Judged.reading c.args.self.b.now c.args.p c.args.self.end false (33 - c.args.self.left) ≡ true
     right = sym c.addend_record.ensures ∙ c.if-not-addend_record.false
 
-    spanned : (1 ≤ type_span bytes c.args.p) × (c.args.p + type_span bytes c.args.p ≤ c.args.self.end) × (33 - c.args.self.left ≤ max_depth) × (type_kind bytes c.args.p ≤ array_kind)
-    spanned = record-span c.args.self.equivalence _ _ _ _ right
+    spanned : (1 ≤ g.L.Judged.reading.span c.args.self.b.now c.args.p) × (c.args.p + g.L.Judged.reading.span c.args.self.b.now c.args.p ≤ c.args.self.end) × (33 - c.args.self.left ≤ max_depth) × (g.L.Judged.reading.kind c.args.self.b.now c.args.p ≤ array_kind)
+    spanned = record-span g.L.Judged.reading c.args.self.equivalence _ _ _ _ right
 
-    count-is : c.payload_at-payload.result.count ≡ type_count bytes c.args.p
-    unfolding payload_of
-    count-is = ap (λ (a : Payload). a.count) c.payload_at-payload.ensures ∙ payload-count bytes c.args.p
-
-found : (b : List ℕ) (p : ℕ) (o : Option ℕ) (r : Bool) (Q : ℕ → Type 0) → MatchOption o (r ≡ false) Q → ((x : ℕ) → Q x → r ≡ proper (type_kind b p) (type_payload b p) x) → proper_within b p o ≡ r
-found b p None r Q h k = sym h
-found b p (Some x) r Q h k = sym (k x h)
+found : (q : Reading) (b : List ℕ) (p : ℕ) (o : Option ℕ) (r : Bool) (Q : ℕ → Type 0) → MatchOption o (r ≡ false) Q → ((x : ℕ) → Q x → r ≡ q.proper b p x) → proper_within q b p o ≡ r
+found q b p None r Q h k = sym h
+found q b p (Some x) r Q h k = sym (k x h)
 
 pub check_addend-overflow_sub-self : goal.check_addend-overflow_sub-self
-check_addend-overflow_sub-self t c = omega (arith, (spanned (goal.at.check_addend-overflow_sub-self t c).After-kind_at).2)
+check_addend-overflow_sub-self g t c = omega (arith, (spanned g (goal.at.check_addend-overflow_sub-self g t c).After-kind).2)
 
 pub check_addend-inside-requires : goal.check_addend-inside-requires
-check_addend-inside-requires t c = (c.requires.0, (spanned (goal.at.check_addend-inside-requires t c).After-kind_at).1, omega (arith, c.args.self.shallow))
+check_addend-inside-requires g t c = (c.requires.0, (spanned g (goal.at.check_addend-inside-requires g t c).After-kind).1, omega (arith, c.args.self.shallow))
 
 pub check_addend-check_union-requires : goal.check_addend-check_union-requires
-check_addend-check_union-requires t c =
-    let k = (goal.at.check_addend-check_union-requires t c).After-kind_at in
-    (omega (arith, (spanned k).2, c.decreases, c.inside.ensures, c.args.self.shallow), omega (arith, c.inside.ensures, spanned k))
-
-pub check_addend-is_some_and-requires : goal.check_addend-is_some_and-requires
-check_addend-is_some_and-requires t c = λ _ _ _ _ _ _ _ _.
-    let z = count-is (goal.at.check_addend-is_some_and-requires t c).After-kind_at in
-    (omega (arith, z, c.requires.1), omega (arith, z, c.requires.2))
+check_addend-check_union-requires g t c κs within =
+    let k = (goal.at.check_addend-check_union-requires g t c).After-kind in
+    (omega (arith, (spanned g k).2, c.decreases, c.inside.ensures, c.args.self.shallow), (within.0, (within.1, omega (arith, c.inside.ensures, spanned g k))))
 
 pub check_addend-returns-in-6 : goal.check_addend-returns-in-6
-check_addend-returns-in-6 t c =
-    let k = (goal.at.check_addend-returns-in-6 t c).After-kind_at in
-    sym (found c.args.self.b.now c.args.p c.check_union.result c.is_some_and.result _ c.is_some_and.ensures (λ x q. grind (serving, q, c.payload_at-payload.ensures, proper-array)))
-    ∙ with-found _ _ _ _ _ (right k) _ _ _ (omega arith) (rw (c.inside.ensures.0, c.inside.ensures.3) at c.check_union.ensures) c.inside.ensures.1 (omega (arith, c.inside.ensures.2, (spanned k).2, c.args.self.shallow))
+check_addend-returns-in-6 g t c =
+    let k = (goal.at.check_addend-returns-in-6 g t c).After-kind in
+    sym (found g.L.Judged.reading c.args.self.b.now c.args.p c.check_union.result c.is_some_and.result _ c.is_some_and.ensures (λ x z. grind (serving, z)))
+    ∙ with-found _ _ _ _ _ _ (right g k) _ _ _ (omega arith) (rw (c.inside.ensures.0, c.inside.ensures.3) at c.check_union.ensures) c.inside.ensures.1 (omega (arith, c.inside.ensures.2, (spanned g k).2, c.args.self.shallow))
 
 pub check_addend-inside-requires-then-no_lengths : goal.check_addend-inside-requires-then-no_lengths
-check_addend-inside-requires-then-no_lengths t c = (c.requires.0, (spanned (goal.at.check_addend-inside-requires-then-no_lengths t c).After-kind_at).1, c.args.self.shallow)
+check_addend-inside-requires-then-no_lengths g t c = (c.requires.0, (spanned g (goal.at.check_addend-inside-requires-then-no_lengths g t c).After-kind).1, c.args.self.shallow)
 
 pub check_addend-check_fields-requires : goal.check_addend-check_fields-requires
-check_addend-check_fields-requires t c =
-    let k = (goal.at.check_addend-check_fields-requires t c).After-kind_at in
-    (omega (arith, c.decreases, c.inside-then-no_lengths.ensures), (omega (arith, spanned k, c.inside-then-no_lengths.ensures), omega (arith, (spanned k).2, c.inside-then-no_lengths.ensures, c.args.self.shallow)))
+check_addend-check_fields-requires g t c κs within =
+    let k = (goal.at.check_addend-check_fields-requires g t c).After-kind in
+    (omega (arith, c.decreases, c.inside-then-no_lengths.ensures), (within.0, (within.1, (omega (arith, spanned g k, c.inside-then-no_lengths.ensures), omega (arith, (spanned g k).2, c.inside-then-no_lengths.ensures, c.args.self.shallow)))))
 
 pub check_addend-returns-then-no_lengths : goal.check_addend-returns-then-no_lengths
-check_addend-returns-then-no_lengths t c =
-    let k = (goal.at.check_addend-returns-then-no_lengths t c).After-kind_at in
+check_addend-returns-then-no_lengths g t c =
+    let k = (goal.at.check_addend-returns-then-no_lengths g t c).After-kind in
     let i = c.inside-then-no_lengths.ensures in
-    rw (i.0, i.1, i.2, i.3, count-is k) at c.check_fields.ensures
-    ∙ with-fields _ _ _ _ _ (right k) (omega arith) (sym (rw c.payload_at-payload.ensures at c.no_lengths.ensures) ∙ c.if-no_lengths.true) (omega arith)
+    rw (i.0, i.1, i.2, i.3, c.count.ensures) at c.check_fields.ensures
+    ∙ with-fields _ _ _ _ _ _ (right g k) (omega arith) (sym c.no_lengths.ensures ∙ c.if-no_lengths.true) (omega arith)
 
 pub check_addend-returns-else-no_lengths : goal.check_addend-returns-else-no_lengths
-check_addend-returns-else-no_lengths t c =
-    let k = (goal.at.check_addend-returns-else-no_lengths t c).After-kind_at in
-    c.if-no_lengths.false ∙ wrong-lengths _ _ _ _ _ (right k) (omega arith) (sym (rw c.payload_at-payload.ensures at c.no_lengths.ensures) ∙ c.if-no_lengths.false)
+check_addend-returns-else-no_lengths g t c =
+    let k = (goal.at.check_addend-returns-else-no_lengths g t c).After-kind in
+    c.if-no_lengths.false ∙ wrong-lengths _ _ _ _ _ _ (right g k) (omega arith) (sym c.no_lengths.ensures ∙ c.if-no_lengths.false)
 
 pub check_addend-returns-in_default : goal.check_addend-returns-in_default
-check_addend-returns-in_default t c =
-    let k = (goal.at.check_addend-returns-in_default t c).After-kind_at in
-    c.no_lengths-in_default.ensures ∙ ap no_lengths c.payload_at-payload.ensures ∙ scalar-right _ _ _ _ _ (right k) (omega (arith, c.in_default)) (omega (arith, (spanned k).3, c.in_default))
+check_addend-returns-in_default g t c =
+    let k = (goal.at.check_addend-returns-in_default g t c).After-kind in
+    c.no_lengths-in_default.ensures ∙ scalar-right _ _ _ _ _ _ (right g k) (omega (arith, c.in_default)) (omega (arith, (spanned g k).3, c.in_default))
 
-module _ {t : ℕ} where
+module _ (g : given.Over) {t : ℕ} where
   -- what the call on the union inside the field at p says, in the depth of that union
-  inner : (c : goal.check_fields-After-check_field t) → let a = c.args in let p = c.loop-p.p in c.check_field.result ≡ has_total (type_count a.self.b.now p) (check_run a.self.equivalence a.self.b.now (p + 1) (p + type_span a.self.b.now p) (addends (33 - a.self.left + 1) (p + 1) 0))
+  inner : (c : goal.check_fields-After-check_field g t) → let a = c.args in let p = c.loop-p.p in c.check_field.result ≡ has_total (g.L.Judged.reading.count a.self.b.now p) (check_run g.L.Judged.reading a.self.equivalence a.self.b.now (p + 1) (p + g.L.Judged.reading.span a.self.b.now p) (addends (33 - a.self.left + 1) (p + 1) 0))
   inner c =
       let i = c.inside-inside.ensures in
       let d : 33 - c.inside-inside.result.left ≡ 33 - c.args.self.left + 1 = omega (arith, c.requires.1, i.2, c.args.self.shallow) in
       rw (i.0, i.1, i.3, d) at c.check_field.ensures
 
-pub check_fields-loop-p-init : goal.check_fields-loop-p-init
-check_fields-loop-p-init t c = fields-start _ _ _ _ _ _ c.requires.0
-
 pub check_fields-returns-then-not-field_fits : goal.check_fields-returns-then-not-field_fits
-check_fields-returns-then-not-field_fits t c = wrong-field c.loop-p.invariant c.loop-p-test.true (sym (c.field_fits.ensures _) ∙ c.if-not-field_fits.true)
+check_fields-returns-then-not-field_fits g t c = wrong-field c.loop-p.invariant c.loop-p-test.true (sym (c.field_fits.ensures _) ∙ c.if-not-field_fits.true)
 
 pub check_fields-inside-inside-requires : goal.check_fields-inside-inside-requires
-check_fields-inside-inside-requires t c =
+check_fields-inside-inside-requires g t c =
     let s = field-span c.loop-p.invariant c.loop-p-test.true (sym (c.field_fits.ensures _) ∙ c.if-not-field_fits.false) in
     (c.loop-p-test.true, s.1, omega (arith, c.args.self.shallow))
 
 pub check_fields-check_field-requires : goal.check_fields-check_field-requires
-check_fields-check_field-requires t c =
+check_fields-check_field-requires g t c κs within =
     let s = field-span c.loop-p.invariant c.loop-p-test.true (sym (c.field_fits.ensures _) ∙ c.if-not-field_fits.false) in
     let i = c.inside-inside.ensures in
-    (omega (arith, c.decreases, c.requires.1, i), (omega (arith, s.0, i), omega (arith, c.requires.1, i, c.args.self.shallow)))
+    (omega (arith, c.decreases, c.requires.1, i), (within.0, (within.1, (omega (arith, s.0, i), omega (arith, c.requires.1, i, c.args.self.shallow)))))
 
 pub check_fields-returns-then-not-check_field : goal.check_fields-returns-then-not-check_field
-check_fields-returns-then-not-check_field t c = wrong-total c.loop-p.invariant c.loop-p-test.true (sym (c.field_fits.ensures _) ∙ c.if-not-field_fits.false) (sym (inner (goal.at.check_fields-returns-then-not-check_field t c).After-check_field) ∙ c.if-not-check_field.true)
+check_fields-returns-then-not-check_field g t c = wrong-total c.loop-p.invariant c.loop-p-test.true (sym (c.field_fits.ensures _) ∙ c.if-not-field_fits.false) (sym (inner g (goal.at.check_fields-returns-then-not-check_field g t c).After-check_field) ∙ c.if-not-check_field.true)
 
 pub check_fields-loop-p-smaller : goal.check_fields-loop-p-smaller
-check_fields-loop-p-smaller t c =
+check_fields-loop-p-smaller g t c =
     let s = field-span c.loop-p.invariant c.loop-p-test.true (sym (c.field_fits.ensures _) ∙ c.if-not-field_fits.false) in
     omega (arith, s.0, s.1, c.inside-inside.ensures)
 
 pub check_fields-loop-p-preserved : goal.check_fields-loop-p-preserved
-check_fields-loop-p-preserved t c =
-    rw (c.key_at-last.ensures, c.inside-inside.ensures.1)
-    (fields-next c.loop-p.invariant c.loop-p-test.true (sym (c.field_fits.ensures _) ∙ c.if-not-field_fits.false) (sym (inner (goal.at.check_fields-loop-p-preserved t c).After-check_field) ∙ c.if-not-check_field.false))
+check_fields-loop-p-preserved g t c =
+    rw (c.key-last.ensures, c.inside-inside.ensures.1)
+    (fields-next c.loop-p.invariant c.loop-p-test.true (sym (c.field_fits.ensures _) ∙ c.if-not-field_fits.false) (sym (inner g (goal.at.check_fields-loop-p-preserved g t c).After-check_field) ∙ c.if-not-check_field.false))
 
 pub check_fields-returns : goal.check_fields-returns
-check_fields-returns t c = fields-done c.loop-p.invariant c.loop-p-test.false
-
-pub check_union-loop-p-init : goal.check_union-loop-p-init
-check_union-loop-p-init t c = addends-start _ _ _ _ _ c.requires
-
-pub check_union-count_fits-requires : goal.check_union-count_fits-requires
-check_union-count_fits-requires t c = (in_table (run c.args.self c.loop-p.p c.loop-p.invariant.upto) c.loop-p-test.true, c.loop-p.invariant.limit)
+check_fields-returns g t c = fields-done c.loop-p.invariant c.loop-p-test.false
 
 pub check_union-returns-then-not-count_fits : goal.check_union-returns-then-not-count_fits
-check_union-returns-then-not-count_fits t c =
+check_union-returns-then-not-count_fits g t c =
     let i = c.loop-p.invariant in
     let l = c.loop-p-test.true in
     elim c.then-not-count_fits.branch [
@@ -151,29 +120,24 @@ check_union-returns-then-not-count_fits t c =
           wrong-order i l (sym c.count_fits.ensures ∙ w.if-not-count_fits.false) (sym w.check_addend.ensures ∙ w.if-not-check_addend.false) (sym w.in_order.ensures ∙ w.if-not-in_order.true)
     ]
 
-pub check_union-check_addend-requires : goal.check_union-check_addend-requires
-check_union-check_addend-requires t c =
-    let n = count-bounds c.loop-p.invariant c.loop-p-test.true (sym c.count_fits.ensures ∙ c.if-not-count_fits.false) in
-    (omega (arith, c.decreases), (c.loop-p-test.true, n.0, omega (arith, n.1)))
-
 pub check_union-in_order-requires : goal.check_union-in_order-requires
-check_union-in_order-requires t c =
-    let h = addend-inside _ _ _ _ _ (run c.args.self c.loop-p.p c.loop-p.invariant.upto) (sym c.check_addend.ensures ∙ c.if-not-check_addend.false) in
+check_union-in_order-requires g t c =
+    let h = addend-inside _ _ _ _ _ _ _ c.loop-p-test.true c.args.self.within (sym c.check_addend.ensures ∙ c.if-not-check_addend.false) in
     (last-inside c.loop-p.invariant h, h)
 
-module _ {t : ℕ} where
+module _ (g : given.Over) {t : ℕ} where
   -- the addend at p has been accepted
-  module _ (c : goal.check_union-After-span_at-p t) where
-    spans : let l = c.loop-p in (1 ≤ type_span c.args.self.b.now l.p) × (l.p + type_span c.args.self.b.now l.p ≤ c.args.self.end)
+  module _ (c : goal.check_union-After-span-p g t) where
+    spans : let l = c.loop-p in (1 ≤ g.L.Judged.reading.span c.args.self.b.now l.p) × (l.p + g.L.Judged.reading.span c.args.self.b.now l.p ≤ c.args.self.end)
     spans = addend-span c.loop-p.invariant c.loop-p-test.true (sym c.count_fits.ensures ∙ c.if-not-count_fits.false) (sym c.check_addend.ensures ∙ c.if-not-check_addend.false)
 
 pub check_union-loop-p-smaller : goal.check_union-loop-p-smaller
-check_union-loop-p-smaller t c = omega (arith, spans c, c.span_at-p.ensures.0)
+check_union-loop-p-smaller g t c = omega (arith, spans g c, c.span-p.ensures.0)
 
 pub check_union-loop-p-preserved : goal.check_union-loop-p-preserved
-check_union-loop-p-preserved t c =
-    rw (c.count_at-total.ensures, c.span_at-p.ensures.0)
-    (addends-next c.loop-p.invariant c.loop-p-test.true (sym c.count_fits.ensures ∙ c.if-not-count_fits.false) (sym c.check_addend.ensures ∙ c.if-not-check_addend.false) (run c.args.self c.loop-p.p c.loop-p.invariant.upto) (sym c.in_order.ensures ∙ c.if-not-in_order.false))
+check_union-loop-p-preserved g t c =
+    rw (c.count-total.ensures, c.span-p.ensures.0)
+    (addends-next c.loop-p.invariant c.loop-p-test.true (sym c.count_fits.ensures ∙ c.if-not-count_fits.false) (sym c.check_addend.ensures ∙ c.if-not-check_addend.false) c.args.self.within (sym c.in_order.ensures ∙ c.if-not-in_order.false))
 
 pub check_union-returns : goal.check_union-returns
-check_union-returns t c = addends-done c.loop-p.invariant c.loop-p-test.false
+check_union-returns g t c = addends-done c.loop-p.invariant c.loop-p-test.false

@@ -6,7 +6,7 @@ use Rattle.type_check.proofs.OnePass.Loops.{scalar-right}
 use Rattle.type_check.proofs.Checker.check_scalar.Goals as goal
 
 pub returns-then-no_lengths : goal.returns-then-no_lengths
-returns-then-no_lengths c = rw (scalar-right c.args.self.equivalence c.args.self.b.now (c.args.p + 1) c.args.self.end (33 - c.args.self.left) (omega (arith, c.requires.0)) (omega (arith, c.requires.1)) (record { upto = omega (arith, c.requires.0); within = c.args.self.within; short = c.args.self.short })) (grind (arith, common_steps))
+returns-then-no_lengths g c = rw (scalar-right g.L.Judged.reading g.L.Records.Layout.SIZE c.args.self.equivalence c.args.self.b.now (c.args.p + 1) c.args.self.end (33 - c.args.self.left) (omega (arith, c.requires.0)) (omega (arith, c.requires.1)) c.args.self.within) (grind (arith, common_steps))
 
 pub returns-else-no_lengths : goal.returns-else-no_lengths
-returns-else-no_lengths c = rw (scalar-right c.args.self.equivalence c.args.self.b.now (c.args.p + 1) c.args.self.end (33 - c.args.self.left) (omega (arith, c.requires.0)) (omega (arith, c.requires.1)) (record { upto = omega (arith, c.requires.0); within = c.args.self.within; short = c.args.self.short })) (grind (arith, common_steps))
+returns-else-no_lengths g c = rw (scalar-right g.L.Judged.reading g.L.Records.Layout.SIZE c.args.self.equivalence c.args.self.b.now (c.args.p + 1) c.args.self.end (33 - c.args.self.left) (omega (arith, c.requires.0)) (omega (arith, c.requires.1)) c.args.self.within) (grind (arith, common_steps))
