@@ -6,8 +6,8 @@ use native.Mathlib.Nat.{add-zero, add-suc, suc-add, zero-add, div-one, pow-suc, 
 use native.Mathlib.Decide.{dec_le}
 use native.Mathlib.Numerals.{add-one}
 use native.Mathlib.Omega.{arith}
-use lib.ListN.{length, set, take, drop, drop_of_length-le, take-append-drop}
-use lib.Seq.{sets, sets-eq, length-sets, length-take-le, set_comm, set_out, take_all, drop-drop}
+use lib.ListN.{length, set, take, drop, get_or, drop_of_length-le, take-append-drop}
+use lib.Seq.{sets, sets-eq, length-sets, length-take-le, set_comm, set_out, take_all, drop-drop, drop-cons}
 use Rattle.byte_records.specs.Number.{bytes_of}
 use Rattle.byte_records.proofs.Number.{length-bytes_of}
 
@@ -55,6 +55,22 @@ sets-whole vs l h = sets-eq vs l 0 (omega arith) ∙ rw (zero-add, drop_of_lengt
 -- what was stored aside, over all of l, and then copied
 pub sets-aside : (vs l out : List ℕ) (at : ℕ) {made out' : List ℕ} → length l ≡ length vs → made ≡ sets l 0 vs → out' ≡ sets out at made → out' ≡ sets out at vs
 sets-aside vs l out at h e f = f ∙ ap (sets out at) (e ∙ sets-whole vs l h)
+
+-- one byte of a copy
+pub copy_more : (src out : List ℕ) (at i : ℕ) → i < length src →
+    sets (set out (at + i) (get_or src i 0)) (at + (i + 1)) (drop (i + 1) src) ≡ sets out (at + i) (drop i src)
+copy_more src out at i h =
+    let d : at + (i + 1) ≡ suc (at + i) = omega arith in
+    let k : i + 1 ≡ suc i = omega arith in
+    rw (d, k, drop-cons src i 0) refl
+
+-- all is copied, or there is no more room
+pub copy-end : (src out all : List ℕ) (at i : ℕ) → min (length src) (length out - at) ≤ i → sets out (at + i) (drop i src) ≡ all → out ≡ all
+copy-end src out all at i h e = go (dec_le (length src) i)
+  where
+    go : Dec (length src ≤ i) → out ≡ all
+    go (yes z) = rw (drop_of_length-le src z) at e
+    go (no z) = sym (sets-out (drop i src) out (at + i) (omega arith)) ∙ e
 
 -- only what there is room for is stored
 sets-front : (vs l : List ℕ) (i n : ℕ) → n ≡ min (length vs) (length l - i) → sets l i vs ≡ sets l i (take n vs)

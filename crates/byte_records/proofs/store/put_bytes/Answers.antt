@@ -1,13 +1,22 @@
--- `put_bytes` meets its contract.
-use mathlib.Core.Path.{◌≡◌}
-use Prim.Native.Nat.{◌+◌, ◌-◌}
+-- `put_bytes` meets its contract. The loop's invariant: what is left to copy gives what is to be stored.
+use mathlib.Core.Path.{refl, ◌∙◌}
+use native.Mathlib.Nat.{add-zero}
 use native.Mathlib.Omega.{arith}
-use Rattle.byte_records.proofs.Sets.{sets-part}
+use lib.ListN.{length-set}
+use Rattle.byte_records.proofs.Sets.{copy_more, copy-end}
 use Rattle.byte_records.proofs.store.put_bytes.Goals as goal
+
+pub loop-k-init : goal.loop-k-init
+loop-k-init c = (refl, rw add-zero refl)
+
+pub loop-k-preserved : goal.loop-k-preserved
+loop-k-preserved c =
+    let a = c.args in
+    let l = c.loop-k in
+    (simp length-set l.invariant.0, copy_more a.src.now l.out a.at l.k (omega arith) ∙ l.invariant.1)
 
 pub returns : goal.returns
 returns c =
-    let start = c.min-start.result in
-    let n = c.min-n.result in
-    let e : start + n - start ≡ n = omega arith in
-    rw (c.copy_from_slice.ensures.after, e) (sets-part c.args.src.now c.args.out.now c.args.at start n c.min-start.ensures c.min-n.ensures)
+    let l = c.loop-k in
+    let a = c.args in
+    copy-end a.src.now l.out _ a.at l.k (omega arith) l.invariant.1
