@@ -1,9 +1,8 @@
 -- The number of digits: what its divisions come to, and that it is the digit number.
 use mathlib.Core.Path.{◌≡◌, refl, sym, ap, ◌∙◌}
 use mathlib.Core.List.{List, [], ◌∷◌, ◌++◌}
-use Prim.Native.Nat.{ℕ, zero, suc, ◌+◌, ◌-◌, ◌*◌, ◌/◌, ◌%◌, ◌^◌, ◌≤◌, ◌<◌, max}
+use Prim.Native.Nat.{ℕ, zero, suc, ◌+◌, ◌-◌, ◌*◌, ◌/◌, ◌%◌, ◌^◌, ◌≤◌, ◌<◌}
 use native.Mathlib.Nat.{div-one, pow-suc, one-le-pow, mul_comm, div-div-eq-div-mul, lt_of_not-le}
-use native.Mathlib.Numerals.{add-one}
 use native.Mathlib.Omega.{arith}
 use lib.ListN.{length, set}
 use lib.Seq.{sets}
@@ -111,15 +110,6 @@ module _ (n : ℕ) (a : 1 ≤ n) where
   only (suc d) h =
       let e : suc d - 1 ≡ d = omega arith in
       omega (arith, digits-at-most n (suc d) (omega arith) h.1, more-digits n d (rw e at h.0))
-
--- the integer logarithm tells the digits
-pub logarithm-digits : (n r : ℕ) → 10 ^ r ≤ max n 1 → max n 1 < 10 * 10 ^ r → digit_count n ≡ r + 1
-unfolding digit_count
-logarithm-digits zero zero a b = refl
-logarithm-digits zero (suc r) a b = absurd (omega (arith, one-le-pow r 10 (omega arith), pow-suc 10 r))
-logarithm-digits (suc n) r a b =
-    let e : suc r - 1 ≡ r = omega arith in
-    only (suc n) (omega arith) (suc r) (rw e (omega arith), omega (arith, pow-suc 10 r)) ∙ sym (add-one r)
 
 pub counts-digits : CountsDigits
 counts-digits = record {

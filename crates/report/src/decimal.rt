@@ -9,12 +9,19 @@ use byte_records::store::put_bytes;
 // The most digits of a number that is printed.
 pub const MAX_DIGITS: usize = 16;
 
-// How many decimal digits n has; 0 has one.
+// How often n can be divided by ten until nothing is left; 0 has one digit. std's logarithm goes by a table of powers of ten, and there
+// is to be none.
 pub fn digit_count(n: usize) -> usize
     requires { n ≤ max_total }
     ensures { (result ≡ digit_count n) × (1 ≤ result) × (result ≤ max_digits) }
 {
-    n.max(1).ilog10() as usize + 1
+    let mut rest = n / 10;
+    let mut d = 1;
+    while 0 < rest {
+        rest /= 10;
+        d += 1;
+    }
+    d
 }
 
 pub fn put_byte(out: &mut [u8], at: usize, byte: u8) -> usize
