@@ -5,7 +5,7 @@ ghost use Rattle.json_theory.specs.Book.{book_size, key_of, book_records, book_k
 ghost use Rattle.json_theory.specs.Inside.Scanning.{Running, between};
 ghost use Rattle.key_book.specs.Inside.Records.{book_record, OrderIs, is_filled, Sought, MadeOf, listed};
 
-use crate::guesses::{HINTS, TRIES, slot_in};
+use crate::guesses::{HINTS, TRIES, guesses, slot_in};
 use crate::same_key::is_key;
 use crate::validity::{SIZE, good_book, record};
 use std::cmp::Ordering;
@@ -56,6 +56,16 @@ impl<'a> Book<'a> {
         } else {
             None
         }
+    }
+
+    // The same with guesses that are made for it. A bad book costs no guess.
+    pub fn with_guesses(bytes: &'a [u8], hints: &'a mut [u16; HINTS]) -> Option<Book<'a>>
+        requires { length bytes.now ≤ max_length }
+        ensures { MadeOf bytes.now result }
+    {
+        Book::new(bytes, hints)?;
+        guesses(bytes, hints);
+        Some(Book { bytes, hints })
     }
 
     // How many keys there are.

@@ -13,7 +13,7 @@ use crate::fault::Faulty;
 use crate::reader::read_messages;
 use byte_records::clearing::clear_from;
 use key_book::book::Book;
-use key_book::guesses::{HINTS, guesses};
+use key_book::guesses::HINTS;
 use key_book::validity;
 use value_table::{Answer, record};
 
@@ -85,8 +85,7 @@ fn read_front(text: &[u8], book: &[u8], table: &mut [u8]) -> Result<usize, TextE
         return Err(TextError::Length);
     }
     let mut hints = [0u16; HINTS];
-    guesses(book, &mut hints);
-    let book = Book::new(book, &hints).ok_or(TextError::Book)?;
+    let book = Book::with_guesses(book, &mut hints).ok_or(TextError::Book)?;
     let count = read_marked(text, &book, table)?;
     Ok(count)
 }
