@@ -274,19 +274,34 @@ impl<'a, L: Judged> Checker<'a, L> {
     }
 }
 
+// The total of the union in the records from i to `end`, with `left` levels of depth left for its addends.
+pub fn check_union<L: Judged>(
+    b: &[u8],
+    i: usize,
+    end: usize,
+    left: usize,
+    equivalence: Equivalence,
+) -> Option<usize>
+    requires { (i ≤ end) × (L.Records.SIZE * end ≤ length b.now) × (length b.now ≤ max_length) × (left ≤ max_depth) }
+    ensures { result ≡ check_run L.reading equivalence b.now i end (addends (max_depth + 1 - left) i 0) }
+{
+    let checker: Checker<L> = Checker {
+        b,
+        end,
+        left,
+        equivalence,
+        records: PhantomData,
+    };
+    checker.check_union(i)
+}
+
 // Whether the check of the records in the bytes, as one union, finds nothing wrong.
 pub fn check_records<L: Judged>(bytes: &[u8], equivalence: Equivalence) -> bool
     requires { length bytes.now ≤ max_length }
     ensures { result ≡ is_some (check_run L.reading equivalence bytes.now 0 (length bytes.now / L.Records.SIZE) (addends 1 0 0)) }
 {
-    let checker: Checker<L> = Checker {
-        b: bytes,
-        end: bytes.len() / L::Records::SIZE,
-        left: record::MAX_DEPTH,
-        equivalence,
-        records: PhantomData,
-    };
-    checker.check_union(0).is_some()
+    let end = bytes.len() / L::Records::SIZE;
+    check_union::<L>(bytes, 0, end, record::MAX_DEPTH, equivalence).is_some()
 }
 
 // Whether the bytes of an allowed length are a well-formed type.
