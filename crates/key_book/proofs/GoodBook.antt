@@ -8,10 +8,11 @@ use native.Mathlib.Omega.{arith}
 use lib.Dec.{eqb}
 use lib.ListN.{length, get_or, take, drop, length-take, length-drop}
 use lib.Seq.{drop-cons, drop-drop, get_or-take, get_or-drop}
-use borrow.Author.Tests.{eq-eqb, ne_eqb, not-false}
+use borrow.Author.Tests.{eq-eqb, ne_eqb, eqb-true, not-false}
 use Rattle.json_theory.specs.Book.{book_size, key_of, all_zero, padded, filled, good_record, before, book_records, keys_from, good_from, precedes, ascending, book_keys, bad_book}
 use Rattle.key_book.specs.Inside.Records.{book_record, Fine, GoodAt}
-use Rattle.std.proofs.Common.{Option}
+use Rattle.std.proofs.Common.{Option, nat_eq}
+use lib.Pointwise.{pointwise}
 use Rattle.std.specs.Option.{MatchOption, unwrap_or}
 use Rattle.std.specs.List.{list_all, range_with_len, AllWithin, HoldsAt}
 use Rattle.std.specs.Bool.{MatchBool}
@@ -63,6 +64,23 @@ filled_by (c ∷ k) = rw (ne_eqb (suc (length k)) 0 (λ e. omega arith)) refl
 
 pub good_by : (r : List ℕ) (n : ℕ) → length (key_of r) ≡ n → (n ≡ 0 → ⊥) → list_all is_zero (drop n r) ≡ good_record r
 good_by r n e h = rw (filled_by (key_of r), padded-by r, e, ne_eqb n 0 h) refl
+
+zeros-alike : (k : ℕ) (r zs : List ℕ) → length zs ≡ length r → list_all is_zero zs ≡ true → pointwise nat_eq (drop k r) (drop k zs) ≡ list_all is_zero (drop k r)
+zeros-alike zero [] [] e h = refl
+zeros-alike zero [] (z ∷ zs) e h = absurd (omega arith)
+zeros-alike zero (c ∷ r) [] e h = absurd (omega arith)
+zeros-alike zero (c ∷ r) (z ∷ zs) e h =
+    let p = and_parts (eqb z 0) _ h in
+    rw (eqb-true z 0 p.0, zeros-alike zero r zs (omega arith) p.1) refl
+zeros-alike (suc k) [] [] e h = refl
+zeros-alike (suc k) [] (z ∷ zs) e h = absurd (omega arith)
+zeros-alike (suc k) (c ∷ r) [] e h = absurd (omega arith)
+zeros-alike (suc k) (c ∷ r) (z ∷ zs) e h = zeros-alike k r zs (omega arith) (and_parts (eqb z 0) _ h).1
+
+-- what stands behind a key, beside as many zeros
+pub tail-alike : {b : Bool} {u v : List ℕ} (k : ℕ) (r zs : List ℕ) → length zs ≡ length r → list_all is_zero zs ≡ true → u ≡ drop k r → v ≡ drop k zs →
+    b ≡ pointwise nat_eq u v → b ≡ list_all is_zero (drop k r)
+tail-alike k r zs e h p q t = t ∙ rw (p, q) (zeros-alike k r zs e h)
 
 pub empty-key : (r : List ℕ) → length (key_of r) ≡ 0 → good_record r ≡ false
 empty-key r e = rw (filled_by (key_of r), e) refl

@@ -14,12 +14,17 @@ pub fn record(book: &[u8], i: usize) -> &[u8]
     &book[SIZE * i..SIZE * i + SIZE]
 }
 
+// What stands behind a key, which is compared by words and not byte by byte.
+const ZEROS: [u8; SIZE] = [0; SIZE];
+
 // Whether a record is a key, of a byte or more, and zeros.
 fn good_key(record: &[u8]) -> bool
+    requires { length record.now ≡ book_size }
     ensures { result ≡ good_record record.now }
 {
     let key = record.iter().position(|c| *c == 0).unwrap_or(record.len());
-    key != 0 && record[key..].iter().all(|c| *c == 0)
+    let behind = &record[key..];
+    key != 0 && behind == &ZEROS[key..]
 }
 
 // Whether record i comes before record i + 1.
